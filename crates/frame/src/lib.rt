@@ -1,0 +1,92 @@
+// The frame header, read and written.
+use wire::be16;
+use wire::be24;
+use wire::be32;
+use wire::byte_at;
+use wire::put_front;
+ghost use mathlib.Core.Path.{_≡_};
+ghost use Rattle.wire.specs.Bytes.{onto};
+ghost use Rattle.frame.specs.Head.{headerOf, headerBytes};
+
+// The fields of a header in their order. The three fields of 24 bits stand in 32; kind is TYPE.
+pub struct Header {
+    pub r_ctl: u8,
+    pub d_id: u32,
+    pub reserved: u8,
+    pub s_id: u32,
+    pub kind: u8,
+    pub f_ctl: u32,
+    pub seq_id: u8,
+    pub df_ctl: u8,
+    pub seq_cnt: u16,
+    pub ox_id: u16,
+    pub rx_id: u16,
+    pub offset: u32,
+}
+
+// The header of any frame; a frame of fewer than 24 bytes reads as if zeros followed it.
+pub fn read_header(frame: &[u8]) -> Header
+    ensures { λ r. ⌜ r ≡ headerOf (now (frame .entry)) ⌝ }
+{
+    Header {
+        r_ctl: byte_at(frame, 0),
+        d_id: be24(frame, 1),
+        reserved: byte_at(frame, 4),
+        s_id: be24(frame, 5),
+        kind: byte_at(frame, 8),
+        f_ctl: be24(frame, 9),
+        seq_id: byte_at(frame, 12),
+        df_ctl: byte_at(frame, 13),
+        seq_cnt: be16(frame, 14),
+        ox_id: be16(frame, 16),
+        rx_id: be16(frame, 18),
+        offset: be32(frame, 20),
+    }
+}
+
+// The 24 bytes of a header; of a 24-bit field the low three bytes.
+pub fn header_bytes(h: Header) -> [u8; 24]
+    ensures { λ r. ⌜ r ≡ headerBytes h ⌝ }
+{
+    let d = h.d_id;
+    let s = h.s_id;
+    let f = h.f_ctl;
+    let n = h.seq_cnt;
+    let o = h.ox_id;
+    let r = h.rx_id;
+    let p = h.offset;
+    [
+        h.r_ctl,
+        (d / 256 / 256 % 256) as u8,
+        (d / 256 % 256) as u8,
+        (d % 256) as u8,
+        h.reserved,
+        (s / 256 / 256 % 256) as u8,
+        (s / 256 % 256) as u8,
+        (s % 256) as u8,
+        h.kind,
+        (f / 256 / 256 % 256) as u8,
+        (f / 256 % 256) as u8,
+        (f % 256) as u8,
+        h.seq_id,
+        h.df_ctl,
+        (n / 256 % 256) as u8,
+        (n % 256) as u8,
+        (o / 256 % 256) as u8,
+        (o % 256) as u8,
+        (r / 256 % 256) as u8,
+        (r % 256) as u8,
+        (p / 256 / 256 / 256 % 256) as u8,
+        (p / 256 / 256 % 256) as u8,
+        (p / 256 % 256) as u8,
+        (p % 256) as u8,
+    ]
+}
+
+// The header at the front of the buffer, as much of it as fits.
+pub fn write_header(h: Header, out: &mut [u8])
+    ensures { λ _. ⌜ now (out .exit) ≡ onto (headerBytes h) (now (out .entry)) ⌝ }
+{
+    let b = header_bytes(h);
+    put_front(out, &b);
+}

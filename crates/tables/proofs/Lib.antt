@@ -1,0 +1,5 @@
+pub mod Bools
+pub mod Loops
+pub mod Searches
+pub mod Keeping
+pub mod Below

@@ -1,0 +1,40 @@
+-- A part of a slice that was lent from a place to the end: what it is, and what the whole is once it is back. Assumes nothing.
+use mathlib.Core.Path.{_≡_, refl, sym, ap, _∙_}
+use mathlib.Core.List.{List, [], _∷_, _++_, append-assoc, append-nil}
+use Prim.Native.Nat.{ℕ, _+_, _-_, _≤_, _<_}
+use native.Mathlib.Omega.{arith}
+use lib.ListN.{length, take, drop, length-take, length-drop, drop-of-length-le, length-append}
+use lib.Seq.{take-all, take-at, drop-at, drop-drop, take-append-add}
+use borrow.Rule.Slice.PartMut.{midOf, postOf, putMid}
+use Rattle.wire.specs.Bytes.{onto, over}
+use Rattle.wire.proofs.Fronts.{onto-fits, length-onto}
+
+-- the part from a to the end
+pub rest-is : (a : ℕ) (l : List ℕ) → midOf a (length l - a) l ≡ drop a l
+rest-is a l = take-all (length l - a) (drop a l) (simp length-drop (omega arith))
+
+-- the whole, once that part has come back as ys
+pub rest-back : (a : ℕ) (l ys : List ℕ) → putMid a (length l - a) l ys ≡ take a l ++ ys
+rest-back a l ys = rw (drop-of-length-le (drop a l) {i = length l - a} (simp length-drop (omega arith)), append-nil)
+
+-- p over the front of the part from a on is p over the whole from a on
+pub over-part : (l l₂ p : List ℕ) (a : ℕ) → l₂ ≡ onto p (midOf a (length l - a) l) → putMid a (length l - a) l l₂ ≡ over l a p
+unfolding over
+over-part l l₂ p a e = rest-back a l l₂ ∙ rw (e, rest-is a l)
+
+-- p, and then q over the front of what p leaves of l
+joined : (l p q : List ℕ) (a : ℕ) → length p ≡ a → a ≤ length l → p ++ onto q (drop a l) ≡ onto (p ++ q) l
+unfolding onto
+joined l p q a lp room =
+    let n : length l ≡ length p + (length l - a) = omega arith in
+    let t : take (length l) (p ++ q) ≡ p ++ take (length l - a) q = ap (λ (m : ℕ). take m (p ++ q)) n ∙ take-append-add p q (length l - a) in
+    rw (t, length-drop a l, drop-drop (length q) a l, length-append p q, lp, append-assoc p)
+
+-- p at the front of l, and then q at the front of the part after p, are p ++ q at the front of l
+pub onto-part : (l l₁ l₂ p q : List ℕ) (a : ℕ) → length p ≡ a → a ≤ length l → l₁ ≡ onto p l → l₂ ≡ onto q (midOf a (length l₁ - a) l₁)
+    → putMid a (length l₁ - a) l₁ l₂ ≡ onto (p ++ q) l
+onto-part l l₁ l₂ p q a lp room e₁ e₂ =
+    let h : length p ≤ length l = omega arith in
+    let f : l₁ ≡ p ++ drop a l = e₁ ∙ onto-fits p l h ∙ rw lp in
+    rest-back a l₁ l₂
+    ∙ rw (e₂, rest-is a l₁, f, take-at p (drop a l) a lp, drop-at p (drop a l) a lp) (joined l p q a lp room)

@@ -1,0 +1,188 @@
+// Big-endian numbers read from a lent slice and written into one. Reading past the end gives 0, and what does not fit is not written.
+ghost use mathlib.Core.Path.{_≡_};
+ghost use Prim.Native.Nat.{_≤_, _<_, min};
+ghost use lib.ListN.{getD};
+ghost use Rattle.wire.specs.Bytes.{bytes, num, part, onto, over, fillCount, fillOf};
+
+// The byte at a place, 0 past the end.
+pub fn byte_at(s: &[u8], i: usize) -> u8
+    ensures { λ r. ⌜ r ≡ getD (now (s .entry)) i 0 ⌝ }
+{
+    if i < s.len() { s[i] } else { 0 }
+}
+
+// The numbers of 8 to 64 bits at a place. A place of 16 bits leaves no sum that wraps.
+pub fn be8(s: &[u8], at: u16) -> u8
+    ensures { λ r. ⌜ r ≡ num 1 (now (s .entry)) at ⌝ }
+{
+    byte_at(s, at as usize)
+}
+
+pub fn be16(s: &[u8], at: u16) -> u16
+    ensures { λ r. ⌜ r ≡ num 2 (now (s .entry)) at ⌝ }
+{
+    let a = at as usize;
+    let b = a + 1;
+    (wide(byte_at(s, a)) * 256 + wide(byte_at(s, b))) as u16
+}
+
+pub fn be24(s: &[u8], at: u16) -> u32
+    ensures { λ r. ⌜ r ≡ num 3 (now (s .entry)) at ⌝ }
+{
+    let a = at as usize;
+    let b = a + 1;
+    let c = b + 1;
+    ((wide(byte_at(s, a)) * 256 + wide(byte_at(s, b))) * 256 + wide(byte_at(s, c))) as u32
+}
+
+pub fn be32(s: &[u8], at: u16) -> u32
+    ensures { λ r. ⌜ r ≡ num 4 (now (s .entry)) at ⌝ }
+{
+    let a = at as usize;
+    let b = a + 1;
+    let c = b + 1;
+    let d = c + 1;
+    (((wide(byte_at(s, a)) * 256 + wide(byte_at(s, b))) * 256 + wide(byte_at(s, c))) * 256
+        + wide(byte_at(s, d))) as u32
+}
+
+pub fn be64(s: &[u8], at: u16) -> u64
+    ensures { λ r. ⌜ r ≡ num 8 (now (s .entry)) at ⌝ }
+{
+    let a = at as usize;
+    let b = a + 1;
+    let c = b + 1;
+    let d = c + 1;
+    let e = d + 1;
+    let f = e + 1;
+    let g = f + 1;
+    let h = g + 1;
+    let high = (wide(byte_at(s, a)) * 256 + wide(byte_at(s, b))) * 256 + wide(byte_at(s, c));
+    let middle = (high * 256 + wide(byte_at(s, d))) * 256 + wide(byte_at(s, e));
+    ((middle * 256 + wide(byte_at(s, f))) * 256 + wide(byte_at(s, g))) * 256 + wide(byte_at(s, h))
+}
+
+// The eight bytes of a name at a place.
+pub fn name_at(s: &[u8], at: u16) -> [u8; 8]
+    ensures { λ r. ⌜ r ≡ part 8 (now (s .entry)) at ⌝ }
+{
+    let a = at as usize;
+    let b = a + 1;
+    let c = b + 1;
+    let d = c + 1;
+    let e = d + 1;
+    let f = e + 1;
+    let g = f + 1;
+    let h = g + 1;
+    [
+        byte_at(s, a),
+        byte_at(s, b),
+        byte_at(s, c),
+        byte_at(s, d),
+        byte_at(s, e),
+        byte_at(s, f),
+        byte_at(s, g),
+        byte_at(s, h),
+    ]
+}
+
+// Copies src over the front of out, as much of it as fits. The one copy loop.
+pub fn put_front(out: &mut [u8], src: &[u8])
+    ensures { λ _. ⌜ now (out .exit) ≡ onto (now (src .entry)) (now (out .entry)) ⌝ }
+{
+    let n = least(src.len(), out.len());
+    let mut i = 0;
+    while i < n {
+        out[i] = src[i];
+        i += 1;
+    }
+}
+
+// Copies src over out from a place on, as much of it as fits.
+pub fn put_at(out: &mut [u8], at: u16, src: &[u8])
+    ensures { λ _. ⌜ now (out .exit) ≡ over (now (out .entry)) at (now (src .entry)) ⌝ }
+{
+    let a = at as usize;
+    if a <= out.len() {
+        put_front(&mut out[a..], src);
+    }
+}
+
+// The numbers of 8 to 64 bits, written at a place.
+pub fn put8(out: &mut [u8], at: u16, n: u8)
+    ensures { λ _. ⌜ now (out .exit) ≡ over (now (out .entry)) at (bytes 1 n) ⌝ }
+{
+    let b = [n];
+    put_at(out, at, &b);
+}
+
+pub fn put16(out: &mut [u8], at: u16, n: u16)
+    ensures { λ _. ⌜ now (out .exit) ≡ over (now (out .entry)) at (bytes 2 n) ⌝ }
+{
+    let b = [(n / 256 % 256) as u8, (n % 256) as u8];
+    put_at(out, at, &b);
+}
+
+// The low three bytes of n.
+pub fn put24(out: &mut [u8], at: u16, n: u32)
+    ensures { λ _. ⌜ now (out .exit) ≡ over (now (out .entry)) at (bytes 3 n) ⌝ }
+{
+    let b = [
+        (n / 256 / 256 % 256) as u8,
+        (n / 256 % 256) as u8,
+        (n % 256) as u8,
+    ];
+    put_at(out, at, &b);
+}
+
+pub fn put32(out: &mut [u8], at: u16, n: u32)
+    ensures { λ _. ⌜ now (out .exit) ≡ over (now (out .entry)) at (bytes 4 n) ⌝ }
+{
+    let b = [
+        (n / 256 / 256 / 256 % 256) as u8,
+        (n / 256 / 256 % 256) as u8,
+        (n / 256 % 256) as u8,
+        (n % 256) as u8,
+    ];
+    put_at(out, at, &b);
+}
+
+pub fn put64(out: &mut [u8], at: u16, n: u64)
+    ensures { λ _. ⌜ now (out .exit) ≡ over (now (out .entry)) at (bytes 8 n) ⌝ }
+{
+    let b = [
+        (n / 256 / 256 / 256 / 256 / 256 / 256 / 256 % 256) as u8,
+        (n / 256 / 256 / 256 / 256 / 256 / 256 % 256) as u8,
+        (n / 256 / 256 / 256 / 256 / 256 % 256) as u8,
+        (n / 256 / 256 / 256 / 256 % 256) as u8,
+        (n / 256 / 256 / 256 % 256) as u8,
+        (n / 256 / 256 % 256) as u8,
+        (n / 256 % 256) as u8,
+        (n % 256) as u8,
+    ];
+    put_at(out, at, &b);
+}
+
+// The zeros that fill a payload of this size to a multiple of 4, over the front of out; answers how many there are.
+pub fn put_fill(out: &mut [u8], size: usize) -> usize
+    ensures { λ r. ⌜ r ≡ fillCount size ⌝ }
+    ensures { λ _. ⌜ now (out .exit) ≡ onto (fillOf size) (now (out .entry)) ⌝ }
+{
+    let zeros = [0u8; 3];
+    let n = (4 - size % 4) % 4;
+    put_front(out, &zeros[..n]);
+    n
+}
+
+// A byte as a wider number, with its bound.
+fn wide(x: u8) -> u64
+    ensures { λ r. ⌜ (r ≡ x) × (r < 256) ⌝ }
+{
+    x as u64
+}
+
+fn least(a: usize, b: usize) -> usize
+    ensures { λ r. ⌜ (r ≡ min a b) × (r ≤ a) × (r ≤ b) ⌝ }
+{
+    if a < b { a } else { b }
+}
