@@ -1,10 +1,11 @@
 -- What judges finds of a record, and the line that it writes (document 01, "Known numbers and slips").
-use Prim.Native.Nat.{ℕ, _≤_}
+use Prim.Native.Nat.{ℕ}
 use mathlib.Core.Path.{_≡_}
 use mathlib.Core.Bool.{cond, not}
 use mathlib.Core.List.{List, _++_}
 use lib.Dec.{eqb, ltb}
 use lib.ListN.{length, getD, replicate}
+use Rattle.io.specs.Counts.{Counts}
 use Rattle.params.specs.declared.Verdict.{Verdict}
 use Rattle.params.specs.declared.Verdict.the-variants as verdict
 use Rattle.params.specs.Words.{paramsOf, verdictOf}
@@ -34,10 +35,4 @@ lineFor text = record { bytes = onto text (replicate 64 0); len = length text }
 -- r is the line for this text, and all of the text stands in it
 pub record LineIs (text : List ℕ) (r : Line) : Type 0 where
   pub is : r ≡ lineFor text
-  pub fits : r .len ≤ 64
-
--- n bytes p were laid over the front of l, which gives l₁; most is a bound of n
-pub record Wrote (p l l₁ : List ℕ) (n most : ℕ) : Type 0 where
-  pub long : n ≡ length p
-  pub fits : n ≤ most
-  pub is : l₁ ≡ onto p l
+  pub fits : Counts (r .len) (r .bytes)

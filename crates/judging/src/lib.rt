@@ -8,7 +8,8 @@ ghost use mathlib.Core.Path.{_≡_};
 ghost use Prim.Native.Nat.{_≤_, _<_};
 ghost use lib.ListN.{length};
 ghost use Rattle.params.specs.Words.{reasonOf};
-ghost use Rattle.judging.specs.Judgement.{judgementOf, lineOf, LineIs, Wrote};
+ghost use Rattle.wire.specs.Bytes.{Wrote};
+ghost use Rattle.judging.specs.Judgement.{judgementOf, lineOf, LineIs};
 ghost use Rattle.judging.specs.Text.{decimal, textOf, hexDigit, acceptText, rejectText, notPlogiText, shortText};
 
 pub enum Judgement {

@@ -6,7 +6,7 @@ use native.Mathlib.Omega.{arith}
 use lib.ListN.{length, take, drop, length-take, length-drop, drop-of-length-le, length-append}
 use lib.Seq.{take-all, take-at, drop-at, drop-drop, take-append-add}
 use borrow.Rule.Slice.PartMut.{midOf, postOf, putMid}
-use Rattle.wire.specs.Bytes.{onto, over}
+use Rattle.wire.specs.Bytes.{onto, over, Wrote}
 use Rattle.wire.proofs.Fronts.{onto-fits, length-onto}
 
 -- the part from a to the end
@@ -38,3 +38,15 @@ onto-part l l₁ l₂ p q a lp room e₁ e₂ =
     let f : l₁ ≡ p ++ drop a l = e₁ ∙ onto-fits p l h ∙ rw lp in
     rest-back a l₁ l₂
     ∙ rw (e₂, rest-is a l₁, f, take-at p (drop a l) a lp, drop-at p (drop a l) a lp) (joined l p q a lp room)
+
+-- two writers, the second lent the part of the k bytes after what the first wrote, are one
+pub wrote-then : {l l₁ l₂ p q : List ℕ} {n m a b : ℕ} (k : ℕ) → length l ≡ k → n ≤ k → Wrote p l l₁ n a → Wrote q (midOf n (k - n) l₁) l₂ m b
+    → Wrote (p ++ q) l (putMid n (k - n) l₁ l₂) (n + m) (a + b)
+wrote-then {l} {l₁} {l₂} {p} {q} {n} {m} k len room u v =
+    let e : length l₁ ≡ k = ap length (u .is) ∙ length-onto p l ∙ len in
+    let f : l₂ ≡ onto q (midOf n (length l₁ - n) l₁) = rw e (v .is) in
+    record {
+      long = rw (length-append p q, sym (u .long), sym (v .long));
+      fits = let x = u .fits in let y = v .fits in omega arith;
+      is = ap (λ (j : ℕ). putMid n (j - n) l₁ l₂) (sym e) ∙ onto-part l l₁ l₂ p q n (sym (u .long)) (rw len room) (u .is) f;
+    }

@@ -1,5 +1,6 @@
 -- Big-endian numbers as bytes, bytes laid over a list, and the fill.
-use Prim.Native.Nat.{ℕ, zero, suc, _+_, _-_, _*_, _/_, _%_}
+use Prim.Native.Nat.{ℕ, zero, suc, _+_, _-_, _*_, _/_, _%_, _≤_}
+use mathlib.Core.Path.{_≡_}
 use mathlib.Core.List.{List, [], _∷_, _++_}
 use lib.ListN.{getD, take, drop, length, replicate}
 
@@ -38,3 +39,9 @@ fillCount size = (4 - size % 4) % 4
 -- those zeros
 abbrev pub fillOf : ℕ → List ℕ
 fillOf size = replicate (fillCount size) 0
+
+-- a writer's answer: n, at most `most`, bytes p were laid over the front of l, which gives l₁
+pub record Wrote (p l l₁ : List ℕ) (n most : ℕ) : Type 0 where
+  pub long : n ≡ length p
+  pub fits : n ≤ most
+  pub is : l₁ ≡ onto p l

@@ -1,12 +1,17 @@
+-- `judging::hex_digit` meets its contract. Assumes nothing.
+use borrow.Author.Tests.{lt-ltb, le-ltb}
+use Rattle.judging.specs.Text.{hexDigit}
 use borrow.Author.Needs.{needs}
 use Rattle.judging.proofs.hex_digit.Statement.{statement}
 use Rattle.judging.proofs.hex_digit.Tie as tie
 
 returns : tie.Need-returns
-returns c = ?
+unfolding hexDigit
+returns c = rw (lt-ltb _ _ (c .if1 .taken))
 
 returns-2 : tie.Need-returns-2
-returns-2 c = ?
+unfolding hexDigit
+returns-2 c = rw (le-ltb _ _ (c .if1 .left))
 
 pub hex-digit-spec : {M : Type 1} → statement M
 hex-digit-spec =

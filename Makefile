@@ -1,0 +1,16 @@
+# make: prove and build everything, and judge the sample logins. make test: the gate.
+.PHONY: all test fmt wrong
+
+all:
+	rt check
+	tests/program judges < samples/four.logins
+
+test:
+	.ci/run
+
+fmt:
+	rt fmt
+
+# every wrong answer of docs/PROMISES.md, each of which the prover must refuse for a fact
+wrong:
+	tests/wrong
