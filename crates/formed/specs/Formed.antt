@@ -1,0 +1,92 @@
+-- When a state is well formed (document 01, "Setup" and "Well formed").
+use Prim.Native.Nat.{ℕ, _+_, _-_, _*_, _/_, _%_, min}
+use mathlib.Core.Bool.{Bool, true, false, cond, not, _&&_, _||_}
+use mathlib.Core.List.{List}
+use lib.Dec.{eqb, leb, ltb}
+use Rattle.tables.specs.Lists.{all, pairs}
+use Rattle.address.specs.Address.{validAddress}
+use Rattle.params.specs.Words.{paramsOf, sizeFails, zeroName, setupPasses}
+use Rattle.state.specs.declared.Exchange.{Exchange}
+use Rattle.state.specs.declared.Login.{Login}
+use Rattle.state.specs.declared.Port.{Port}
+use Rattle.state.specs.declared.Unit.{Unit}
+use Rattle.state.specs.Changes.{isUsed}
+use Rattle.state.specs.Tables.{isFree, isClosed}
+
+-- "Capacity 1 to 4,294,967,295 blocks of 512 bytes; own address; 28 identity bytes; words 1 to 28 of the login accept, which must pass the PLOGI rules below with W20/B1 = 01h"
+unfoldable pub setupRules : ℕ → ℕ → List ℕ → Bool
+setupRules capacity address accept = leb 1 capacity && leb capacity 4294967295 && validAddress address && setupPasses (paramsOf accept 0)
+
+-- "A frame carries the login's W18 size, 2,048 at most": the bytes of a full data frame
+abbrev pub fullFrame : ℕ → ℕ
+fullFrame size = min size 2048
+
+-- "To send: the smaller of wanted and FCP_DL"
+abbrev pub total : Exchange → ℕ
+total e = min (e .wanted) (e .expected)
+
+-- READ(10): 1 to 65,535 blocks, all of them on the unit, and 512 bytes wanted for each
+unfoldable pub readFits : ℕ → Exchange → Bool
+readFits capacity e =
+    leb 1 (e .blocks) && leb (e .blocks) 65535 && eqb (e .wanted) (512 * e .blocks) && ltb (e .start) capacity && leb (e .start + e .blocks) capacity
+
+-- the bytes that a command of the exchange's kind wants: READ(10) 1; INQUIRY 2, of another unit 3; READ CAPACITY 4;
+-- REQUEST SENSE 5 with 00/00/00, 6 with 06/29/00, 7 with 06/2F/00, 8 with 05/25/00; there is no other kind
+unfoldable pub wantedFits : ℕ → Exchange → Bool
+wantedFits capacity e =
+    cond (eqb (e .kind) 1) (readFits capacity e)
+    (cond (leb (e .kind) 3) (leb 1 (e .wanted) && leb (e .wanted) 36)
+    (cond (eqb (e .kind) 4) (eqb (e .wanted) 8)
+    (leb (e .kind) 8 && leb 1 (e .wanted) && leb (e .wanted) 18)))
+
+-- "each exchange is one an accepted command could open"
+abbrev pub openable : ℕ → Exchange → Bool
+openable capacity e = leb 1 (e .expected) && wantedFits capacity e
+
+-- the data frames of a full frame's bytes that carry what was sent
+abbrev pub framesOf : ℕ → ℕ → ℕ
+framesOf sent full = (sent + (full - 1)) / full
+
+-- "with bytes sent at most its total and, short of it, a whole number of full frames"; and the count is that of the data frames sent
+unfoldable pub sentFits : ℕ → Exchange → Bool
+sentFits full e =
+    leb (e .sent) (total e) && (leb (total e) (e .sent) || eqb (e .sent % full) 0) && eqb (e .count) (framesOf (e .sent) full % 65536)
+
+-- "exchanges only at paired logins": a place is free, or its login is paired and its exchange fits
+unfoldable pub exchangeFine : ℕ → ℕ → ℕ → Exchange → Bool
+exchangeFine capacity full paired e = isClosed e || eqb paired 1 && openable capacity e && sentFits full e
+
+-- "OX_IDs distinct within a login"
+unfoldable pub apartId : Exchange → Exchange → Bool
+apartId e f = isClosed e || isClosed f || not (eqb (e .«ox_id») (f .«ox_id»))
+
+-- "stored parameters pass the PLOGI rules"
+unfoldable pub paramsFine : Login → Bool
+paramsFine l =
+    not (zeroName (l .port)) && not (zeroName (l .node)) && not (sizeFails (l .size)) && not (eqb (l .concurrent) 0) && not (eqb (l .sequences) 0)
+
+-- flags are 0 or 1, and the attention is none, 29h or 2Fh
+unfoldable pub flagsFine : Login → Bool
+flagsFine l = leb (l .proven) 1 && leb (l .paired) 1 && (eqb (l .attention) 0 || eqb (l .attention) 0x29 || eqb (l .attention) 0x2f)
+
+-- "login addresses valid, .. not ours"
+unfoldable pub addressFine : ℕ → Login → Bool
+addressFine own l = validAddress (l .address) && not (eqb (l .address) own)
+
+-- a login that is used
+unfoldable pub usedFine : ℕ → ℕ → Login → Bool
+usedFine capacity own l =
+    flagsFine l && addressFine own l && paramsFine l && all (exchangeFine capacity (fullFrame (l .size)) (l .paired)) (l .places) && pairs apartId (l .places)
+
+-- a place for a login: free with no open exchange, or a login that is fine
+unfoldable pub loginFine : ℕ → ℕ → Login → Bool
+loginFine capacity own l = cond (isUsed l) (usedFine capacity own l) (eqb (l .used) 0 && all isClosed (l .places))
+
+-- "login addresses .. distinct"
+unfoldable pub apartAddress : Login → Login → Bool
+apartAddress l m = isFree l || isFree m || not (eqb (l .address) (m .address))
+
+-- "Well formed: setup rules hold; ..": the unit and a port
+unfoldable pub wellFormed : Unit → Port → Bool
+wellFormed u p =
+    setupRules (u .capacity) (p .address) (p .accept) && all (loginFine (u .capacity) (p .address)) (p .logins) && pairs apartAddress (p .logins)

@@ -1,0 +1,39 @@
+-- `state::changed` meets its contract: an arm for each change. Assumes nothing.
+use borrow.Author.Needs.{needs}
+use Rattle.state.proofs.changed.Statement.{statement}
+use Rattle.state.proofs.changed.Tie as tie
+
+returns : tie.Need-returns
+returns c = rw (c .before .before .c .given .1) (c .ended .ensures)
+
+returns-2 : tie.Need-returns-2
+returns-2 c = rw (c .before .enum-told .given .1) (c .unproved .ensures)
+
+returns-3 : tie.Need-returns-3
+returns-3 c = rw (c .before .enum-told2 .given .1) (c .kept .ensures)
+
+returns-4 : tie.Need-returns-4
+returns-4 c = rw (c .before .before .c2 .given .1) (c .aborted .ensures)
+
+returns-5 : tie.Need-returns-5
+returns-5 c = rw (c .before .enum-told3 .given .1) (c .end-exchanges .ensures)
+
+pub changed-spec : {M : Type 1} → statement M
+changed-spec =
+    tie.close
+    (tie.spec
+    (λ c. search needs)
+    (λ c κs. search needs)
+    (λ c. search needs)
+    (λ c κs. search needs)
+    (λ c. search needs)
+    (λ c κs. search needs)
+    (λ c. search needs)
+    (λ c κs. search needs)
+    (λ c. search needs)
+    (λ c κs. search needs)
+    returns
+    returns-2
+    returns-3
+    returns-4
+    returns-5)

@@ -1,0 +1,160 @@
+-- How the tables of a port change: each change says what is new, and all else stays.
+use Prim.Native.Nat.{ℕ, _+_, _%_}
+use mathlib.Core.Bool.{Bool, cond, not, _&&_}
+use mathlib.Core.List.{List, [], map}
+use lib.Dec.{eqb}
+use lib.ListN.{getD, set, replicate}
+use Rattle.state.specs.declared.Exchange.{Exchange}
+use Rattle.state.specs.declared.Login.{Login}
+use Rattle.state.specs.declared.Port.{Port}
+use Rattle.state.specs.declared.Change.{Change}
+use Rattle.state.specs.declared.Change.the-variants.{EndLogin, Unprove, EndUnproven, EndExchangesOf, EndExchanges}
+
+-- a free place for an exchange
+abbrev pub emptyExchange : Exchange
+emptyExchange =
+    record {
+      kind = 0;
+      «ox_id» = 0;
+      count = 0;
+      blocks = 0;
+      start = 0;
+      wanted = 0;
+      expected = 0;
+      sent = 0;
+    }
+
+-- a free place for a login with these names and exchanges
+abbrev pub blank : List ℕ → List Exchange → Login
+blank name es =
+    record {
+      used = 0;
+      proven = 0;
+      paired = 0;
+      attention = 0;
+      concurrent = 0;
+      sequences = 0;
+      size = 0;
+      address = 0;
+      port = name;
+      node = name;
+      places = es;
+    }
+
+-- what reading past the end of a list of logins gives
+abbrev pub noLogin : Login
+noLogin = blank [] []
+
+-- "A freed place": a free place for a login
+abbrev pub emptyLogin : Login
+emptyLogin = blank (replicate 8 0) (replicate 8 emptyExchange)
+
+-- the login at a place, an empty one past the end
+unfoldable pub loginAt : Port → ℕ → Login
+loginAt p i = getD (p .logins) i emptyLogin
+
+-- the exchange at a place of a login, an empty one past the end
+unfoldable pub exchangeAt : Login → ℕ → Exchange
+exchangeAt l j = getD (l .places) j emptyExchange
+
+-- the port with another table of logins
+abbrev pub withLogins : Port → List Login → Port
+withLogins p ls = record { address = p .address; accept = p .accept; logins = ls }
+
+-- the port with another login at a place
+unfoldable pub withLogin : Port → ℕ → Login → Port
+withLogin p i l = withLogins p (set (p .logins) i l)
+
+-- the login with other flags, attention and exchanges
+abbrev pub withState : Login → ℕ → ℕ → ℕ → List Exchange → Login
+withState l proven paired attention es =
+    record {
+      used = l .used;
+      proven = proven;
+      paired = paired;
+      attention = attention;
+      concurrent = l .concurrent;
+      sequences = l .sequences;
+      size = l .size;
+      address = l .address;
+      port = l .port;
+      node = l .node;
+      places = es;
+    }
+
+abbrev pub withProven : Login → ℕ → Login
+withProven l b = withState l b (l .paired) (l .attention) (l .places)
+
+abbrev pub withPaired : Login → ℕ → Login
+withPaired l b = withState l (l .proven) b (l .attention) (l .places)
+
+abbrev pub withAttention : Login → ℕ → Login
+withAttention l a = withState l (l .proven) (l .paired) a (l .places)
+
+abbrev pub withPlaces : Login → List Exchange → Login
+withPlaces l es = withState l (l .proven) (l .paired) (l .attention) es
+
+-- the login with another exchange at a place
+unfoldable pub withExchange : Login → ℕ → Exchange → Login
+withExchange l j e = withPlaces l (set (l .places) j e)
+
+-- the exchange at a place ends
+abbrev pub endedAt : Login → ℕ → Login
+endedAt l j = withExchange l j emptyExchange
+
+-- all exchanges of a login end
+unfoldable pub withoutExchanges : Login → Login
+withoutExchanges l = withPlaces l (replicate 8 emptyExchange)
+
+-- a data frame of n bytes more was sent; "SEQ_CNT as a wrapping 16-bit count"
+abbrev pub advanced : Exchange → ℕ → Exchange
+advanced e n =
+    record {
+      kind = e .kind;
+      «ox_id» = e .«ox_id»;
+      count = (e .count + 1) % 65536;
+      blocks = e .blocks;
+      start = e .start;
+      wanted = e .wanted;
+      expected = e .expected;
+      sent = (e .sent + n) % 4294967296;
+    }
+
+abbrev pub isUsed : Login → Bool
+isUsed l = eqb (l .used) 1
+
+-- a login is used and has this address
+unfoldable pub hasAddress : ℕ → Login → Bool
+hasAddress a l = isUsed l && eqb (l .address) a
+
+-- the login of an address ends, with its exchanges
+unfoldable pub endedOf : ℕ → Login → Login
+endedOf a l = cond (hasAddress a l) emptyLogin l
+
+-- "loop reset marks every login unproven"
+unfoldable pub unproven : Login → Login
+unproven l = cond (isUsed l) (withProven l 0) l
+
+-- "verification time over ends the unproven ones"
+unfoldable pub verified : Login → Login
+verified l = cond (isUsed l) (cond (eqb (l .proven) 1) l emptyLogin) l
+
+-- the exchanges of the login of an address end
+unfoldable pub abortedOf : ℕ → Login → Login
+abortedOf a l = cond (hasAddress a l) (withoutExchanges l) l
+
+-- what a change makes of one login
+abbrev pub changedOf : Change → Login → Login
+changedOf (EndLogin a) l = endedOf a l
+changedOf Unprove l = unproven l
+changedOf EndUnproven l = verified l
+changedOf (EndExchangesOf a) l = abortedOf a l
+changedOf EndExchanges l = withoutExchanges l
+
+-- and of every login of a port
+unfoldable pub changedAll : Change → Port → Port
+changedAll c p = withLogins p (map (changedOf c) (p .logins))
+
+-- "power on ends all"
+unfoldable pub poweredOn : Port → Port
+poweredOn p = withLogins p (replicate 8 emptyLogin)

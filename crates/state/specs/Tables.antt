@@ -1,0 +1,55 @@
+-- What is found in the tables of a port, the lowest place first.
+use Prim.Native.Nat.{ℕ, _<_}
+use mathlib.Core.Path.{_≡_}
+use mathlib.Core.Bool.{Bool, not, _&&_}
+use lib.Dec.{eqb}
+use Rattle.tables.specs.declared.Found.{Found}
+use Rattle.tables.specs.Lists.{first, onFound}
+use Rattle.state.specs.declared.Exchange.{Exchange}
+use Rattle.state.specs.declared.Login.{Login}
+use Rattle.state.specs.declared.Port.{Port}
+use Rattle.state.specs.declared.Standing.{Standing}
+use Rattle.state.specs.declared.Standing.the-variants.{Open, NoExchange, NoLogin}
+use Rattle.state.specs.Changes.{isUsed, hasAddress, loginAt}
+
+-- a place for a login is free
+abbrev pub isFree : Login → Bool
+isFree l = not (isUsed l)
+
+-- a place for an exchange is free
+abbrev pub isClosed : Exchange → Bool
+isClosed e = eqb (e .kind) 0
+
+-- an exchange is open and has this OX_ID
+unfoldable pub hasId : ℕ → Exchange → Bool
+hasId x e = not (isClosed e) && eqb (e .«ox_id») x
+
+-- the login of an address
+unfoldable pub findLogin : Port → ℕ → Found
+findLogin p a = first (hasAddress a) (p .logins)
+
+-- the lowest free place for a login
+unfoldable pub freeLogin : Port → Found
+freeLogin p = first isFree (p .logins)
+
+-- a login's exchange of this OX_ID
+unfoldable pub findExchange : Login → ℕ → Found
+findExchange l x = first (hasId x) (l .places)
+
+-- the lowest free place of a login for an exchange
+unfoldable pub freeExchange : Login → Found
+freeExchange l = first isClosed (l .places)
+
+-- the exchange of an address and an OX_ID
+unfoldable pub lookupOf : Port → ℕ → ℕ → Standing
+lookupOf p a x = onFound (findLogin p a) (λ i. onFound (findExchange (loginAt p i) x) (λ j. Open i j) (NoExchange i)) NoLogin
+
+-- the places that a lookup names are places of the tables
+abbrev pub inTables : Standing → Type 0
+inTables (Open i j) = (i < 8) × (j < 8)
+inTables (NoExchange i) = i < 8
+inTables NoLogin = Unit {0}
+
+pub record LookedUp (p : Port) (a x : ℕ) (r : Standing) : Type 0 where
+  pub is : r ≡ lookupOf p a x
+  pub below : inTables r
