@@ -1,2 +1,5 @@
 pub mod Orders
 pub mod Sizes
+pub mod Parts
+pub mod Keeping
+pub mod Advance

@@ -6,6 +6,7 @@ use params::zero_name;
 use state::Exchange;
 use state::Login;
 use state::Port;
+use state::Setup;
 use state::Unit;
 use state::is_closed;
 use state::is_free;
@@ -22,10 +23,10 @@ ghost use Rattle.formed.specs.Formed.{setupRules, fullFrame, total, read
 pub fn setup_rules(capacity: u64, address: u32, accept: [u8; 112]) -> bool
     ensures { λ r. ⌜ r ≡ setupRules capacity address accept ⌝ }
 {
-    if capacity < 1 {
+    if capacity < Setup::LEAST_BLOCKS {
         return false;
     }
-    if 4294967295 < capacity {
+    if Setup::MOST_BLOCKS < capacity {
         return false;
     }
     if valid_address(address) {

@@ -97,6 +97,12 @@ pub struct Setup {
     pub accept: [u8; 112],
 }
 
+impl Setup {
+    pub const LEAST_BLOCKS: u64 = 1;
+
+    pub const MOST_BLOCKS: u64 = 4294967295;
+}
+
 // Where an exchange stands: login and place, the login alone, or no login.
 pub enum Standing {
     Open(usize, usize),

@@ -1,0 +1,137 @@
+-- The next data frame of an exchange that fits leaves one that fits, and its count is the number of the frames sent, modulo 65,536.
+-- Assumes nothing.
+use mathlib.Core.Path.{_≡_, refl, sym, ap, _∙_}
+use mathlib.Core.Bool.{Bool, true, false, cond, _&&_, _||_}
+use Prim.Native.Nat.{ℕ, _+_, _-_, _*_, _/_, _%_, _≤_, _<_, min}
+use native.Mathlib.Nat.{div-add-mod', mod-eq-of-lt, add-mul, one-mul}
+use native.Mathlib.Decide.{decLe}
+use native.Mathlib.Omega.{arith}
+use lib.Arith.{digits-div, digits-mod}
+use lib.Dec.{eqb, leb, ltb}
+use borrow.Author.Tests.{le-leb, lt-leb, leb-true, eqb-true, eq-eqb}
+use Rattle.tables.proofs.Bools.{and-left, and-right}
+use Rattle.state.specs.declared.Exchange.{Exchange}
+use Rattle.state.specs.Changes.{advanced}
+use Rattle.state.specs.Tables.{isClosed}
+use Rattle.formed.specs.Formed.{total, framesOf, readFits, wantedFits, openable, sentFits, exchangeFine}
+
+-- "A frame carries the login's W18 size, 2,048 at most, or what is left"
+abbrev pub nextBytes : ℕ → Exchange → ℕ
+nextBytes full e = min full (total e - e .sent)
+
+-- a whole number of full frames, and then one more of n bytes
+frames-at : (q full : ℕ) → 0 < full → framesOf (q * full) full ≡ q
+frames-at q full h = digits-div q {m = full} {r = full - 1} (omega arith)
+
+one-more : (q full : ℕ) → (q + 1) * full ≡ q * full + full
+one-more q full = add-mul q 1 full ∙ rw one-mul
+
+frames-more : (q full n : ℕ) → 0 < n → n ≤ full → framesOf (q * full + n) full ≡ q + 1
+frames-more q full n h l =
+    let e : q * full + n + (full - 1) ≡ (q + 1) * full + (n - 1) = let d = one-more q full in omega arith in
+    ap (λ (m : ℕ). m / full) e ∙ digits-div (q + 1) {m = full} {r = n - 1} (omega arith)
+
+or-short : (a b : Bool) → (a || b) ≡ true → a ≡ false → b ≡ true
+or-short true b e f = let h : true ≡ false = f in cc
+or-short false b e f = e
+
+module _ (full : ℕ) (e : Exchange) (pos : 0 < full) (fits : sentFits full e ≡ true) (short : e .sent < total e) (small : total e < 4294967296) where
+  -- what was sent is a whole number of full frames
+  whole : e .sent % full ≡ 0
+  unfolding sentFits
+  whole =
+      eqb-true (e .sent % full) 0
+      (or-short (leb (total e) (e .sent)) (eqb (e .sent % full) 0)
+      (and-right (leb (e .sent) (total e)) (leb (total e) (e .sent) || eqb (e .sent % full) 0)
+      (and-left (leb (e .sent) (total e) && (leb (total e) (e .sent) || eqb (e .sent % full) 0)) (eqb (e .count) (framesOf (e .sent) full % 65536)) fits))
+      (lt-leb (total e) (e .sent) short))
+
+  counted : e .count ≡ framesOf (e .sent) full % 65536
+  unfolding sentFits
+  counted =
+      eqb-true (e .count) (framesOf (e .sent) full % 65536)
+      (and-right (leb (e .sent) (total e) && (leb (total e) (e .sent) || eqb (e .sent % full) 0)) (eqb (e .count) (framesOf (e .sent) full % 65536)) fits)
+
+  -- the number of frames sent so far
+  number : ℕ
+  number = e .sent / full
+
+  sent-is : e .sent ≡ number * full
+  unfolding number
+  sent-is = let d = div-add-mod' (e .sent) full in let w = whole in omega arith
+
+  abbrev next : ℕ
+  next = nextBytes full e
+
+  -- what is sent then, which does not wrap
+  then-sent : (e .sent + next) % 4294967296 ≡ e .sent + next
+  then-sent = mod-eq-of-lt (omega arith)
+
+  then-within : leb (e .sent + next) (total e) ≡ true
+  then-within = le-leb (e .sent + next) (total e) (omega arith)
+
+  then-whole : (leb (total e) (e .sent + next) || eqb ((e .sent + next) % full) 0) ≡ true
+  then-whole =
+      elim (decLe (total e) (e .sent + next)) [
+        | yes l ↦ rw (le-leb (total e) (e .sent + next) l)
+        | no l ↦ (let f : next ≡ full = omega arith in
+            let s : e .sent + next ≡ (number + 1) * full + 0 = let a = sent-is in let b = one-more number full in omega arith in
+            rw (lt-leb (total e) (e .sent + next) (omega arith), s, digits-mod (number + 1) {m = full} {r = 0} pos))
+      ]
+
+  -- the count goes on with the frames' number
+  pub then-counted : (e .count + 1) % 65536 ≡ framesOf (e .sent + nextBytes full e) full % 65536
+  then-counted =
+      let a : framesOf (e .sent) full ≡ number = ap (λ (s : ℕ). framesOf s full) sent-is ∙ frames-at number full pos in
+      let b : framesOf (e .sent + next) full ≡ number + 1 = ap (λ (s : ℕ). framesOf (s + next) full) sent-is ∙ frames-more number full next (omega arith) (omega arith) in
+      let c : e .count ≡ number % 65536 = counted ∙ rw a in
+      ap (λ (n : ℕ). (n + 1) % 65536) c ∙ round number ∙ sym (ap (λ (n : ℕ). n % 65536) b)
+    where
+      round : (n : ℕ) → (n % 65536 + 1) % 65536 ≡ (n + 1) % 65536
+      round n = omega arith
+
+  -- the exchange after its next data frame fits
+  pub advance-fits : sentFits full (advanced e (nextBytes full e)) ≡ true
+  unfolding sentFits
+  advance-fits = rw (then-sent, then-within, then-whole, eq-eqb _ _ then-counted)
+
+-- what a command of any kind wants fits 32 bits
+cond-small : (b : Bool) (x y : Bool) (n : ℕ) → (x ≡ true → n < 4294967296) → (y ≡ true → n < 4294967296) → cond b x y ≡ true → n < 4294967296
+cond-small true x y n p q e = p e
+cond-small false x y n p q e = q e
+
+read-small : (capacity : ℕ) (e : Exchange) → readFits capacity e ≡ true → e .wanted < 4294967296
+unfolding readFits
+read-small capacity e h =
+    let a = leb 1 (e .blocks) in
+    let b = leb (e .blocks) 65535 in
+    let c = eqb (e .wanted) (512 * e .blocks) in
+    let d = ltb (e .start) capacity in
+    let f = leb (e .start + e .blocks) capacity in
+    let h₃ = and-left (a && b && c) d (and-left (a && b && c && d) f h) in
+    let few : e .blocks ≤ 65535 = leb-true (e .blocks) 65535 (and-right a b (and-left (a && b) c h₃)) in
+    let is : e .wanted ≡ 512 * e .blocks = eqb-true (e .wanted) (512 * e .blocks) (and-right (a && b) c h₃) in
+    omega arith
+
+wanted-small : (capacity : ℕ) (e : Exchange) → wantedFits capacity e ≡ true → e .wanted < 4294967296
+unfolding wantedFits
+wanted-small capacity e =
+    cond-small (eqb (e .kind) 1) _ _ (e .wanted) (read-small capacity e)
+    (cond-small (leb (e .kind) 3) _ _ (e .wanted) (λ h. most 36 (and-right (leb 1 (e .wanted)) (leb (e .wanted) 36) h) (omega arith))
+    (cond-small (eqb (e .kind) 4) _ _ (e .wanted) (λ h. let i : e .wanted ≡ 8 = eqb-true (e .wanted) 8 h in omega arith)
+    (λ h. most 18 (and-right (leb (e .kind) 8 && leb 1 (e .wanted)) (leb (e .wanted) 18) h) (omega arith))))
+  where
+    most : (n : ℕ) → leb (e .wanted) n ≡ true → n < 4294967296 → e .wanted < 4294967296
+    most n h l = let i : e .wanted ≤ n = leb-true (e .wanted) n h in omega arith
+
+-- an open exchange that is fine is fine after its next data frame
+pub advance-fine : (capacity full paired : ℕ) (e : Exchange) → 0 < full → isClosed e ≡ false → e .sent < total e → exchangeFine capacity full paired e ≡ true
+    → exchangeFine capacity full paired (advanced e (nextBytes full e)) ≡ true
+unfolding exchangeFine wantedFits readFits
+advance-fine capacity full paired e pos op short fine =
+    let f = or-short (isClosed e) (eqb paired 1 && openable capacity e && sentFits full e) fine op in
+    let g = and-left (eqb paired 1 && openable capacity e) (sentFits full e) f in
+    let o = and-right (eqb paired 1) (openable capacity e) g in
+    let w = wanted-small capacity e (and-right (leb 1 (e .expected)) (wantedFits capacity e) o) in
+    let s = advance-fits full e pos (and-right (eqb paired 1 && openable capacity e) (sentFits full e) f) short (omega arith) in
+    rw (op, and-left (eqb paired 1) (openable capacity e) g, o, s)

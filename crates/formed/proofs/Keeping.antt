@@ -1,0 +1,278 @@
+-- What each change keeps of the rule, under its stated condition. Assumes nothing.
+use mathlib.Core.Path.{_≡_, refl, sym, ap, _∙_}
+use mathlib.Core.Bool.{Bool, true, false, cond, not, _&&_, _||_, or-true}
+use mathlib.Core.List.{List, map}
+use Prim.Native.Nat.{ℕ, _≤_}
+use lib.Dec.{eqb, leb}
+use lib.ListN.{getD, set, replicate}
+use borrow.Author.Tests.{eqb-false, ne-eqb, not-true}
+use Rattle.tables.specs.declared.Found.the-variants.{Nothing}
+use Rattle.tables.specs.Lists.{all, pairs}
+use Rattle.tables.proofs.Bools.{and-left, and-right, and-both, apart}
+use Rattle.tables.proofs.Searches.{missed}
+use Rattle.tables.proofs.Keeping.{all-always, all-map, all-than, all-set, all-update, pairs-map, pairs-set, pairs-update}
+use Rattle.state.specs.declared.Exchange.{Exchange}
+use Rattle.state.specs.declared.Login.{Login}
+use Rattle.state.specs.declared.Port.{Port}
+use Rattle.state.specs.declared.Unit.{Unit}
+use Rattle.state.specs.declared.Change.{Change}
+use Rattle.state.specs.declared.Change.the-variants.{EndLogin, Unprove, EndUnproven, EndExchangesOf, EndExchanges}
+use Rattle.state.specs.Changes.{emptyExchange, emptyLogin, isUsed, loginAt, exchangeAt, withLogin, withLogins, withState, withProven, withPaired, withAttention, withPlaces, withExchange, withoutExchanges, hasAddress, endedOf, unproven, verified, abortedOf, changedOf, changedAll, poweredOn}
+use Rattle.state.specs.Tables.{isFree, isClosed, hasId, findExchange}
+use Rattle.formed.specs.Formed.{fullFrame, openable, sentFits, exchangeFine, apartId, paramsFine, flagsFine, addressFine, loginFine, apartAddress, wellFormed}
+use Rattle.formed.proofs.Parts.{Used, fine-used, used-fine, Formed, formed-parts, formed-whole}
+
+module _ {capacity own : ℕ} where
+  -- a used login with other flags, attention and exchanges, each of which is fine
+  pub state-used : {l : Login} (proven paired attention : ℕ) (es : List Exchange) → Used capacity own l → flagsFine (withState l proven paired attention es) ≡ true
+      → all (exchangeFine capacity (fullFrame (l .size)) paired) es ≡ true → pairs apartId es ≡ true → Used capacity own (withState l proven paired attention es)
+  unfolding addressFine paramsFine
+  state-used proven paired attention es u f x i = record { flags = f; address = u .address; params = u .params; exchanges = x; ids = i }
+
+pub empty-fine : (capacity own : ℕ) → loginFine capacity own emptyLogin ≡ true
+unfolding loginFine
+empty-fine capacity own = refl
+
+-- no exchange is fine at any login
+none-fine : (capacity full paired : ℕ) → all (exchangeFine capacity full paired) (replicate 8 emptyExchange) ≡ true
+unfolding exchangeFine
+none-fine capacity full paired = refl
+
+none-apart : pairs apartId (replicate 8 emptyExchange) ≡ true
+unfolding apartId
+none-apart = refl
+
+-- the attention is none, 29h or 2Fh
+abbrev pub anAttention : ℕ → Bool
+anAttention a = eqb a 0 || eqb a 0x29 || eqb a 0x2f
+
+-- flags that are 0 or 1
+pub flags-are : (l : Login) (proven paired attention : ℕ) (es : List Exchange) → leb proven 1 ≡ true → leb paired 1 ≡ true → anAttention attention ≡ true
+    → flagsFine (withState l proven paired attention es) ≡ true
+unfolding flagsFine
+flags-are l proven paired attention es a b c = rw (a, b, c)
+
+module _ (l : Login) (f : flagsFine l ≡ true) where
+  pub flag-proven : leb (l .proven) 1 ≡ true
+  unfolding flagsFine
+  flag-proven = and-left (leb (l .proven) 1) (leb (l .paired) 1) (and-left (leb (l .proven) 1 && leb (l .paired) 1) (anAttention (l .attention)) f)
+
+  pub flag-paired : leb (l .paired) 1 ≡ true
+  unfolding flagsFine
+  flag-paired = and-right (leb (l .proven) 1) (leb (l .paired) 1) (and-left (leb (l .proven) 1 && leb (l .paired) 1) (anAttention (l .attention)) f)
+
+  pub flag-attention : anAttention (l .attention) ≡ true
+  unfolding flagsFine
+  flag-attention = and-right (leb (l .proven) 1 && leb (l .paired) 1) (anAttention (l .attention)) f
+
+pair-open : (a p o s : Bool) → (a || p && o && s) ≡ true → (a || o && s) ≡ true
+pair-open true p o s e = refl
+pair-open false true o s e = e
+pair-open false false o s e = apart e refl
+
+pair-step : (capacity full paired : ℕ) (e : Exchange) → exchangeFine capacity full paired e ≡ true → exchangeFine capacity full 1 e ≡ true
+unfolding exchangeFine
+pair-step capacity full paired e h = pair-open (isClosed e) (eqb paired 1) (openable capacity e) (sentFits full e) h
+
+closed-fine : (capacity full paired : ℕ) → exchangeFine capacity full paired emptyExchange ≡ true
+unfolding exchangeFine
+closed-fine capacity full paired = refl
+
+closed-before : (f : Exchange) → apartId emptyExchange f ≡ true
+unfolding apartId
+closed-before f = refl
+
+closed-after : (f : Exchange) → apartId f emptyExchange ≡ true
+unfolding apartId
+closed-after f = rw (or-true (isClosed f))
+
+-- the two tests of being apart, from a search that found nothing
+before-step : (a c : Bool) (x y : ℕ) → not (not c && eqb y x) ≡ true → (a || c || not (eqb x y)) ≡ true
+before-step true c x y e = refl
+before-step false true x y e = refl
+before-step false false x y e = ap not (ne-eqb x y (λ q. eqb-false y x (not-true (eqb y x) e) (sym q)))
+
+after-step : (a c : Bool) (x y : ℕ) → not (not c && eqb y x) ≡ true → (c || a || not (eqb y x)) ≡ true
+after-step a true x y e = refl
+after-step true false x y e = refl
+after-step false false x y e = e
+
+id-before : (e f : Exchange) → not (hasId (e .«ox_id») f) ≡ true → apartId e f ≡ true
+unfolding hasId apartId
+id-before e f h = before-step (isClosed e) (isClosed f) (e .«ox_id») (f .«ox_id») h
+
+id-after : (e f : Exchange) → not (hasId (e .«ox_id») f) ≡ true → apartId f e ≡ true
+unfolding hasId apartId
+id-after e f h = after-step (isClosed e) (isClosed f) (e .«ox_id») (f .«ox_id») h
+
+-- the same of addresses, where a used place is one that is not free
+used-free : (b c : Bool) → not (b && c) ≡ true → not (not (not b) && c) ≡ true
+used-free true c e = e
+used-free false c e = refl
+
+address-before : (l m : Login) → not (hasAddress (l .address) m) ≡ true → apartAddress l m ≡ true
+unfolding hasAddress apartAddress
+address-before l m h = before-step (isFree l) (isFree m) (l .address) (m .address) (used-free (isUsed m) (eqb (m .address) (l .address)) h)
+
+address-after : (l m : Login) → not (hasAddress (l .address) m) ≡ true → apartAddress m l ≡ true
+unfolding hasAddress apartAddress
+address-after l m h = after-step (isFree l) (isFree m) (l .address) (m .address) (used-free (isUsed m) (eqb (m .address) (l .address)) h)
+
+-- empty logins are apart
+pub empties-apart : pairs apartAddress (replicate 8 emptyLogin) ≡ true
+unfolding apartAddress
+empties-apart = refl
+
+-- a free place stays fine without exchanges
+free-fine : (capacity own : ℕ) (l : Login) → isUsed l ≡ false → loginFine capacity own l ≡ true → loginFine capacity own (withPlaces l (replicate 8 emptyExchange)) ≡ true
+unfolding loginFine
+free-fine capacity own l h e = rw (h, and-left (eqb (l .used) 0) (all isClosed (l .places)) (rw h at e))
+
+module _ {capacity own : ℕ} {l : Login} (u : Used capacity own l) where
+  -- proven or not
+  pub proven-used : (b : ℕ) → leb b 1 ≡ true → Used capacity own (withProven l b)
+  proven-used b h =
+      state-used b (l .paired) (l .attention) (l .places) u (flags-are l b (l .paired) (l .attention) (l .places) h (flag-paired l (u .flags)) (flag-attention l (u .flags))) (u .exchanges) (u .ids)
+
+  -- another attention
+  pub attention-used : (a : ℕ) → anAttention a ≡ true → Used capacity own (withAttention l a)
+  attention-used a h =
+      state-used (l .proven) (l .paired) a (l .places) u (flags-are l (l .proven) (l .paired) a (l .places) (flag-proven l (u .flags)) (flag-paired l (u .flags)) h) (u .exchanges) (u .ids)
+
+  -- other exchanges
+  pub places-used : (es : List Exchange) → all (exchangeFine capacity (fullFrame (l .size)) (l .paired)) es ≡ true → pairs apartId es ≡ true → Used capacity own (withPlaces l es)
+  places-used es x i =
+      state-used (l .proven) (l .paired) (l .attention) es u
+      (flags-are l (l .proven) (l .paired) (l .attention) es (flag-proven l (u .flags)) (flag-paired l (u .flags)) (flag-attention l (u .flags))) x i
+
+  -- no exchanges
+  pub without-used : Used capacity own (withoutExchanges l)
+  unfolding withoutExchanges
+  without-used = places-used (replicate 8 emptyExchange) (none-fine capacity (fullFrame (l .size)) (l .paired)) none-apart
+
+  -- paired: every exchange that was fine is still
+  pub paired-used : Used capacity own (withPaired l 1)
+  paired-used =
+      state-used (l .proven) 1 (l .attention) (l .places) u
+      (flags-are l (l .proven) 1 (l .attention) (l .places) (flag-proven l (u .flags)) refl (flag-attention l (u .flags)))
+      (all-than (exchangeFine capacity (fullFrame (l .size)) (l .paired)) (exchangeFine capacity (fullFrame (l .size)) 1) (pair-step capacity (fullFrame (l .size)) (l .paired)) (l .places) (u .exchanges))
+      (u .ids)
+
+  -- the pairing ends, and its exchanges
+  pub unpaired-used : Used capacity own (withPaired (withoutExchanges l) 0)
+  unfolding withoutExchanges
+  unpaired-used =
+      state-used (l .proven) 0 (l .attention) (replicate 8 emptyExchange) u
+      (flags-are l (l .proven) 0 (l .attention) (replicate 8 emptyExchange) (flag-proven l (u .flags)) refl (flag-attention l (u .flags)))
+      (none-fine capacity (fullFrame (l .size)) 0) none-apart
+
+  -- an exchange that is fine, and whose OX_ID no other has, may open at any place
+  pub open-used : (j : ℕ) (e : Exchange) → exchangeFine capacity (fullFrame (l .size)) (l .paired) e ≡ true → findExchange l (e .«ox_id») ≡ Nothing → Used capacity own (withExchange l j e)
+  unfolding withExchange findExchange
+  open-used j e fine none =
+      let alone = missed (hasId (e .«ox_id»)) (l .places) none in
+      places-used (set (l .places) j e) (all-set (exchangeFine capacity (fullFrame (l .size)) (l .paired)) (l .places) j e fine (u .exchanges))
+      (pairs-set apartId (l .places) j e (all-than (λ f. not (hasId (e .«ox_id») f)) (apartId e) (id-before e) (l .places) alone)
+      (all-than (λ f. not (hasId (e .«ox_id») f)) (λ f. apartId f e) (id-after e) (l .places) alone) (u .ids))
+
+  -- the exchange at a place may change to one that is fine, of the same OX_ID, open as it was
+  pub change-used : (j : ℕ) (e : Exchange) → isClosed e ≡ isClosed (exchangeAt l j) → e .«ox_id» ≡ exchangeAt l j .«ox_id»
+      → (exchangeFine capacity (fullFrame (l .size)) (l .paired) (exchangeAt l j) ≡ true → exchangeFine capacity (fullFrame (l .size)) (l .paired) e ≡ true) → Used capacity own (withExchange l j e)
+  unfolding withExchange exchangeAt apartId
+  change-used j e closed id fine =
+      places-used (set (l .places) j e) (all-update (exchangeFine capacity (fullFrame (l .size)) (l .paired)) emptyExchange (l .places) j e fine (u .exchanges))
+      (pairs-update apartId emptyExchange (l .places) j e (λ f q. rw (closed, id) q) (λ f q. rw (closed, id) q) (u .ids))
+
+  -- the exchange at a place may end
+  pub end-used : (j : ℕ) → Used capacity own (withExchange l j emptyExchange)
+  unfolding withExchange
+  end-used j =
+      places-used (set (l .places) j emptyExchange)
+      (all-set (exchangeFine capacity (fullFrame (l .size)) (l .paired)) (l .places) j emptyExchange (closed-fine capacity (fullFrame (l .size)) (l .paired)) (u .exchanges))
+      (pairs-set apartId (l .places) j emptyExchange (all-always (apartId emptyExchange) closed-before (l .places)) (all-always (λ f. apartId f emptyExchange) closed-after (l .places)) (u .ids))
+
+-- a login after a change: of the same address, or gone
+data Like (l : Login) : Login → Type 0 where
+  same : {m : Login} → isUsed m ≡ isUsed l → m .address ≡ l .address → Like l m
+  gone : Like l emptyLogin
+
+module _ {l : Login} where
+  like-cond : (b : Bool) {m k : Login} → Like l m → Like l k → Like l (cond b m k)
+  like-cond true p q = p
+  like-cond false p q = q
+
+  itself : Like l l
+  itself = same refl refl
+
+like : (c : Change) (l : Login) → Like l (changedOf c l)
+unfolding endedOf unproven verified abortedOf withoutExchanges
+like (EndLogin a) l = like-cond (hasAddress a l) gone itself
+like Unprove l = like-cond (isUsed l) (same refl refl) itself
+like EndUnproven l = like-cond (isUsed l) (like-cond (eqb (l .proven) 1) itself gone) itself
+like (EndExchangesOf a) l = like-cond (hasAddress a l) (same refl refl) itself
+like EndExchanges l = same refl refl
+
+like-apart : {l k m n : Login} → Like l k → Like m n → apartAddress l m ≡ true → apartAddress k n ≡ true
+unfolding apartAddress
+like-apart (same p q) (same r s) e = rw (p, q, r, s) e
+like-apart {k = k} (same p q) gone e = rw (or-true (isFree k))
+like-apart gone y e = refl
+
+module _ (capacity own : ℕ) where
+  fine-cond : (b : Bool) (l m : Login) → (b ≡ true → loginFine capacity own l ≡ true) → loginFine capacity own m ≡ true → loginFine capacity own (cond b l m) ≡ true
+  fine-cond true l m p q = p refl
+  fine-cond false l m p q = q
+
+  without-step : (l : Login) (b : Bool) → isUsed l ≡ b → loginFine capacity own l ≡ true → loginFine capacity own (withoutExchanges l) ≡ true
+  unfolding withoutExchanges
+  without-step l true h e = used-fine {l = withoutExchanges l} h (without-used (fine-used h e))
+  without-step l false h e = free-fine capacity own l h e
+
+  change-fine : (c : Change) (l : Login) → loginFine capacity own l ≡ true → loginFine capacity own (changedOf c l) ≡ true
+  unfolding endedOf unproven verified abortedOf
+  change-fine (EndLogin a) l e = fine-cond (hasAddress a l) emptyLogin l (λ _. empty-fine capacity own) e
+  change-fine Unprove l e = fine-cond (isUsed l) (withProven l 0) l (λ h. used-fine {l = withProven l 0} h (proven-used (fine-used h e) 0 refl)) e
+  change-fine EndUnproven l e = fine-cond (isUsed l) (cond (eqb (l .proven) 1) l emptyLogin) l (λ _. fine-cond (eqb (l .proven) 1) l emptyLogin (λ _. e) (empty-fine capacity own)) e
+  change-fine (EndExchangesOf a) l e = fine-cond (hasAddress a l) (withoutExchanges l) l (λ _. without-step l (isUsed l) refl e) e
+  change-fine EndExchanges l e = without-step l (isUsed l) refl e
+
+module _ (u : Unit) (p : Port) (w : wellFormed u p ≡ true) where
+  parts : Formed u p
+  parts = formed-parts w
+
+  -- every change of the whole table
+  pub change-kept : (c : Change) → wellFormed u (changedAll c p) ≡ true
+  unfolding changedAll
+  change-kept c =
+      formed-whole record {
+        setup = parts .setup;
+        logins = all-map (loginFine (u .capacity) (p .address)) (loginFine (u .capacity) (p .address)) (changedOf c) (change-fine (u .capacity) (p .address) c) (p .logins) (parts .logins);
+        addresses = pairs-map apartAddress (changedOf c) (λ l m. like-apart (like c l) (like c m)) (p .logins) (parts .addresses);
+      }
+
+  pub power-kept : wellFormed u (poweredOn p) ≡ true
+  unfolding poweredOn
+  power-kept =
+      formed-whole record { setup = parts .setup; logins = rw (empty-fine (u .capacity) (p .address)); addresses = empties-apart }
+
+  -- a login that is fine, and whose address no other has, may be stored at any place
+  pub store-kept : (i : ℕ) (l : Login) → loginFine (u .capacity) (p .address) l ≡ true → all (λ m. not (hasAddress (l .address) m)) (p .logins) ≡ true → wellFormed u (withLogin p i l) ≡ true
+  unfolding withLogin
+  store-kept i l fine absent =
+      formed-whole record {
+        setup = parts .setup;
+        logins = all-set (loginFine (u .capacity) (p .address)) (p .logins) i l fine (parts .logins);
+        addresses = pairs-set apartAddress (p .logins) i l (all-than (λ m. not (hasAddress (l .address) m)) (apartAddress l) (address-before l) (p .logins) absent)
+            (all-than (λ m. not (hasAddress (l .address) m)) (λ m. apartAddress m l) (address-after l) (p .logins) absent) (parts .addresses);
+      }
+
+  -- the login at a place may change to one that is fine, of the same address, used as it was
+  pub update-kept : (i : ℕ) (l : Login) → isUsed l ≡ isUsed (loginAt p i) → l .address ≡ loginAt p i .address
+      → (loginFine (u .capacity) (p .address) (loginAt p i) ≡ true → loginFine (u .capacity) (p .address) l ≡ true) → wellFormed u (withLogin p i l) ≡ true
+  unfolding withLogin loginAt apartAddress
+  update-kept i l used address fine =
+      formed-whole record {
+        setup = parts .setup;
+        logins = all-update (loginFine (u .capacity) (p .address)) emptyLogin (p .logins) i l fine (parts .logins);
+        addresses = pairs-update apartAddress emptyLogin (p .logins) i l (λ m q. rw (used, address) q) (λ m q. rw (used, address) q) (parts .addresses);
+      }
