@@ -15,6 +15,11 @@ pub onto-fits : (p l : List ℕ) → length p ≤ length l → onto p l ≡ p ++
 unfolding onto
 onto-fits p l h = rw (take-all (length l) p h)
 
+-- nothing laid over a list leaves it
+pub onto-nil : (l : List ℕ) → onto [] l ≡ l
+unfolding onto
+onto-nil l = rw (take-nil (length l))
+
 pub length-onto : (p l : List ℕ) → length (onto p l) ≡ length l
 unfolding onto
 length-onto p l = simp (length-append, length-take, length-drop) (omega arith)

@@ -4,7 +4,7 @@ use mathlib.Core.List.{List, [], _∷_, _++_, append-assoc, append-nil}
 use Prim.Native.Nat.{ℕ, _+_, _-_, _≤_, _<_}
 use native.Mathlib.Omega.{arith}
 use lib.ListN.{length, take, drop, length-take, length-drop, drop-of-length-le, length-append}
-use lib.Seq.{take-all, take-at, drop-at, drop-drop, take-append-add}
+use lib.Seq.{take-all, take-at, drop-at, drop-drop, take-append-add, length-take-le}
 use borrow.Rule.Slice.PartMut.{midOf, postOf, putMid}
 use Rattle.wire.specs.Bytes.{onto, over, Wrote}
 use Rattle.wire.proofs.Fronts.{onto-fits, length-onto}
@@ -50,3 +50,15 @@ wrote-then {l} {l₁} {l₂} {p} {q} {n} {m} k len room u v =
       fits = let x = u .fits in let y = v .fits in omega arith;
       is = ap (λ (j : ℕ). putMid n (j - n) l₁ l₂) (sym e) ∙ onto-part l l₁ l₂ p q n (sym (u .long)) (rw len room) (u .is) f;
     }
+
+-- a larger bound serves too
+pub wrote-within : {p l l₁ : List ℕ} {n a : ℕ} (b : ℕ) → a ≤ b → Wrote p l l₁ n a → Wrote p l l₁ n b
+wrote-within b h w = record { long = w .long; fits = let x = w .fits in omega arith; is = w .is }
+
+-- q over l from a on, and then p at the front up to a, are p ++ q at the front of l
+pub onto-after : (l p q : List ℕ) (a : ℕ) → length p ≡ a → a ≤ length l → onto p (over l a q) ≡ onto (p ++ q) l
+unfolding over
+onto-after l p q a lp room =
+    let front : length (take a l) ≡ a = length-take-le a l room in
+    let long : length p ≤ length (take a l ++ onto q (drop a l)) = simp length-append (omega arith) in
+    onto-fits p (take a l ++ onto q (drop a l)) long ∙ rw (lp, drop-at (take a l) (onto q (drop a l)) a front) (joined l p q a lp room)

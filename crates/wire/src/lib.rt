@@ -181,7 +181,8 @@ fn wide(x: u8) -> u64
     x as u64
 }
 
-fn least(a: usize, b: usize) -> usize
+// The smaller of two sizes.
+pub fn least(a: usize, b: usize) -> usize
     ensures { λ r. ⌜ (r ≡ min a b) × (r ≤ a) × (r ≤ b) ⌝ }
 {
     if a < b { a } else { b }

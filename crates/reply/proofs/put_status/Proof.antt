@@ -1,0 +1,33 @@
+-- `reply::put_status` meets its contract: an array of its bytes, copied. Assumes nothing.
+use mathlib.Core.Path.{refl}
+use native.Mathlib.Omega.{arith}
+use Rattle.reply.specs.Payload.{statusBytes}
+use borrow.Author.Needs.{needs}
+use Rattle.reply.proofs.put_status.Statement.{statement}
+use Rattle.reply.proofs.put_status.Tie as tie
+
+returns : tie.Need-returns
+unfolding statusBytes
+returns c =
+    record { long = refl; fits = omega arith; is = c .before .before .put-front .ensures }
+
+pub put-status-spec : {M : Type 1} → statement M
+put-status-spec =
+    tie.close
+    (tie.spec
+    (λ c. search needs)
+    (λ c. search needs)
+    (λ c. search needs)
+    (λ c. search needs)
+    (λ c. search needs)
+    (λ c. search needs)
+    (λ c. search needs)
+    (λ c. search needs)
+    (λ c. search needs)
+    (λ c. search needs)
+    (λ c. search needs)
+    (λ c. search needs)
+    (λ c. search needs)
+    (λ c κs. search needs)
+    (λ c. search needs)
+    returns)
