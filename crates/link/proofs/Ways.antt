@@ -15,15 +15,16 @@ use Rattle.params.specs.Words.{paramsOf}
 use Rattle.state.specs.declared.Login.{Login}
 use Rattle.state.specs.declared.Port.{Port}
 use Rattle.state.specs.declared.Change.the-variants.{EndLogin}
-use Rattle.state.specs.Changes.{loginAt, withLogin, changedAll}
-use Rattle.state.specs.Tables.{findLogin}
+use Rattle.state.specs.declared.Standing.the-variants.{Open}
+use Rattle.state.specs.Changes.{loginAt, withLogin, endedAt, changedAll}
+use Rattle.state.specs.Tables.{findLogin, lookupOf}
 use Rattle.reply.specs.declared.Reply.{Reply}
 use Rattle.reply.specs.declared.Reply.the-variants as reply
 use Rattle.link.specs.declared.Decided.{Decided}
 use Rattle.link.specs.declared.Served.{Served}
 use Rattle.link.specs.declared.Outcome.{Outcome}
 use Rattle.link.specs.declared.Outcome.the-variants.{Place, Rejected}
-use Rattle.link.specs.Link.{decidedAs, sizeOf, outcomeOf, outcomeReply, outcomePort, newLogin, plogiOf, logoOf, serviceOf, linkOf}
+use Rattle.link.specs.Link.{decidedAs, sizeOf, outcomeOf, outcomeReply, outcomePort, newLogin, plogiOf, logoOf, serviceOf, linkOf, abtsOf}
 
 module _ (p n : Port) (from : ℕ) (q : Params) (o : Outcome) (r : Reply) (en : n ≡ changedAll (EndLogin from) p) (eo : o ≡ outcomeOf n q) (er : r ≡ outcomeReply o) where
   told : o ≡ outcomeOf (changedAll (EndLogin from) p) q
@@ -67,3 +68,9 @@ module _ (p : Port) (h : Header) (f : List ℕ) (code size : ℕ) (ec : code ≡
           unfolding linkOf
           at-login i l s q n el ev eq e =
               rw (sym ec, sym es, ne-eqb size 0 nz, eq-eqb (length f) (24 + size) fits, ne-eqb code 3 np, ne-eqb code 5 nl, n, sym el, sym ev) (e ∙ ap (decidedAs (s .reply)) eq)
+
+-- ABTS of an exchange that is open
+pub abort-open : (p : Port) (from ox rx i j : ℕ) (l m : Login) (q : Port) → lookupOf p from ox ≡ Open i j → rx ≡ 0xffff → l ≡ loginAt p i → m ≡ endedAt l j → q ≡ withLogin p i m
+    → decidedAs reply.AbortAccept q ≡ abtsOf p from ox rx
+unfolding abtsOf
+abort-open p from ox rx i j l m q e x el em eq = rw (e, eq-eqb rx 0xffff x, eq, em, el)

@@ -1,9 +1,8 @@
 -- `link::abts` meets its contract: by where the exchange stands. Assumes nothing.
-use mathlib.Core.Path.{sym, ap, _∙_}
+use mathlib.Core.Path.{sym, _∙_}
 use borrow.Author.Tests.{eq-eqb, ne-eqb}
-use Rattle.reply.specs.declared.Reply.the-variants as reply
-use Rattle.state.specs.Changes.{withLogin, endedAt}
-use Rattle.link.specs.Link.{decidedAs, abtsOf}
+use Rattle.link.proofs.Ways.{abort-open}
+use Rattle.link.specs.Link.{abtsOf}
 use borrow.Author.Needs.{needs}
 use Rattle.link.proofs.abts.Statement.{statement}
 use Rattle.link.proofs.abts.Tie as tie
@@ -21,11 +20,11 @@ unfolding abtsOf
 returns-3 c = rw (sym (c .before .before .before .before .lookup .ensures .is) ∙ c .before .before .enum-told2 .given .1, ne-eqb _ _ (c .before .if1 .left)) (c .decide-as3 .ensures)
 
 returns-4 : tie.Need-returns-4
-unfolding abtsOf
 returns-4 c =
-    let l = c .before .before .before in
-    rw (sym (c .before .before .before .before .before .before .before .before .lookup .ensures .is) ∙ c .before .before .before .before .before .before .s .given .1, eq-eqb _ _ (c .before .before .before .before .if2 .taken))
-    (c .decide-as4 .ensures ∙ ap (decidedAs reply.AbortAccept) (c .before .put-login .ensures ∙ ap (withLogin (c .before .before .before .before .before .before .before .before .before .args .p) _) (c .before .before .end-exchange .ensures ∙ ap (λ m. endedAt m _) (l .login-at .ensures))))
+    let k = c .before .before .before .before in
+    let s = k .before .before .before .before in
+    c .decide-as4 .ensures
+    ∙ abort-open (s .before .args .p) _ _ _ _ _ _ _ _ (sym (s .lookup .ensures .is) ∙ k .before .before .s .given .1) (k .if2 .taken) (c .before .before .before .login-at .ensures) (c .before .before .end-exchange .ensures) (c .before .put-login .ensures)
 
 returns-5 : tie.Need-returns-5
 unfolding abtsOf
