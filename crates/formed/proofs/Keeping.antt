@@ -34,11 +34,11 @@ unfolding loginFine
 empty-fine capacity own = refl
 
 -- no exchange is fine at any login
-none-fine : (capacity full paired : ℕ) → all (exchangeFine capacity full paired) (replicate 8 emptyExchange) ≡ true
+pub none-fine : (capacity full paired : ℕ) → all (exchangeFine capacity full paired) (replicate 8 emptyExchange) ≡ true
 unfolding exchangeFine
 none-fine capacity full paired = refl
 
-none-apart : pairs apartId (replicate 8 emptyExchange) ≡ true
+pub none-apart : pairs apartId (replicate 8 emptyExchange) ≡ true
 unfolding apartId
 none-apart = refl
 
@@ -118,7 +118,15 @@ address-after : (l m : Login) → not (hasAddress (l .address) m) ≡ true → a
 unfolding hasAddress apartAddress
 address-after l m h = after-step (isFree l) (isFree m) (l .address) (m .address) (used-free (isUsed m) (eqb (m .address) (l .address)) h)
 
--- empty logins are apart
+-- an empty login is apart from every other, and empty logins are apart
+empty-before : (m : Login) → apartAddress emptyLogin m ≡ true
+unfolding apartAddress
+empty-before m = refl
+
+empty-after : (m : Login) → apartAddress m emptyLogin ≡ true
+unfolding apartAddress
+empty-after m = rw (or-true (isFree m))
+
 pub empties-apart : pairs apartAddress (replicate 8 emptyLogin) ≡ true
 unfolding apartAddress
 empties-apart = refl
@@ -275,4 +283,14 @@ module _ (u : Unit) (p : Port) (w : wellFormed u p ≡ true) where
         setup = parts .setup;
         logins = all-update (loginFine (u .capacity) (p .address)) emptyLogin (p .logins) i l fine (parts .logins);
         addresses = pairs-update apartAddress emptyLogin (p .logins) i l (λ m q. rw (used, address) q) (λ m q. rw (used, address) q) (parts .addresses);
+      }
+
+  -- the login at a place may end
+  pub end-kept : (i : ℕ) → wellFormed u (withLogin p i emptyLogin) ≡ true
+  unfolding withLogin
+  end-kept i =
+      formed-whole record {
+        setup = parts .setup;
+        logins = all-set (loginFine (u .capacity) (p .address)) (p .logins) i emptyLogin (empty-fine (u .capacity) (p .address)) (parts .logins);
+        addresses = pairs-set apartAddress (p .logins) i emptyLogin (all-always (apartAddress emptyLogin) empty-before (p .logins)) (all-always (λ m. apartAddress m emptyLogin) empty-after (p .logins)) (parts .addresses);
       }

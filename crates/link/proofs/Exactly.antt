@@ -1,0 +1,121 @@
+-- A port login is accepted exactly when its size is right, every word test passes and a place is free once the sender's own login has ended;
+-- else it is rejected, with the stated reason. Both directions, for every frame with PLOGI's code. Assumes nothing.
+use mathlib.Core.Path.{_≡_, refl, sym, ap, _∙_, subst}
+use mathlib.Core.Bool.{Bool, true, false}
+use mathlib.Core.List.{List}
+use Prim.Native.Nat.{ℕ, _<_}
+use native.Mathlib.Omega.{arith}
+use lib.Dec.{eqb}
+use lib.ListN.{length, getD}
+use borrow.Author.Tests.{eq-eqb, ne-eqb, eqb-true, eqb-false}
+use Rattle.tables.specs.declared.Found.{Found}
+use Rattle.tables.specs.declared.Found.the-variants.{At, Nothing}
+use Rattle.frame.specs.declared.Header.{Header}
+use Rattle.params.specs.declared.Fault.{Fault}
+use Rattle.params.specs.declared.Verdict.{Verdict}
+use Rattle.params.specs.declared.Verdict.the-variants as verdict
+use Rattle.params.specs.Words.{paramsOf, fails, verdictOf, reasonOf, rank}
+use Rattle.params.proofs.Exactly.{accepted, accepts-then, rejected, rejected-first, rejects-then}
+use Rattle.state.specs.declared.Port.{Port}
+use Rattle.state.specs.declared.Change.the-variants.{EndLogin}
+use Rattle.state.specs.Changes.{withLogin, changedAll}
+use Rattle.state.specs.Tables.{freeLogin}
+use Rattle.reply.specs.declared.Reply.{Reply}
+use Rattle.reply.specs.declared.Reply.the-variants as reply
+use Rattle.reply.specs.declared.Accepted.the-variants as accepted
+use Rattle.link.specs.declared.Decided.{Decided}
+use Rattle.link.specs.declared.Outcome.the-variants.{Place, Rejected}
+use Rattle.link.specs.Link.{decidedAs, sizeOf, outcomeOf, newLogin, plogiOf, linkOf}
+
+-- the table once the sender's login has ended
+abbrev pub ended : Port → Header → Port
+ended p h = changedAll (EndLogin (h .«s_id»)) p
+
+-- what an accepted PLOGI has
+pub record Accepts (p : Port) (h : Header) (f : List ℕ) : Type 0 where
+  pub size : length f ≡ 140
+  pub tests : (t : Fault) → fails (paramsOf f 28) t ≡ false
+  pub place : ℕ
+  pub free : freeLogin (ended p h) ≡ At place
+
+-- what a rejected one has, with its reason and explanation
+pub data Rejects (p : Port) (h : Header) (f : List ℕ) : ℕ → ℕ → Type 0 where
+  wrong-size : (length f ≡ 140 → ⊥) → Rejects p h f 0x03 0x00
+  test-fails : length f ≡ 140 → (t : Fault) → fails (paramsOf f 28) t ≡ true → ((g : Fault) → rank g < rank t → fails (paramsOf f 28) g ≡ false)
+      → Rejects p h f (reasonOf t .reason) (reasonOf t .explanation)
+  no-place : length f ≡ 140 → ((t : Fault) → fails (paramsOf f 28) t ≡ false) → freeLogin (ended p h) ≡ Nothing → Rejects p h f 0x09 0x29
+
+module _ (p : Port) (h : Header) (f : List ℕ) (plogi : getD f 24 0 ≡ 3) where
+  sized : length f ≡ 140 → linkOf p h f ≡ plogiOf p (h .«s_id») (paramsOf f 28)
+  unfolding linkOf sizeOf
+  sized e = rw (plogi, e)
+
+  -- accepted, and the login stored at the lowest free place
+  pub accepts : (a : Accepts p h f) → linkOf p h f ≡ decidedAs (reply.Accept accepted.Login) (withLogin (ended p h) (a .place) (newLogin (h .«s_id») (paramsOf f 28)))
+  unfolding plogiOf outcomeOf
+  accepts a = sized (a .size) ∙ rw (accepts-then (paramsOf f 28) (a .tests), a .free)
+
+  of-wrong : (length f ≡ 140 → ⊥) → linkOf p h f ≡ decidedAs (reply.Reject 0x03 0x00) p
+  unfolding linkOf sizeOf
+  of-wrong n = rw (plogi, ne-eqb (length f) 140 n)
+
+  of-test : length f ≡ 140 → (t : Fault) → verdictOf (paramsOf f 28) ≡ verdict.Reject t → linkOf p h f ≡ decidedAs (reply.Reject (reasonOf t .reason) (reasonOf t .explanation)) (ended p h)
+  unfolding plogiOf outcomeOf
+  of-test e t v = sized e ∙ rw v
+
+  of-full : length f ≡ 140 → verdictOf (paramsOf f 28) ≡ verdict.Accept → freeLogin (ended p h) ≡ Nothing → linkOf p h f ≡ decidedAs (reply.Reject 0x09 0x29) (ended p h)
+  unfolding plogiOf outcomeOf
+  of-full e v n = sized e ∙ rw (v, n)
+
+  -- rejected, with this reason
+  pub rejects : (r x : ℕ) → Rejects p h f r x → linkOf p h f .reply ≡ reply.Reject r x
+  rejects r x (wrong-size n) = ap (λ (d : Decided). d .reply) (of-wrong n)
+  rejects r x (test-fails e t b none) = ap (λ (d : Decided). d .reply) (of-test e t (rejects-then (paramsOf f 28) t b none))
+  rejects r x (no-place e t n) = ap (λ (d : Decided). d .reply) (of-full e (accepts-then (paramsOf f 28) t) n)
+
+  -- there is no third answer
+  data Answered : Reply → Type 0 where
+    yes : Accepts p h f → Answered (reply.Accept accepted.Login)
+    no : (r x : ℕ) → Rejects p h f r x → Answered (reply.Reject r x)
+
+  answered : Answered (linkOf p h f .reply)
+  answered = by-size (eqb (length f) 140) refl
+    where
+      by-room : length f ≡ 140 → verdictOf (paramsOf f 28) ≡ verdict.Accept → (g : Found) → freeLogin (ended p h) ≡ g → Answered (linkOf p h f .reply)
+      by-room e v (At i) n =
+          let a : Accepts p h f = record { size = e; tests = accepted (paramsOf f 28) v; place = i; free = n } in
+          subst Answered (sym (ap (λ (d : Decided). d .reply) (accepts a))) (yes a)
+      by-room e v Nothing n =
+          let a : Rejects p h f 0x09 0x29 = no-place e (accepted (paramsOf f 28) v) n in
+          subst Answered (sym (rejects 0x09 0x29 a)) (no 0x09 0x29 a)
+
+      by-test : length f ≡ 140 → (v : Verdict) → verdictOf (paramsOf f 28) ≡ v → Answered (linkOf p h f .reply)
+      by-test e verdict.Accept v = by-room e v (freeLogin (ended p h)) refl
+      by-test e (verdict.Reject t) v =
+          let a : Rejects p h f (reasonOf t .reason) (reasonOf t .explanation) = test-fails e t (rejected (paramsOf f 28) t v) (rejected-first (paramsOf f 28) t v) in
+          subst Answered (sym (rejects _ _ a)) (no _ _ a)
+
+      by-size : (b : Bool) → eqb (length f) 140 ≡ b → Answered (linkOf p h f .reply)
+      by-size true e = by-test (eqb-true (length f) 140 e) (verdictOf (paramsOf f 28)) refl
+      by-size false e =
+          let a : Rejects p h f 0x03 0x00 = wrong-size (eqb-false (length f) 140 e) in
+          subst Answered (sym (rejects 0x03 0x00 a)) (no 0x03 0x00 a)
+
+  -- accepted only so
+  pub accepts-only : linkOf p h f .reply ≡ reply.Accept accepted.Login → Accepts p h f
+  accepts-only e = by (linkOf p h f .reply) answered e
+    where
+      by : (r : Reply) → Answered r → r ≡ reply.Accept accepted.Login → Accepts p h f
+      by r (yes a) q = a
+      by r (no x y a) q = let z : _≡_ {A = ℕ} 0 1 = cc in absurd (omega arith)
+
+  -- rejected with this reason only so
+  pub rejects-only : (r x : ℕ) → linkOf p h f .reply ≡ reply.Reject r x → Rejects p h f r x
+  rejects-only r x e = by (linkOf p h f .reply) answered e
+    where
+      by : (s : Reply) → Answered s → s ≡ reply.Reject r x → Rejects p h f r x
+      by s (yes a) q = let z : _≡_ {A = ℕ} 0 1 = cc in absurd (omega arith)
+      by s (no y z a) q =
+          let i : y ≡ r = cc in
+          let j : z ≡ x = cc in
+          subst (λ (m : ℕ). Rejects p h f r m) j (subst (λ (m : ℕ). Rejects p h f m z) i a)

@@ -1,0 +1,186 @@
+-- No link service makes a state ill formed. Assumes nothing.
+use mathlib.Core.Path.{_≡_, refl, sym, ap, _∙_, subst}
+use mathlib.Core.Bool.{Bool, true, false, cond, not, _&&_, _||_}
+use mathlib.Core.List.{List, map}
+use Prim.Native.Nat.{ℕ, _+_}
+use native.Mathlib.Omega.{arith}
+use lib.Dec.{eqb}
+use lib.ListN.{length, getD, replicate}
+use Rattle.tables.specs.declared.Found.{Found}
+use Rattle.tables.specs.declared.Found.the-variants.{At, Nothing}
+use Rattle.tables.specs.Lists.{all, first, onFound}
+use Rattle.tables.proofs.Bools.{and-left, and-right, and-both}
+use Rattle.tables.proofs.Searches.{found-passes}
+use Rattle.tables.proofs.Keeping.{all-always, all-map}
+use Rattle.wire.specs.Bytes.{num, part}
+use Rattle.frame.specs.declared.Header.{Header}
+use Rattle.address.specs.Address.{validAddress}
+use Rattle.params.specs.declared.Params.{Params}
+use Rattle.params.specs.declared.Fault.{Fault}
+use Rattle.params.specs.declared.Fault.the-variants.{PortName, NodeName, DataSize, ConcurrentSequences, OpenSequences}
+use Rattle.params.specs.declared.Verdict.{Verdict}
+use Rattle.params.specs.declared.Verdict.the-variants as verdict
+use Rattle.params.specs.Words.{paramsOf, fails, verdictOf}
+use Rattle.params.proofs.Exactly.{accepted}
+use Rattle.state.specs.declared.Login.{Login}
+use Rattle.state.specs.declared.Port.{Port}
+use Rattle.state.specs.declared.Unit.{Unit}
+use Rattle.state.specs.declared.Change.the-variants.{EndLogin}
+use Rattle.state.specs.declared.Standing.{Standing}
+use Rattle.state.specs.declared.Standing.the-variants.{Open, NoExchange, NoLogin}
+use Rattle.state.specs.Changes.{emptyExchange, emptyLogin, isUsed, hasAddress, loginAt, withLogin, withExchange, withoutExchanges, endedOf, endedAt, changedAll}
+use Rattle.state.specs.Tables.{findLogin, freeLogin, findExchange, lookupOf}
+use Rattle.formed.specs.Formed.{fullFrame, exchangeFine, apartId, paramsFine, flagsFine, addressFine, loginFine, wellFormed}
+use Rattle.formed.proofs.Parts.{Used, fine-used, used-fine}
+use Rattle.formed.proofs.Keeping.{none-fine, none-apart, proven-used, paired-used, unpaired-used, end-used, change-kept, store-kept, update-kept, end-kept}
+use Rattle.reply.specs.declared.Reply.{Reply}
+use Rattle.link.specs.declared.Decided.{Decided}
+use Rattle.link.specs.declared.Served.{Served}
+use Rattle.link.specs.declared.Outcome.{Outcome}
+use Rattle.link.specs.declared.Outcome.the-variants.{Place, Rejected}
+use Rattle.link.specs.Link.{sizeOf, newLogin, roomFor, outcomeAfter, outcomeOf, outcomePort, plogiOf, provenBy, namesDiffer, pdiscOf, adiscOf, logoOf, pairFine, pageFine, prliOf, prloOf, rrqOf, serviceOf, linkOf, abortedAt, abtsOf}
+
+-- what a service makes of a login: none, or one of the same address that is fine where the old one was
+data Keeps (capacity own : ℕ) (l : Login) : Login → Type 0 where
+  gone : Keeps capacity own l emptyLogin
+  stays : {m : Login} → isUsed m ≡ isUsed l → m .address ≡ l .address → (Used capacity own l → Used capacity own m) → Keeps capacity own l m
+
+module _ (capacity own : ℕ) (l : Login) where
+  abbrev Mild : Served → Type 0
+  Mild s = Keeps capacity own l (s .login)
+
+  itself : Keeps capacity own l l
+  itself = stays refl refl (λ u. u)
+
+  mild-cond : (b : Bool) (s t : Served) → Mild s → Mild t → Mild (cond b s t)
+  mild-cond true s t p q = p
+  mild-cond false s t p q = q
+
+  proven-mild : (v : Verdict) → Mild (provenBy v l)
+  proven-mild verdict.Accept = stays refl refl (λ u. proven-used u 1 refl)
+  proven-mild (verdict.Reject t) = itself
+
+  rrq-mild : (f : Found) (s t : Served) → Mild s → Mild t → Mild (onFound f (λ _. s) t)
+  rrq-mild (At j) s t p q = p
+  rrq-mild Nothing s t p q = q
+
+  service-mild : (code from : ℕ) (f : List ℕ) → Mild (serviceOf code l from f)
+  unfolding serviceOf pdiscOf adiscOf prliOf prloOf rrqOf withoutExchanges
+  service-mild code from f =
+      mild-cond (eqb code 0x50) _ _ (mild-cond (namesDiffer l (paramsOf f 28 .port) (paramsOf f 28 .node)) _ _ gone (proven-mild (verdictOf (paramsOf f 28))))
+      (mild-cond (eqb code 0x52) _ _
+      (mild-cond (namesDiffer l (part 8 f 32) (part 8 f 40)) _ _ gone (mild-cond (eqb (num 3 f 49) from) _ _ (stays refl refl (λ u. proven-used u 1 refl)) gone))
+      (mild-cond (eqb code 0x20) _ _ (mild-cond (pairFine (num 3 f 25) (getD f 28 0) (getD f 30 0) (getD f 43 0)) _ _ (stays refl refl (λ u. paired-used u)) itself)
+      (mild-cond (eqb code 0x21) _ _ (mild-cond (pageFine (num 3 f 25) (getD f 28 0)) _ _ (stays refl refl (λ u. unpaired-used u)) itself)
+      (mild-cond (eqb (num 3 f 29) from) _ _ (rrq-mild (findExchange l (num 2 f 32)) _ _ itself itself) itself))))
+
+-- once the login of an address has ended, no login has it
+absent-step : (a : ℕ) (l : Login) (b : Bool) → hasAddress a l ≡ b → not (hasAddress a (cond b emptyLogin l)) ≡ true
+unfolding hasAddress
+absent-step a l true e = refl
+absent-step a l false e = ap not e
+
+pub ended-absent : (p : Port) (a : ℕ) → all (λ m. not (hasAddress a m)) (changedAll (EndLogin a) p .logins) ≡ true
+unfolding changedAll endedOf
+ended-absent p a =
+    all-map (λ _. true) (λ m. not (hasAddress a m)) (endedOf a) (λ l _. absent-step a l (hasAddress a l) refl) (p .logins) (all-always (λ _. true) (λ _. refl) (p .logins))
+
+-- the login that an accepted PLOGI stores is fine
+pub new-fine : (capacity own from : ℕ) (q : Params) → validAddress from ≡ true → eqb from own ≡ false → ((t : Fault) → fails q t ≡ false) → loginFine capacity own (newLogin from q) ≡ true
+unfolding newLogin flagsFine addressFine paramsFine
+new-fine capacity own from q valid other pass =
+    used-fine {l = newLogin from q} refl
+    (record {
+      flags = refl;
+      address = rw (valid, other);
+      params = rw (pass PortName, pass NodeName, pass DataSize, pass ConcurrentSequences, pass OpenSequences);
+      exchanges = none-fine capacity (fullFrame (q .size)) 0;
+      ids = none-apart;
+    })
+
+-- the port of one of two answers
+port-cond : (u : Unit) (b : Bool) (d e : Decided) → wellFormed u (d .port) ≡ true → wellFormed u (e .port) ≡ true → wellFormed u (cond b d e .port) ≡ true
+port-cond u true d e x y = x
+port-cond u false d e x y = y
+
+-- the login found is used
+found-used : (p : Port) (from i : ℕ) → findLogin p from ≡ At i → isUsed (loginAt p i) ≡ true
+unfolding findLogin loginAt hasAddress
+found-used p from i e = and-left (isUsed (getD (p .logins) i emptyLogin)) (eqb (getD (p .logins) i emptyLogin .address) from) (found-passes emptyLogin (hasAddress from) (p .logins) e)
+
+module _ (u : Unit) (p : Port) (w : wellFormed u p ≡ true) (from : ℕ) (valid : validAddress from ≡ true) (other : eqb from (p .address) ≡ false) where
+  abbrev Kept : Port → Type 0
+  Kept q = wellFormed u q ≡ true
+
+  out-kept : Kept (changedAll (EndLogin from) p)
+  out-kept = change-kept u p w (EndLogin from)
+
+  -- PLOGI
+  place-kept : (q : Params) (v : Verdict) → verdictOf q ≡ v → (g : Found) → Kept (outcomePort (outcomeAfter v g) (changedAll (EndLogin from) p) (newLogin from q))
+  unfolding changedAll newLogin
+  place-kept q verdict.Accept e (At i) =
+      store-kept u (changedAll (EndLogin from) p) out-kept i (newLogin from q) (new-fine (u .capacity) (p .address) from q valid other (accepted q e)) (ended-absent p from)
+  place-kept q verdict.Accept e Nothing = out-kept
+  place-kept q (verdict.Reject t) e g = out-kept
+
+  pub plogi-kept : (q : Params) → Kept (plogiOf p from q .port)
+  unfolding plogiOf outcomeOf
+  plogi-kept q = place-kept q (verdictOf q) refl (freeLogin (changedAll (EndLogin from) p))
+
+  pub logo-kept : (named : ℕ) → Kept (logoOf p from named .port)
+  unfolding logoOf
+  logo-kept named = port-cond u (eqb named from) _ _ out-kept w
+
+  -- a service on the sender's login
+  stored-kept : (i : ℕ) (m : Login) → findLogin p from ≡ At i → Keeps (u .capacity) (p .address) (loginAt p i) m → Kept (withLogin p i m)
+  stored-kept i m e gone = end-kept u p w i
+  stored-kept i m e (stays used address fine) =
+      update-kept u p w i m used address (λ f. used-fine {l = m} (used ∙ found-used p from i e) (fine (fine-used (found-used p from i e) f)))
+
+  served-kept : (g : Found) → findLogin p from ≡ g → (code : ℕ) (f : List ℕ) (d : Decided) → Kept (d .port)
+      → Kept (onFound g (λ i. record { reply = serviceOf code (loginAt p i) from f .reply; port = withLogin p i (serviceOf code (loginAt p i) from f .login) }) d .port)
+  served-kept (At i) e code f d x = stored-kept i _ e (service-mild (u .capacity) (p .address) (loginAt p i) code from f)
+  served-kept Nothing e code f d x = x
+
+-- no frame to the link services makes a state ill formed, whose sender is a valid address and not ours
+pub link-kept : (u : Unit) (p : Port) (h : Header) (f : List ℕ) → validAddress (h .«s_id») ≡ true → eqb (h .«s_id») (p .address) ≡ false → wellFormed u p ≡ true → wellFormed u (linkOf p h f .port) ≡ true
+unfolding linkOf
+link-kept u p h f valid other w =
+    let from = h .«s_id» in
+    let code = getD f 24 0 in
+    let c = port-cond u in
+    c (eqb (sizeOf code) 0) _ _ w
+    (c (not (eqb (length f) (24 + sizeOf code))) _ _ w
+    (c (eqb code 0x03) _ _ (plogi-kept u p w from valid other (paramsOf f 28))
+    (c (eqb code 0x05) _ _ (logo-kept u p w from valid other (num 3 f 29))
+    (served-kept u p w from valid other (findLogin p from) refl code f _ w))))
+
+-- an open exchange stands at the login of its address
+inner-place : (k i j : ℕ) (g : Found) → onFound g (λ n. Open k n) (NoExchange k) ≡ Open i j → k ≡ i
+inner-place k i j (At n) e = cc
+inner-place k i j Nothing e = let z : _≡_ {A = ℕ} 0 1 = cc in absurd (omega arith)
+
+outer-place : (p : Port) (x i j : ℕ) (g : Found) → onFound g (λ k. onFound (findExchange (loginAt p k) x) (λ n. Open k n) (NoExchange k)) NoLogin ≡ Open i j → g ≡ At i
+outer-place p x i j (At k) e = ap At (inner-place k i j (findExchange (loginAt p k) x) e)
+outer-place p x i j Nothing e = let z : _≡_ {A = ℕ} 0 1 = cc in absurd (omega arith)
+
+pub open-place : (p : Port) (a x i j : ℕ) → lookupOf p a x ≡ Open i j → findLogin p a ≡ At i
+unfolding lookupOf
+open-place p a x i j e = outer-place p x i j (findLogin p a) e
+
+aborted-kept : (u : Unit) (p : Port) (from ox rx : ℕ) (s : Standing) → lookupOf p from ox ≡ s → wellFormed u p ≡ true → wellFormed u (abortedAt s rx p .port) ≡ true
+unfolding withExchange
+aborted-kept u p from ox rx NoLogin e w = w
+aborted-kept u p from ox rx (NoExchange i) e w = port-cond u (eqb rx 0xffff) _ _ w w
+aborted-kept u p from ox rx (Open i j) e w = port-cond u (eqb rx 0xffff) _ _ ended w
+  where
+    used : isUsed (loginAt p i) ≡ true
+    used = found-used p from i (open-place p from ox i j e)
+
+    ended : wellFormed u (withLogin p i (endedAt (loginAt p i) j)) ≡ true
+    ended = update-kept u p w i (endedAt (loginAt p i) j) refl refl (λ f. used-fine {l = endedAt (loginAt p i) j} used (end-used (fine-used used f) j))
+
+-- nor does an ABTS
+pub abts-kept : (u : Unit) (p : Port) (from ox rx : ℕ) → wellFormed u p ≡ true → wellFormed u (abtsOf p from ox rx .port) ≡ true
+unfolding abtsOf
+abts-kept u p from ox rx w = aborted-kept u p from ox rx (lookupOf p from ox) refl w
