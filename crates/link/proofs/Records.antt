@@ -8,7 +8,7 @@ use lib.ListN.{length, getD}
 use borrow.Author.Tests.{not-true}
 use Rattle.tables.specs.declared.Found.{Found}
 use Rattle.tables.specs.declared.Found.the-variants.{At, Nothing}
-use Rattle.tables.specs.Lists.{onFound, all, pairs}
+use Rattle.tables.specs.Lists.{onFound, pairs}
 use Rattle.tables.proofs.Searches.{found-below, found-passes, found-lowest, missed}
 use Rattle.tables.proofs.Keeping.{all-at}
 use Rattle.state.specs.declared.Login.{Login}

@@ -9,8 +9,8 @@ use lib.Dec.{eqb}
 use lib.ListN.{length, getD, set}
 use borrow.Author.Tests.{eqb-true, eq-eqb, ne-eqb}
 use Rattle.tables.specs.declared.Found.the-variants.{At}
-use Rattle.tables.specs.Lists.{firstFrom, first, onFound, all, pairs}
-use Rattle.tables.proofs.Bools.{and-left, and-right, and-both, apart}
+use Rattle.tables.specs.Lists.{firstFrom, onFound, all, pairs}
+use Rattle.tables.proofs.Bools.{and-left, and-right, and-both}
 use Rattle.tables.proofs.Keeping.{all-at}
 use Rattle.state.specs.declared.Login.{Login}
 use Rattle.state.specs.declared.Port.{Port}
