@@ -1,3 +1,7 @@
 pub mod Ways
 pub mod Exactly
 pub mod Keeping
+pub mod Seen
+pub mod Records
+pub mod Services
+pub mod Requests
