@@ -69,12 +69,6 @@ pub enum Event {
 }
 
 impl Drive {
-    pub const LOGINS: usize = 8;
-
-    pub const PLACES: usize = 8;
-
-    pub const MOST_BLOCKS: u64 = 4294967295;
-
     // A drive with no logins, or refusal 8 and the drive that is all zeros.
     pub fn new(setup: Setup) -> Answer
         ensures { λ r. ⌜ r ≡ newAnswer setup ⌝ }
