@@ -302,9 +302,10 @@ def plogi_tests():
     for name, pair, changes in WORD_TESTS:
         link("plogi-" + name, login(0x01, **changes), rjt(pair), ". 02P:0101")  # the old login is gone
         link("plogi", login(0x01), login_acc, "01p 02P:0101")
-    for name, w18, kept in (("256", "0100", "0100"), ("2112", "0840", "0840"), ("4352", "1100", "0100")):  # "low 12 bits"
-        size = bytes.fromhex(w18)
-        link("plogi-w18-" + name, login(0x01, w2=size, w18=size, w17=b"\x80", w19=b"\x7E", w20=b"\x03"), login_acc, "01p 02P:0101")
+    # "low 12 bits"; the size that is kept is W18's
+    for name, w2, w18, kept in (("256", "0840", "0100", "0100"), ("2112", "0100", "0840", "0840"), ("4352", "F840", "1100", "0100")):
+        sizes = {"w2": bytes.fromhex(w2), "w18": bytes.fromhex(w18)}
+        link("plogi-w18-" + name, login(0x01, **sizes, w17=b"\x80", w19=b"\x7E", w20=b"\x03"), login_acc, "01p 02P:0101")
         keeps("kept-w18-" + name, 0, "01" "01" "00" "29" "7E" "03" + kept + "00000001 2000525400120001 1000525400120001")
     link("plogi-again", login(0x02), login_acc, "01p 02p")  # ends its exchanges and its pairing
     keeps("kept-again", 1, "01" "01" "00" "29" "FF" "01" "0840" "00000002 2000525400120002 1000525400120002")
@@ -440,7 +441,6 @@ def headers():
     """Reply headers: "addresses swapped, OX_ID echoed, RX_ID FFFFh, the rest 0 but for" R_CTL, TYPE, F_CTL and SEQ_ID."""
     other = {"seq_id": 0xA7, "rx_id": 0x4567, "reserved": 0x5C, "offset": 0x89ABCDEF}  # none of these is in a reply
     fresh("01")
-    port, node = names_of(0x01)
     for name, payload, reply, after in (
             ("rjt", "0E000000", rjt("0B,00"), "01p"), ("plogi", login(0x01)[24:].hex(), login_acc, "01p"),
             ("adisc", adisc(0x01)[24:].hex(), adisc_acc, "01p"), ("prli", prli(0x01)[24:].hex(), prli_acc, "01P"),
@@ -451,8 +451,27 @@ def headers():
     link("header-lowest", frame(0x01, 0x0000, bytes.fromhex("0E000000")), rjt("0B,00"), "")
 
 
+def unnamed():
+    """Bytes of which 01 says nothing are not tested: all ones in them, and for PLOGI all zeros too."""
+    fresh()
+    ones, zeros = bytearray(b"\x03" + b"\xFF" * 115), bytearray(b"\x03" + bytes(115))
+    for p, w2, w17, w19, w20 in ((ones, "F840", 0xFF, 0xFF, 0xFF), (zeros, "0100", 0x80, 0x01, 0x01)):
+        p[10:12], p[20:28], p[28:36] = bytes.fromhex(w2), PORT, NODE
+        p[68], p[74:76], p[77], p[81] = w17, bytes.fromhex(w2), w19, w20
+    link("unnamed-plogi-ones", frame(0x01, 0x0201, bytes(ones)), login_acc, "01p")
+    keeps("kept-ones", 0, "01" "01" "00" "29" "FF" "FF" "0840" "00000001 2000525400120001 1000525400120001")
+    link("unnamed-plogi-zeros", frame(0x01, 0x0202, bytes(zeros)), login_acc, "01p")
+    keeps("kept-zeros", 0, "01" "01" "00" "29" "01" "01" "0100" "00000001 2000525400120001 1000525400120001")
+    ones[0] = 0x50
+    link("unnamed-pdisc", frame(0x01, 0x0301, bytes(ones)), login_acc, "01p")
+    link("unnamed-adisc", frame(0x01, 0x0401, b"\x52" + b"\xFF" * 7 + PORT + NODE + bytes.fromhex("FF000001")), adisc_acc, "01p")
+    link("unnamed-rrq", frame(0x01, 0x0601, bytes.fromhex("12FFFFFFFF0000010101") + b"\xFF" * 34), acc, "01p")
+    link("unnamed-abts", frame(0x01, 0x0101, b"\xFF" * 8, r_ctl=0x81, kind=0x00), ba_acc, "01p")
+    link("unnamed-logo", frame(0x01, 0x0501, bytes.fromhex("05FFFFFFFF000001") + b"\xFF" * 8), acc, "")
+
+
 for part in (a_linux_host, other_codes_and_sizes, no_login, plogi_tests, places, verified, other_names, pairing, logo_and_rrq,
-             aborts, headers):
+             aborts, headers, unnamed):
     part()
 
 STDIN, STDOUT = b"".join(records), "".join(text + "\n" for text in lines).encode()
