@@ -1,0 +1,480 @@
+#!/usr/bin/env python3
+"""The vectors of the link layer: requests, and the answer and the table of logins that document 01 asks for after each.
+
+Usage: tests/vectors.py stdin | stdout
+
+Nothing here comes from a run of the program. Each answer is put together by hand from the sentence of document 01 ("01")
+that stands beside it; the program `vectors` reads the records and must write these lines. 003 has the header's layout,
+000 and 004 those of the payloads.
+"""
+import sys
+
+# the drive
+
+OWN = bytes.fromhex("0000EF")  # 01, Setup: "own address"; upper bytes 0000h, EFh is a loop address
+
+
+def accept_words():
+    """Words 1 to 28 of the login accept: each byte is its own place in the payload, so that no two can be swapped unseen."""
+    w = bytearray(range(116))
+    w[10:12] = bytes.fromhex("F840")  # W2/B2-3: low 12 bits 840h = 2,112
+    w[68] = 0xC4  # W17 bit 31 set
+    w[74:76] = bytes.fromhex("1800")  # W18/B2-3: low 12 bits 800h = 2,048
+    w[81] = 0x01  # 01, Setup: "with W20/B1 = 01h (004)"; W19/B1 is byte 77, 4Dh
+    return bytes(w[4:])
+
+
+WORDS = accept_words()
+OWN_PORT = bytes.fromhex("1415161718191A1B")  # W5-6 of these words
+OWN_NODE = bytes.fromhex("1C1D1E1F20212223")  # W7-8
+
+# the replies
+
+
+def head(r_ctl, to, kind, f_ctl, seq_id, ox_id):
+    """01: "24 bytes: R_CTL, D_ID(3), reserved, S_ID(3), TYPE, F_CTL(3), SEQ_ID, DF_CTL, SEQ_CNT(2), OX_ID(2), RX_ID(2), OFFSET(4)" (003)."""
+    return b"".join((
+        bytes.fromhex(r_ctl),
+        bytes([0, 0, to]),  # "addresses swapped": D_ID is the sender
+        bytes(1),  # reserved: "the rest 0"
+        OWN,  # S_ID is the drive
+        bytes.fromhex(kind),
+        bytes.fromhex(f_ctl),
+        bytes([seq_id]),
+        bytes(1),  # DF_CTL: "the rest 0"
+        bytes(2),  # SEQ_CNT: "the rest 0"
+        ox_id.to_bytes(2, "big"),
+        bytes.fromhex("FFFF"),  # "RX_ID FFFFh"
+        bytes(4),  # OFFSET: "the rest 0"
+    ))
+
+
+def answer(f, payload):
+    """01: "ACC, LS_RJT | 23 01 | 990000 | FF", "OX_ID echoed"."""
+    return head("23", sender(f), "01", "990000", 0xFF, ox_of(f)) + payload
+
+
+def acc(f):
+    return answer(f, bytes.fromhex("02000000"))  # "ACC of 4 bytes"
+
+
+def login_acc(f):
+    return answer(f, bytes.fromhex("02000000") + WORDS)  # "ACC is 02 00 00 00 and the setup words"; "PDISC's is PLOGI's"
+
+
+def adisc_acc(f):
+    # "ADISC ACC: 02 00 00 00, own address, own names, own address"; W1 and W6 are a zero byte and the address (000)
+    return answer(f, bytes.fromhex("02000000") + bytes(1) + OWN + OWN_PORT + OWN_NODE + bytes(1) + OWN)
+
+
+def prli_acc(f):
+    # "ACC 02 10 00 14, 08 00 21 00, two zero words, 00 00 00 12"
+    return answer(f, bytes.fromhex("02100014" "08002100" "00000000" "00000000" "00000012"))
+
+
+def prlo_acc(f):
+    # "ACC 02 10 00 14, 08 00 01 00, three zero words"
+    return answer(f, bytes.fromhex("02100014" "08000100" "00000000" "00000000" "00000000"))
+
+
+def rjt(pair):
+    """01: "LS_RJT is 01 00 00 00, then 00, reason, explanation, 00"."""
+    return lambda f: answer(f, bytes.fromhex("01000000" "00") + bytes.fromhex(pair.replace(",", "")) + bytes(1))
+
+
+def logout(f):
+    """01: "LOGO by the drive, OX_ID = destination address | 22 01 | 290000 | 00"; "05 00 00 00, own address, own port name"."""
+    return head("22", sender(f), "01", "290000", 0x00, sender(f)) + bytes.fromhex("05000000") + bytes(1) + OWN + OWN_PORT
+
+
+def ba_acc(f):
+    # "BA_ACC, BA_RJT | 84, 85 00 | 990000 | the ABTS's"; "BA_ACC 00000000, OX_ID, FFFF, 0000, FFFF"
+    return (head("84", sender(f), "00", "990000", f[12], ox_of(f))
+            + bytes.fromhex("00000000") + ox_of(f).to_bytes(2, "big") + bytes.fromhex("FFFF" "0000" "FFFF"))
+
+
+def ba_rjt(f):
+    return head("85", sender(f), "00", "990000", f[12], ox_of(f)) + bytes.fromhex("00030300")  # "BA_RJT 00 03 03 00"
+
+
+def sender(f):
+    return f[7]
+
+
+def ox_of(f):
+    return f[16] * 256 + f[17]
+
+
+# the requests
+
+# What the Linux initiator libfc sends (kernel 6.1) from address 01h, its D_ID set to this drive's.
+LIBFC = {name: bytes.fromhex(text) for name, text in {
+    "plogi": "220000EF0000000101290000000000000100FFFF00000000" "030000002020000A8000084000FF001F000007D0"
+             "20005254001200011000525400120001" + "00" * 32 + "880000000000084000FF000000010000" + "00" * 32,
+    "prli": "220000EF0000000101290000000000000101FFFF00000000" "20100014080020000000000000000000000001A2",
+    "rtv": "220000EF0000000101290000000000000102FFFF00000000" "0E000000",
+    "adisc": "220000EF000000010129000000000000010CFFFF00000000" "52000000000000002000525400120001100052540012000100000001",
+    "rec": "220000EF000000010129000000000000010EFFFF00000000" "1300000000000001010DFFFF",
+    "abts": "810000EF000000010009000001000000010DFFFF00000000",
+    "rrq12": "220000EF000000010129000000000000010FFFFF00000000" "1200000000000001010DFFFF",
+    "rrq": "220000EF0000000101290000000000000110FFFF00000000" "1200000000000001010DFFFF" + "00" * 32,
+    "logo": "220000EF0000000101290000000000000116FFFF00000000" "05000000000000012000525400120001",
+}.items()}
+
+PORT, NODE = bytes.fromhex("2000525400120001"), bytes.fromhex("1000525400120001")  # libfc's names
+
+
+def frame(host, ox_id, payload, r_ctl=0x22, kind=0x01, seq_id=0x00, rx_id=0xFFFF, reserved=0x00, offset=0):
+    return (bytes([r_ctl]) + OWN + bytes([reserved, 0, 0, host, kind]) + bytes.fromhex("290000") + bytes([seq_id, 0, 0, 0])
+            + ox_id.to_bytes(2, "big") + rx_id.to_bytes(2, "big") + offset.to_bytes(4, "big") + payload)
+
+
+def names_of(host):
+    """The names of the host at an address: libfc's with the address in the last byte."""
+    return PORT[:7] + bytes([host]), NODE[:7] + bytes([host])
+
+
+def login(host, code=0x03, ox_id=0x0200, **changes):
+    """A PLOGI, or with code 50h a PDISC: libfc's payload with the host's names and these changes."""
+    p = bytearray(LIBFC["plogi"][24:])
+    p[0] = code
+    p[20:28], p[28:36] = names_of(host)
+    for field, value in changes.items():
+        at = {"w2": 10, "port": 20, "node": 28, "w17": 68, "w18": 74, "w19": 77, "w20": 81}[field]
+        p[at:at + len(value)] = value
+    return frame(host, ox_id, bytes(p))
+
+
+def pdisc(host, **changes):
+    return login(host, 0x50, 0x0300, **changes)
+
+
+def adisc(host, port=None, node=None, named=None):
+    # W2-3 port name, W4-5 node name, W6/B1-3 address (000)
+    port, node = port or names_of(host)[0], node or names_of(host)[1]
+    return frame(host, 0x0400, bytes.fromhex("5200000000000000") + port + node + bytes([0, 0, 0, named or host]))
+
+
+def logo(host, named=None):
+    return frame(host, 0x0500, bytes.fromhex("0500000000") + bytes([0, 0, named or host]) + names_of(host)[0])
+
+
+def rrq(host, ox_id, named=None):
+    # W1/B1-3 address, W2/B0-1 OX_ID (000)
+    return frame(host, 0x0600, bytes.fromhex("1200000000") + bytes([0, 0, named or host]) + ox_id.to_bytes(2, "big") + bytes(34))
+
+
+def prli(host, payload="20100014080020000000000000000000000001A2"):
+    return frame(host, 0x0700, bytes.fromhex(payload))
+
+
+def prlo(host, payload="2110001408000000000000000000000000000000"):
+    return frame(host, 0x0800, bytes.fromhex(payload))
+
+
+def abts(host, ox_id, rx_id=0xFFFF, seq_id=0x00):
+    return frame(host, ox_id, b"", r_ctl=0x81, kind=0x00, rx_id=rx_id, seq_id=seq_id)
+
+
+# the lines
+
+records, lines = [], []
+
+
+def record(letter, body):
+    records.append(letter.encode() + len(body).to_bytes(2, "big") + body)
+
+
+def line(name, letter, body, says):
+    record("n", name.encode() + b" ")
+    record(letter, body)
+    lines.append(name + " " + says)
+
+
+def table(text):
+    """The eight places: those that are not written are free."""
+    places = text.split()
+    return " ".join(places + ["."] * (8 - len(places)))
+
+
+def link(name, f, reply, after):
+    """A frame, the reply to it, and the table after it."""
+    line(name, "f", f, reply(f).hex().upper() + " " + table(after))
+
+
+def fresh(after=""):
+    """A drive without logins; then each host named logs in."""
+    line("setup", "s", OWN + WORDS, "- " + table(""))
+    so_far = ""
+    for host in bytes.fromhex(after):
+        so_far += " %02Xp" % host
+        link("plogi", login(host), login_acc, so_far)
+
+
+def event(name, letter, after):
+    line(name, letter, b"", "- " + table(after))
+
+
+def opens(place, ox_id, after):
+    """An exchange opens at a login; the link layer opens none by itself."""
+    line("open", "x", bytes([place]) + ox_id.to_bytes(2, "big"), "- " + table(after))
+
+
+def keeps(name, place, says):
+    line(name, "l", bytes([place]), says)
+
+
+def a_linux_host():
+    """libfc's requests in the order of a session."""
+    fresh()
+    link("libfc-plogi", LIBFC["plogi"], login_acc, "01p")
+    # "keeps address, names, W18 size, W19/B1, W20/B1, proven, unpaired, attention 29h"
+    keeps("libfc-kept", 0, "01" "01" "00" "29" "FF" "01" "0840" "00000001 2000525400120001 1000525400120001")
+    link("libfc-prli", LIBFC["prli"], prli_acc, "01P")
+    link("libfc-rtv", LIBFC["rtv"], rjt("0B,00"), "01P")  # "other code 0B,00"
+    opens(0, 0x010D, "01P:010D")
+    link("libfc-rec", LIBFC["rec"], rjt("0B,00"), "01P:010D")
+    link("libfc-adisc", LIBFC["adisc"], adisc_acc, "01P:010D")
+    link("libfc-rrq-of-12", LIBFC["rrq12"], rjt("03,00"), "01P:010D")  # "wrong size 03,00": RRQ 44
+    link("libfc-rrq-open", LIBFC["rrq"], rjt("03,17"), "01P:010D")  # "that OX_ID open 03,17"
+    link("libfc-abts", LIBFC["abts"], ba_acc, "01P")  # "the sender's exchange of that OX_ID, if any, ends"
+    link("libfc-rrq", LIBFC["rrq"], acc, "01P")  # "else ACC of 4 bytes"
+    link("libfc-logo", LIBFC["logo"], acc, "")  # "Ends the login if any; ACC of 4 bytes"
+
+
+def other_codes_and_sizes():
+    """"Order: other code 0B,00; wrong size 03,00; no login (PLOGI and LOGO excepted) a drive LOGO"."""
+    fresh("01")
+    for code in (0x00, 0x01, 0x02, 0x04, 0x06, 0x0F, 0x11, 0x13, 0x22, 0x24, 0x51, 0x53, 0xFF):
+        for host, size in ((0x01, 116), (0x02, 4)):  # with a login and without, of any size
+            link("code-%02X" % code, frame(host, 0x0900 + code, bytes([code]) + bytes(size - 1)), rjt("0B,00"), "01p")
+    sizes = {0x03: 116, 0x05: 16, 0x12: 44, 0x20: 20, 0x21: 20, 0x50: 116, 0x52: 28}  # "Codes and payload sizes"
+    for code, size in sizes.items():
+        for wrong in (4, size - 4, size + 4):
+            for host in (0x01, 0x02):  # size is looked at before the login; a PLOGI "of right size" only ends the login
+                link("size-%02X-%d" % (code, wrong), frame(host, 0x0A00 + code, bytes([code]) + bytes(wrong - 1)), rjt("03,00"), "01p")
+
+
+def no_login():
+    """"no login (PLOGI and LOGO excepted) a drive LOGO"; "ABTS: no login, drive LOGO"."""
+    fresh("02")
+    for host in (0x01, 0xE8):
+        link("no-login-pdisc", pdisc(host), logout, "02p")
+        link("no-login-adisc", adisc(host), logout, "02p")
+        link("no-login-prli", prli(host), logout, "02p")
+        link("no-login-prli-ill", prli(host, "20" + "00" * 19), logout, "02p")  # before the service's own tests
+        link("no-login-prlo", prlo(host), logout, "02p")
+        link("no-login-rrq", rrq(host, 0x0101), logout, "02p")
+        link("no-login-abts", abts(host, 0x0101), logout, "02p")
+        link("no-login-abts-rx-id", abts(host, 0x0101, rx_id=0x0000), logout, "02p")
+        link("no-login-logo", logo(host), acc, "02p")  # "Ends the login if any"
+
+
+# "Tests in word order", each with its pair and, for the order, a second fault in the word after it
+ZERO, LOW = bytes(8), bytes(1)
+WORD_TESTS = (
+    ("w2-0", "03,0F", {"w2": bytes.fromhex("0000")}),
+    ("w2-252", "03,0F", {"w2": bytes.fromhex("00FC")}),
+    ("w2-258", "03,0F", {"w2": bytes.fromhex("0102")}),
+    ("w2-2116", "03,0F", {"w2": bytes.fromhex("0844")}),
+    ("w2-port", "03,0F", {"w2": bytes.fromhex("F000"), "port": ZERO}),
+    ("port", "03,0D", {"port": ZERO}),
+    ("port-node", "03,0D", {"port": ZERO, "node": ZERO}),
+    ("node", "03,0E", {"node": ZERO}),
+    ("node-w17", "03,0E", {"node": ZERO, "w17": LOW}),
+    ("w17", "03,01", {"w17": bytes.fromhex("7F")}),
+    ("w17-w18", "03,01", {"w17": LOW, "w18": bytes(2)}),
+    ("w18-252", "03,07", {"w18": bytes.fromhex("00FC")}),
+    ("w18-258", "03,07", {"w18": bytes.fromhex("0102")}),
+    ("w18-2116", "03,07", {"w18": bytes.fromhex("0844")}),
+    ("w18-w19", "03,07", {"w18": bytes(2), "w19": LOW}),
+    ("w19", "03,09", {"w19": LOW}),
+    ("w19-w20", "03,09", {"w19": LOW, "w20": LOW}),
+    ("w20", "03,01", {"w20": LOW}),
+)
+
+
+def plogi_tests():
+    """"Of right size, it ends the sender's login and exchanges first, accepted or not"."""
+    fresh("0102")
+    link("prli", prli(0x02), prli_acc, "01p 02P")
+    opens(1, 0x0101, "01p 02P:0101")
+    for name, pair, changes in WORD_TESTS:
+        link("plogi-" + name, login(0x01, **changes), rjt(pair), ". 02P:0101")  # the old login is gone
+        link("plogi", login(0x01), login_acc, "01p 02P:0101")
+    # "low 12 bits"; the size that is kept is W18's
+    for name, w2, w18, kept in (("256", "0840", "0100", "0100"), ("2112", "0100", "0840", "0840"), ("4352", "F840", "1100", "0100")):
+        sizes = {"w2": bytes.fromhex(w2), "w18": bytes.fromhex(w18)}
+        link("plogi-w18-" + name, login(0x01, **sizes, w17=b"\x80", w19=b"\x7E", w20=b"\x03"), login_acc, "01p 02P:0101")
+        keeps("kept-w18-" + name, 0, "01" "01" "00" "29" "7E" "03" + kept + "00000001 2000525400120001 1000525400120001")
+    link("plogi-again", login(0x02), login_acc, "01p 02p")  # ends its exchanges and its pairing
+    keeps("kept-again", 1, "01" "01" "00" "29" "FF" "01" "0840" "00000002 2000525400120002 1000525400120002")
+    link("plogi-names-low", login(0x01, port=bytes(7) + b"\x01", node=b"\x01" + bytes(7)), login_acc, "01p 02p")  # "not zero"
+    keeps("kept-names-low", 0, "01" "01" "00" "29" "FF" "01" "0840" "00000001 0000000000000001 0100000000000000")
+
+
+def places():
+    """"8 logins at most"; "a free place, else 09,29"; "the lowest free place"; "A freed place is used again"."""
+    fresh("01020408" "0F101718")
+    eight = "01p 02p 04p 08p 0Fp 10p 17p 18p"
+    link("ninth", login(0x1B), rjt("09,29"), eight)
+    link("ninth-w20", login(0x1B, w20=LOW), rjt("03,01"), eight)  # the room test comes last
+    link("ninth-pdisc", pdisc(0x1B), logout, eight)
+    link("full-member", login(0x08), login_acc, eight)  # a full table takes its own member's new login
+    link("full-pdisc", pdisc(0x18), login_acc, eight)  # "without the room test"
+    link("full-logo", logo(0x0F), acc, "01p 02p 04p 08p . 10p 17p 18p")
+    link("freed-place", login(0x1B), login_acc, "01p 02p 04p 08p 1Bp 10p 17p 18p")
+    link("full-rejected", login(0x10, w19=LOW), rjt("03,09"), "01p 02p 04p 08p 1Bp . 17p 18p")
+    link("logo", logo(0x02), acc, "01p . 04p 08p 1Bp . 17p 18p")
+    link("lowest-free", login(0x1D), login_acc, "01p 1Dp 04p 08p 1Bp . 17p 18p")
+    link("logo", logo(0x01), acc, ". 1Dp 04p 08p 1Bp . 17p 18p")
+    link("moves-down", login(0x18), login_acc, "18p 1Dp 04p 08p 1Bp . 17p")  # its old place is free and is not the lowest
+    fresh("01")
+    link("one-port-name", login(0x02, port=names_of(0x01)[0]), login_acc, "01p 02p")  # "not compared between addresses"
+    link("one-name", login(0x04, port=names_of(0x01)[0], node=names_of(0x01)[1]), login_acc, "01p 02p 04p")
+
+
+def verified():
+    """PDISC and ADISC after a loop reset: "marks every login unproven"; "ACC marks the login proven and changes nothing else"."""
+    fresh("0102")
+    link("prli", prli(0x01), prli_acc, "01P 02p")
+    opens(0, 0x0101, "01P:0101 02p")
+    for name, f, reply in (("pdisc", pdisc(0x01), login_acc), ("adisc", adisc(0x01), adisc_acc),
+                           ("pdisc-other-sizes", pdisc(0x01, w2=b"\x01\x00", w18=b"\x02\x00", w19=b"\x09", w20=b"\x08"), login_acc)):
+        event("reset", "r", "01U:0101 02u")
+        link("reset-" + name, f, reply, "01P:0101 02u")
+        keeps("kept-" + name, 0, "01" "01" "01" "29" "FF" "01" "0840" "00000001 2000525400120001 1000525400120001")
+    event("reset", "r", "01U:0101 02u")
+    for name, pair, changes in WORD_TESTS:  # "PDISC then tests as PLOGI, .. changing nothing on reject"
+        if not changes.keys() & {"port", "node"}:
+            link("pdisc-" + name, pdisc(0x01, **changes), rjt(pair), "01U:0101 02u")
+    keeps("kept-rejected", 0, "01" "00" "01" "29" "FF" "01" "0840" "00000001 2000525400120001 1000525400120001")
+    link("reset-logo", logo(0x02), acc, "01U:0101")
+    link("reset-plogi", login(0x02), login_acc, "01U:0101 02p")
+    event("verification-over", "v", ". 02p")
+    event("power-on", "o", "")
+
+
+def other_names():
+    """"Names differ from the login's, or ADISC W6/B1-3 from S_ID: drive LOGO, login ended"."""
+    fresh("0201")
+    link("prli", prli(0x01), prli_acc, "02p 01P")
+    opens(1, 0x0101, "02p 01P:0101")
+    port, node = names_of(0x01)
+    first, last = b"\x21" + port[1:], node[:7] + b"\x02"
+    for name, f in (("pdisc-port", pdisc(0x01, port=first)), ("pdisc-node", pdisc(0x01, node=last)),
+                    ("pdisc-zero-port", pdisc(0x01, port=ZERO)), ("pdisc-zero-node", pdisc(0x01, node=ZERO)),
+                    ("pdisc-swapped", pdisc(0x01, port=node, node=port)), ("pdisc-port-w2", pdisc(0x01, w2=bytes(2), port=first)),
+                    ("adisc-port", adisc(0x01, port=first)), ("adisc-node", adisc(0x01, node=last)),
+                    ("adisc-swapped", adisc(0x01, port=node, node=port)), ("adisc-address", adisc(0x01, named=0x02))):
+        link(name, f, logout, "02p")
+        link("plogi", login(0x01), login_acc, "02p 01p")
+        event("reset", "r", "02u 01u")
+        link(name + "-unproven", f, logout, "02u")
+        link("plogi", login(0x01), login_acc, "02u 01p")
+        link("pdisc", pdisc(0x02), login_acc, "02p 01p")
+
+
+def pairing():
+    """"B1-3 = 10 00 14 and W1/B0 = 08h, else 09,00. PRLI also needs W1/B2 bit 5 and, in W4, bits 5 and 1"."""
+    fresh("0102")
+    faults = (("b1", "11001408002000" + "00" * 8), ("b2", "10011408002000" + "00" * 8), ("b3", "10001808002000" + "00" * 8),
+              ("type", "10001409002000" + "00" * 8), ("type-0", "10001400002000" + "00" * 8))
+    for name, middle in faults:
+        link("prli-" + name, prli(0x01, "20" + middle + "00000022"), rjt("09,00"), "01p 02p")
+    for name, rest in (("pair-bit", "0800DF00" + "00" * 8 + "FFFFFFFF"), ("w4-bit-5", "08002000" + "00" * 8 + "FFFFFFDF"),
+                       ("w4-bit-1", "08002000" + "00" * 8 + "FFFFFFFD"), ("w4-high", "08002000" + "00" * 8 + "22222200")):
+        link("prli-" + name, prli(0x01, "20100014" + rest), rjt("09,00"), "01p 02p")
+    link("prli-just", prli(0x01, "2010001408002000" + "00" * 8 + "00000022"), prli_acc, "01P 02p")
+    link("prli-all", prli(0x02, "2010001408FFFFFF" + "FF" * 12), prli_acc, "01P 02P")
+    keeps("kept-paired", 0, "01" "01" "01" "29" "FF" "01" "0840" "00000001 2000525400120001 1000525400120001")
+    opens(0, 0x0101, "01P:0101 02P")
+    opens(0, 0x0102, "01P:0101:0102 02P")
+    opens(1, 0x0101, "01P:0101:0102 02P:0101")
+    link("prli-again", prli(0x01), prli_acc, "01P:0101:0102 02P:0101")  # "ends nothing"
+    link("prli-rejected", prli(0x01, "20" + "00" * 19), rjt("09,00"), "01P:0101:0102 02P:0101")
+    for name, middle in faults:
+        link("prlo-" + name, prlo(0x01, "21" + middle + "00000000"), rjt("09,00"), "01P:0101:0102 02P:0101")
+    link("prlo", prlo(0x01), prlo_acc, "01p 02P:0101")  # "ends the pairing and its exchanges"
+    link("prlo-again", prlo(0x01, "2110001408" + "FF" * 15), prlo_acc, "01p 02P:0101")
+    link("prli-after-prlo", prli(0x01), prli_acc, "01P 02P:0101")
+
+
+def logo_and_rrq():
+    """LOGO: "W1/B1-3 must equal S_ID, else 03,1F". RRQ: "W1/B1-3 not S_ID 03,15; that OX_ID open 03,17; else ACC of 4 bytes"."""
+    fresh("0102")
+    link("prli", prli(0x01), prli_acc, "01P 02p")
+    opens(0, 0x0101, "01P:0101 02p")
+    opens(0, 0x8102, "01P:0101:8102 02p")
+    link("logo-other", logo(0x01, named=0x02), rjt("03,1F"), "01P:0101:8102 02p")
+    link("logo-other-no-login", logo(0x04, named=0x02), rjt("03,1F"), "01P:0101:8102 02p")
+    link("rrq-other", rrq(0x01, 0x0103, named=0x02), rjt("03,15"), "01P:0101:8102 02p")
+    link("rrq-other-open", rrq(0x01, 0x0101, named=0x02), rjt("03,15"), "01P:0101:8102 02p")
+    link("rrq-open", rrq(0x01, 0x8102), rjt("03,17"), "01P:0101:8102 02p")
+    link("rrq-closed", rrq(0x01, 0x0102), acc, "01P:0101:8102 02p")
+    link("rrq-unpaired", rrq(0x02, 0x0103), acc, "01P:0101:8102 02p")
+    link("logo-ends", logo(0x01), acc, ". 02p")
+    link("logo-again", logo(0x01), acc, ". 02p")
+
+
+def aborts():
+    """"ABTS: no login, drive LOGO. RX_ID not FFFFh, BA_RJT. Else the sender's exchange of that OX_ID, if any, ends; BA_ACC"."""
+    fresh("0102")
+    link("abts-unpaired", abts(0x01, 0x0101), ba_acc, "01p 02p")
+    link("prli", prli(0x01), prli_acc, "01P 02p")
+    link("prli", prli(0x02), prli_acc, "01P 02P")
+    opens(0, 0x0101, "01P:0101 02P")
+    opens(0, 0x8102, "01P:0101:8102 02P")
+    opens(1, 0x8102, "01P:0101:8102 02P:8102")
+    for name, rx_id in (("0000", 0x0000), ("FFFE", 0xFFFE), ("00FF", 0x00FF), ("FF00", 0xFF00)):
+        link("abts-rx-id-%s-open" % name, abts(0x01, 0x8102, rx_id, seq_id=0x5A), ba_rjt, "01P:0101:8102 02P:8102")
+        link("abts-rx-id-%s" % name, abts(0x01, 0x8103, rx_id, seq_id=0xA5), ba_rjt, "01P:0101:8102 02P:8102")
+    link("abts-not-open", abts(0x01, 0x8103, seq_id=0x01), ba_acc, "01P:0101:8102 02P:8102")
+    link("abts-open", abts(0x01, 0x8102, seq_id=0xC3), ba_acc, "01P:0101 02P:8102")  # the other login's stays
+    link("abts-again", abts(0x01, 0x8102, seq_id=0xC4), ba_acc, "01P:0101 02P:8102")
+    opens(0, 0x0103, "01P:0101:0103 02P:8102")
+    link("abts-first", abts(0x01, 0x0101), ba_acc, "01P:0103 02P:8102")
+    opens(0, 0x0104, "01P:0104:0103 02P:8102")  # the freed place is the lowest
+
+
+def headers():
+    """Reply headers: "addresses swapped, OX_ID echoed, RX_ID FFFFh, the rest 0 but for" R_CTL, TYPE, F_CTL and SEQ_ID."""
+    other = {"seq_id": 0xA7, "rx_id": 0x4567, "reserved": 0x5C, "offset": 0x89ABCDEF}  # none of these is in a reply
+    fresh("01")
+    for name, payload, reply, after in (
+            ("rjt", "0E000000", rjt("0B,00"), "01p"), ("plogi", login(0x01)[24:].hex(), login_acc, "01p"),
+            ("adisc", adisc(0x01)[24:].hex(), adisc_acc, "01p"), ("prli", prli(0x01)[24:].hex(), prli_acc, "01P"),
+            ("prlo", prlo(0x01)[24:].hex(), prlo_acc, "01p"), ("pdisc", pdisc(0x01)[24:].hex(), login_acc, "01p"),
+            ("logo", logo(0x01)[24:].hex(), acc, ""), ("logout", prli(0x01)[24:].hex(), logout, "")):
+        link("header-" + name, frame(0x01, 0x8123, bytes.fromhex(payload), **other), reply, after)
+    link("header-highest", frame(0xE8, 0xFFFF, bytes.fromhex("0E000000")), rjt("0B,00"), "")
+    link("header-lowest", frame(0x01, 0x0000, bytes.fromhex("0E000000")), rjt("0B,00"), "")
+
+
+def unnamed():
+    """Bytes of which 01 says nothing are not tested: all ones in them, and for PLOGI all zeros too."""
+    fresh()
+    ones, zeros = bytearray(b"\x03" + b"\xFF" * 115), bytearray(b"\x03" + bytes(115))
+    for p, w2, w17, w19, w20 in ((ones, "F840", 0xFF, 0xFF, 0xFF), (zeros, "0100", 0x80, 0x01, 0x01)):
+        p[10:12], p[20:28], p[28:36] = bytes.fromhex(w2), PORT, NODE
+        p[68], p[74:76], p[77], p[81] = w17, bytes.fromhex(w2), w19, w20
+    link("unnamed-plogi-ones", frame(0x01, 0x0201, bytes(ones)), login_acc, "01p")
+    keeps("kept-ones", 0, "01" "01" "00" "29" "FF" "FF" "0840" "00000001 2000525400120001 1000525400120001")
+    link("unnamed-plogi-zeros", frame(0x01, 0x0202, bytes(zeros)), login_acc, "01p")
+    keeps("kept-zeros", 0, "01" "01" "00" "29" "01" "01" "0100" "00000001 2000525400120001 1000525400120001")
+    ones[0] = 0x50
+    link("unnamed-pdisc", frame(0x01, 0x0301, bytes(ones)), login_acc, "01p")
+    link("unnamed-adisc", frame(0x01, 0x0401, b"\x52" + b"\xFF" * 7 + PORT + NODE + bytes.fromhex("FF000001")), adisc_acc, "01p")
+    link("unnamed-rrq", frame(0x01, 0x0601, bytes.fromhex("12FFFFFFFF0000010101") + b"\xFF" * 34), acc, "01p")
+    link("unnamed-abts", frame(0x01, 0x0101, b"\xFF" * 8, r_ctl=0x81, kind=0x00), ba_acc, "01p")
+    link("unnamed-logo", frame(0x01, 0x0501, bytes.fromhex("05FFFFFFFF000001") + b"\xFF" * 8), acc, "")
+
+
+for part in (a_linux_host, other_codes_and_sizes, no_login, plogi_tests, places, verified, other_names, pairing, logo_and_rrq,
+             aborts, headers, unnamed):
+    part()
+
+STDIN, STDOUT = b"".join(records), "".join(text + "\n" for text in lines).encode()
+
+if __name__ == "__main__":
+    sys.stdout.buffer.write({"stdin": STDIN, "stdout": STDOUT}[sys.argv[1]])
