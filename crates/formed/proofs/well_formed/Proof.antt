@@ -1,21 +1,22 @@
 -- `formed::well_formed` meets its contract: each test that was made is one of the definition. Assumes nothing.
 use mathlib.Core.Path.{sym, _∙_}
 use Rattle.formed.specs.Formed.{wellFormed}
+use Rattle.formed.proofs.Keys.{logins-are}
 use borrow.Author.Needs.{needs}
 use Rattle.formed.proofs.well_formed.Statement.{statement}
 use Rattle.formed.proofs.well_formed.Tie as tie
 
 returns : tie.Need-returns
 unfolding wellFormed
-returns c = rw (sym (c .before .before .before .before .setup-rules .ensures) ∙ c .before .before .before .if1 .taken, sym (c .before .before .logins-fine .ensures) ∙ c .before .if2 .taken) (c .addresses-apart .ensures)
+returns c =
+    let s = c .before .before .before in
+    let a = s .before .before .before .args in
+    rw (sym (s .setup-rules .ensures) ∙ c .before .before .if1 .taken)
+    (logins-are (a .u .capacity) (a .p .address) (a .p .logins) (c .before .login-keys .ensures) (c .keys-fine .ensures))
 
 returns-2 : tie.Need-returns-2
 unfolding wellFormed
-returns-2 c = rw (sym (c .before .before .before .setup-rules .ensures) ∙ c .before .before .if1 .taken, sym (c .before .logins-fine .ensures) ∙ c .if2 .left)
-
-returns-3 : tie.Need-returns-3
-unfolding wellFormed
-returns-3 c = rw (sym (c .before .setup-rules .ensures) ∙ c .if1 .left)
+returns-2 c = rw (sym (c .before .setup-rules .ensures) ∙ c .if1 .left)
 
 pub well-formed-spec : {M : Type 1} → statement M
 well-formed-spec =
@@ -25,5 +26,4 @@ well-formed-spec =
     (λ c κs. search needs)
     (λ c κs. search needs)
     returns
-    returns-2
-    returns-3)
+    returns-2)
