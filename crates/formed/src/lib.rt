@@ -45,7 +45,14 @@ pub fn well_formed(u: Unit, p: Port) -> bool
     let accept = p.accept;
     let t = p.logins;
     if setup_rules(u.capacity, p.address, accept) {
-        let k = login_keys(t, u.capacity, p.address);
+        let mut k = [0; 8];
+        let mut i: usize = 0;
+        while i < 8 {
+            let l = t[i];
+            let n = login_key(u.capacity, p.address, l);
+            k[i] = n;
+            i += 1;
+        }
         keys_fine(k)
     } else {
         false
@@ -338,18 +345,4 @@ fn login_key(capacity: u64, own: u32, l: Login) -> u64
     let fine = login_fine(capacity, own, l);
     let free = is_free(l);
     key_of(fine, free, l.address)
-}
-
-fn login_keys(t: [Login; 8], capacity: u64, own: u32) -> [u64; 8]
-    ensures { λ r. ⌜ r ≡ map (loginKey capacity own) t ⌝ }
-{
-    let mut k = [0; 8];
-    let mut i: usize = 0;
-    while i < 8 {
-        let l = t[i];
-        let n = login_key(capacity, own, l);
-        k[i] = n;
-        i += 1;
-    }
-    k
 }
