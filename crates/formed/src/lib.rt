@@ -13,11 +13,13 @@ use state::is_free;
 ghost use mathlib.Core.Path.{_≡_};
 ghost use Prim.Native.Nat.{_≤_, _<_, _%_};
 ghost use mathlib.Core.Bool.{_&&_, _||_};
+ghost use mathlib.Core.List.{map};
 ghost use lib.Dec.{leb, eqb};
 ghost use lib.ListN.{drop};
-ghost use Rattle.tables.specs.Lists.{all, pairs};
+ghost use Rattle.tables.specs.Lists.{all};
 ghost use Rattle.state.specs.Tables.{isClosed};
-ghost use Rattle.formed.specs.Formed.{setupRules, fullFrame, total, readFits, wantedFits, sentFits, exchangeFine, apartId, paramsFine, flagsFine, addressFine, usedFine, loginFine, apartAddress, wellFormed};
+ghost use Rattle.formed.specs.Formed.{setupRules, fullFrame, total, readFits, wantedFits, sentFits, exchangeFine, paramsFine, flagsFine, addressFine, usedFine, loginFine, wellFormed};
+ghost use Rattle.formed.specs.Keys.{keyOf, apartKey, keyFine, keysFine, exchangeKey, loginKey};
 
 // Whether a setup keeps its rules.
 pub fn setup_rules(capacity: u64, address: u32, accept: [u8; 112]) -> bool
@@ -43,11 +45,15 @@ pub fn well_formed(u: Unit, p: Port) -> bool
     let accept = p.accept;
     let t = p.logins;
     if setup_rules(u.capacity, p.address, accept) {
-        if logins_fine(t, u.capacity, p.address) {
-            addresses_apart(t)
-        } else {
-            false
+        let mut k = [0; 8];
+        let mut i: usize = 0;
+        while i < 8 {
+            let l = t[i];
+            let n = login_key(u.capacity, p.address, l);
+            k[i] = n;
+            i += 1;
         }
+        keys_fine(k)
     } else {
         false
     }
@@ -160,20 +166,87 @@ fn exchange_fine(capacity: u64, full: u32, paired: u8, e: Exchange) -> bool
     }
 }
 
-fn exchanges_fine(t: [Exchange; 8], capacity: u64, full: u32, paired: u8) -> bool
-    requires { ⌜ (0 < full) × (full ≤ 2048) ⌝ }
-    ensures { λ r. ⌜ r ≡ all (exchangeFine capacity full paired) t ⌝ }
+// The key of a place of a table: 0 where it is not fine, 1 where it is free, and from 2 on the number that it is known by.
+// A table is read once, for its keys, and the test of each two places is made on these.
+fn key_of(fine: bool, free: bool, id: u32) -> u64
+    ensures { λ r. ⌜ r ≡ keyOf fine free id ⌝ }
 {
-    let mut i: usize = 0;
+    if fine {
+        if free { 1 } else { 2 + id as u64 }
+    } else {
+        0
+    }
+}
+
+fn apart_key(k: u64, n: u64) -> bool
+    ensures { λ r. ⌜ r ≡ apartKey k n ⌝ }
+{
+    if k == 1 { true } else { k != n }
+}
+
+// Whether a key is apart from those of the places from a place on.
+fn key_alone(t: [u64; 8], k: u64, from: usize) -> bool
+    requires { ⌜ from < 9 ⌝ }
+    ensures { λ r. ⌜ r ≡ all (apartKey k) (drop from t) ⌝ }
+{
+    let mut i = from;
     while i < 8 {
-        let e = t[i];
-        if exchange_fine(capacity, full, paired, e) {
+        let n = t[i];
+        if apart_key(k, n) {
             i += 1;
         } else {
             return false;
         }
     }
     true
+}
+
+// Whether a key is that of a place that is fine, and apart from those of the places from a place on.
+fn key_fine(t: [u64; 8], k: u64, from: usize) -> bool
+    requires { ⌜ from < 9 ⌝ }
+    ensures { λ r. ⌜ r ≡ keyFine k (drop from t) ⌝ }
+{
+    if k == 0 { false } else { key_alone(t, k, from) }
+}
+
+fn keys_fine(t: [u64; 8]) -> bool
+    ensures { λ r. ⌜ r ≡ keysFine t ⌝ }
+{
+    let mut i: usize = 0;
+    while i < 8 {
+        let k = t[i];
+        let from = i + 1;
+        if key_fine(t, k, from) {
+            i += 1;
+        } else {
+            return false;
+        }
+    }
+    true
+}
+
+fn exchange_key(capacity: u64, full: u32, paired: u8, e: Exchange) -> u64
+    requires { ⌜ (0 < full) × (full ≤ 2048) ⌝ }
+    ensures { λ r. ⌜ r ≡ exchangeKey capacity full paired e ⌝ }
+{
+    let fine = exchange_fine(capacity, full, paired, e);
+    let free = is_closed(e);
+    key_of(fine, free, e.ox_id as u32)
+}
+
+fn exchange_keys(t: [Exchange; 8], capacity: u64, full: u32, paired: u8) -> [u64; 8]
+    requires { ⌜ (0 < full) × (full ≤ 2048) ⌝ }
+    ensures { λ r. ⌜ r ≡ map (exchangeKey capacity full paired) t ⌝ }
+{
+    let mut k = [0; 8];
+    let mut i: usize = 0;
+    while i < 8 {
+        let e = t[i];
+        let n = exchange_key(capacity, full, paired, e);
+        k[i] = n;
+        i += 1;
+    }
+    k
 }
 
 fn all_closed(t: [Exchange; 8]) -> bool
@@ -183,51 +256,6 @@ fn all_closed(t: [Exchange; 8]) -> bool
     while i < 8 {
         let e = t[i];
         if is_closed(e) {
-            i += 1;
-        } else {
-            return false;
-        }
-    }
-    true
-}
-
-fn apart_id(e: Exchange, f: Exchange) -> bool
-    ensures { λ r. ⌜ r ≡ apartId e f ⌝ }
-{
-    if is_closed(e) {
-        return true;
-    }
-    if is_closed(f) {
-        return true;
-    }
-    e.ox_id != f.ox_id
-}
-
-// Whether an exchange's OX_ID is apart from those of the places from a place on.
-fn id_alone(t: [Exchange; 8], e: Exchange, from: usize) -> bool
-    requires { ⌜ from < 9 ⌝ }
-    ensures { λ r. ⌜ r ≡ all (apartId e) (drop from t) ⌝ }
-{
-    let mut i = from;
-    while i < 8 {
-        let f = t[i];
-        if apart_id(e, f) {
-            i += 1;
-        } else {
-            return false;
-        }
-    }
-    true
-}
-
-fn ids_apart(t: [Exchange; 8]) -> bool
-    ensures { λ r. ⌜ r ≡ pairs apartId t ⌝ }
-{
-    let mut i: usize = 0;
-    while i < 8 {
-        let e = t[i];
-        let k = i + 1;
-        if id_alone(t, e, k) {
             i += 1;
         } else {
             return false;
@@ -293,9 +321,8 @@ fn used_fine(capacity: u64, own: u32, l: Login) -> bool
     if flags_fine(l) {
         if address_fine(own, l) {
             if params_fine(l) {
-                if exchanges_fine(t, capacity, full, paired) {
-                    return ids_apart(t);
-                }
+                let k = exchange_keys(t, capacity, full, paired);
+                return keys_fine(k);
             }
         }
     }
@@ -312,62 +339,10 @@ fn login_fine(capacity: u64, own: u32, l: Login) -> bool
     if l.used == 0 { all_closed(t) } else { false }
 }
 
-fn logins_fine(t: [Login; 8], capacity: u64, own: u32) -> bool
-    ensures { λ r. ⌜ r ≡ all (loginFine capacity own) t ⌝ }
+fn login_key(capacity: u64, own: u32, l: Login) -> u64
+    ensures { λ r. ⌜ r ≡ loginKey capacity own l ⌝ }
 {
-    let mut i: usize = 0;
-    while i < 8 {
-        let l = t[i];
-        if login_fine(capacity, own, l) {
-            i += 1;
-        } else {
-            return false;
-        }
-    }
-    true
-}
-
-fn apart_address(l: Login, m: Login) -> bool
-    ensures { λ r. ⌜ r ≡ apartAddress l m ⌝ }
-{
-    if is_free(l) {
-        return true;
-    }
-    if is_free(m) {
-        return true;
-    }
-    l.address != m.address
-}
-
-// Whether a login's address is apart from those of the places from a place on.
-fn address_alone(t: [Login; 8], l: Login, from: usize) -> bool
-    requires { ⌜ from < 9 ⌝ }
-    ensures { λ r. ⌜ r ≡ all (apartAddress l) (drop from t) ⌝ }
-{
-    let mut i = from;
-    while i < 8 {
-        let m = t[i];
-        if apart_address(l, m) {
-            i += 1;
-        } else {
-            return false;
-        }
-    }
-    true
-}
-
-fn addresses_apart(t: [Login; 8]) -> bool
-    ensures { λ r. ⌜ r ≡ pairs apartAddress t ⌝ }
-{
-    let mut i: usize = 0;
-    while i < 8 {
-        let l = t[i];
-        let k = i + 1;
-        if address_alone(t, l, k) {
-            i += 1;
-        } else {
-            return false;
-        }
-    }
-    true
+    let fine = login_fine(capacity, own, l);
+    let free = is_free(l);
+    key_of(fine, free, l.address)
 }

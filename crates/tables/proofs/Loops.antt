@@ -66,30 +66,49 @@ module _ {A : Type 0} {z : A} {whole : Bool} {q : A → List A → Bool} {xs : L
   pub test-out : n ≤ i → true ≡ whole
   test-out h = sym (left-out len s h)
 
--- f of each element, stored where the element stood: ys is the table now, and whole what it is to be
-pub record Mapped {A : Type 0} (z : A) (f : A → A) (whole ys : List A) (n i : ℕ) : Type 0 where
+-- f of each element of xs, stored at the element's place in ys: ys is that table now, and whole what it is to be
+pub record Filled {A B : Type 0} (z : A) (f : A → B) (whole ys : List B) (xs : List A) (n i : ℕ) : Type 0 where
   pub bound : i ≤ n
   pub long : length ys ≡ n
-  pub rest : whole ≡ take i ys ++ map f (drop i ys)
+  pub rest : whole ≡ take i ys ++ map f (drop i xs)
+
+module _ {A B : Type 0} {z : A} {f : A → B} {n : ℕ} {xs : List A} where
+  pub fill-starts : {ys : List B} → length ys ≡ n → Filled z f (map f xs) ys xs n 0
+  fill-starts len = record { bound = omega arith; long = len; rest = refl }
+
+  module _ {whole ys : List B} {i : ℕ} (len : length xs ≡ n) (s : Filled z f whole ys xs n i) where
+    pub fill-on : {y : B} → i < n → y ≡ f (getD xs i z) → Filled z f whole (set ys i y) xs n (i + 1)
+    fill-on {y} h e =
+        let l : i < length xs = rw len h in
+        let m : i < length ys = rw (s .long) h in
+        record {
+          bound = omega arith;
+          long = length-set ys i y ∙ s .long;
+          rest = s .rest ∙ rw (add-one, drop-cons xs i z l, take-suc-set ys i y m, e, append-assoc);
+        }
+
+    pub fill-out : n ≤ i → ys ≡ whole
+    fill-out h =
+        let l : length xs ≤ i = rw len h in
+        let m : length ys ≤ i = rw (s .long) h in
+        sym (s .rest ∙ rw (take-all i ys m, drop-of-length-le xs l, append-nil))
+
+-- the same where the element stood
+abbrev pub Mapped : {A : Type 0} → A → (A → A) → List A → List A → ℕ → ℕ → Type 0
+Mapped z f whole ys n i = Filled z f whole ys ys n i
 
 module _ {A : Type 0} {z : A} {f : A → A} {n : ℕ} where
   pub map-starts : {ys : List A} → length ys ≡ n → Mapped z f (map f ys) ys n 0
-  map-starts len = record { bound = omega arith; long = len; rest = refl }
+  map-starts len = fill-starts len
 
   module _ {whole ys : List A} {i : ℕ} (s : Mapped z f whole ys n i) where
     pub map-on : {y : A} → i < n → y ≡ f (getD ys i z) → Mapped z f whole (set ys i y) n (i + 1)
     map-on {y} h e =
-        let l : i < length ys = rw (s .long) h in
-        record {
-          bound = omega arith;
-          long = length-set ys i y ∙ s .long;
-          rest = s .rest ∙ rw (add-one, drop-cons ys i z l, take-suc-set ys i y l, drop-set-lt (suc i) ys i y (le-refl (suc i)), e, append-assoc);
-        }
+        let r = fill-on (s .long) s h e in
+        record { bound = r .bound; long = r .long; rest = r .rest ∙ rw (add-one, drop-set-lt (suc i) ys i y (le-refl (suc i))) }
 
     pub map-out : n ≤ i → ys ≡ whole
-    map-out h =
-        let l : length ys ≤ i = rw (s .long) h in
-        sym (s .rest ∙ rw (take-all i ys l, drop-of-length-le ys l, append-nil))
+    map-out h = fill-out (s .long) s h
 
 -- two lists of numbers, compared place by place
 abbrev pub Compared : Bool → List ℕ → List ℕ → ℕ → ℕ → Type 0

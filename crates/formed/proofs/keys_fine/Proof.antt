@@ -1,18 +1,16 @@
--- `formed::addresses_apart` meets its contract: the loop of a test at each place, by the laws of one. Assumes nothing.
+-- `formed::keys_fine` meets its contract: the loop of a test at each place, by the laws of one. Assumes nothing.
 use Prim.Native.Nat.{_-_}
 use mathlib.Core.Path.{_≡_, refl}
 use native.Mathlib.Omega.{arith}
 use lib.ListN.{length}
 use borrow.Author.Needs.{needs}
-use Rattle.tables.specs.Lists.{all, pairs}
 use Rattle.tables.proofs.Loops.{Tested, test-on, test-fails, test-out}
-use Rattle.state.specs.Changes.{noLogin}
-use Rattle.formed.specs.Formed.{apartAddress}
-use Rattle.formed.proofs.addresses_apart.Statement.{statement}
-use Rattle.formed.proofs.addresses_apart.Tie as tie
+use Rattle.formed.specs.Keys.{keyFine, keysFine}
+use Rattle.formed.proofs.keys_fine.Statement.{statement}
+use Rattle.formed.proofs.keys_fine.Tie as tie
 
 abbrev Inv-loop : tie.InvT-loop
-Inv-loop t i₀ i = Tested noLogin (pairs apartAddress t) (λ l rest. all (apartAddress l) rest) t 8 i
+Inv-loop t i₀ i = Tested 0 (keysFine t) keyFine t 8 i
 
 abbrev μ-loop : tie.MeasureT-loop
 μ-loop t i₀ i = 8 - i
@@ -22,19 +20,19 @@ len c = search needs
 
 loop-again : tie.Need-loop-again Inv-loop μ-loop
 loop-again c =
-    let t = c .before .before .before in
-    test-on (len (t .before .before)) (t .before .loop .inv) (t .loop-test .taken) (c .before .address-alone .ensures) (c .if1 .taken)
+    let t = c .before .before in
+    test-on (len (t .before .before)) (t .before .loop .inv) (t .loop-test .taken) (c .before .key-fine .ensures) (c .if1 .taken)
 
 returns : tie.Need-returns Inv-loop μ-loop
 returns c =
-    let t = c .before .before .before in
-    test-fails (len (t .before .before)) (t .before .loop .inv) (t .loop-test .taken) (c .before .address-alone .ensures) (c .if1 .left)
+    let t = c .before .before in
+    test-fails (len (t .before .before)) (t .before .loop .inv) (t .loop-test .taken) (c .before .key-fine .ensures) (c .if1 .left)
 
 returns-2 : tie.Need-returns-2 Inv-loop μ-loop
 returns-2 c = test-out (len (c .before .before)) (c .before .loop .inv) (c .loop-test .left)
 
-pub addresses-apart-spec : {M : Type 1} → statement M
-addresses-apart-spec =
+pub keys-fine-spec : {M : Type 1} → statement M
+keys-fine-spec =
     tie.close
     (tie.spec
     Inv-loop

@@ -1,4 +1,4 @@
--- `formed::address_alone` meets its contract: the loop of a test at each place, by the laws of one. Assumes nothing.
+-- `formed::key_alone` meets its contract: the loop of a test at each place, by the laws of one. Assumes nothing.
 use Prim.Native.Nat.{_-_}
 use mathlib.Core.Path.{_≡_, refl}
 use native.Mathlib.Omega.{arith}
@@ -6,35 +6,34 @@ use lib.ListN.{length, drop}
 use borrow.Author.Needs.{needs}
 use Rattle.tables.specs.Lists.{all}
 use Rattle.tables.proofs.Loops.{Tested, test-on, test-fails, test-out}
-use Rattle.state.specs.Changes.{noLogin}
-use Rattle.formed.specs.Formed.{apartAddress}
-use Rattle.formed.proofs.address_alone.Statement.{statement}
-use Rattle.formed.proofs.address_alone.Tie as tie
+use Rattle.formed.specs.Keys.{apartKey}
+use Rattle.formed.proofs.key_alone.Statement.{statement}
+use Rattle.formed.proofs.key_alone.Tie as tie
 
 abbrev Inv-loop : tie.InvT-loop
-Inv-loop l from t i₀ i = Tested noLogin (all (apartAddress l) (drop from t)) (λ m _. apartAddress l m) t 8 i
+Inv-loop k from t i₀ i = Tested 0 (all (apartKey k) (drop from t)) (λ n _. apartKey k n) t 8 i
 
 abbrev μ-loop : tie.MeasureT-loop
-μ-loop l from t i₀ i = 8 - i
+μ-loop k from t i₀ i = 8 - i
 
 len : (c : tie.Start Inv-loop μ-loop) → length (c .args .t1) ≡ 8
 len c = search needs
 
 loop-again : tie.Need-loop-again Inv-loop μ-loop
 loop-again c =
-    let t = c .before .before .before in
-    test-on (len (t .before .before)) (t .before .loop .inv) (t .loop-test .taken) (c .before .apart-address .ensures) (c .if1 .taken)
+    let t = c .before .before in
+    test-on (len (t .before .before)) (t .before .loop .inv) (t .loop-test .taken) (c .before .apart-key .ensures) (c .if1 .taken)
 
 returns : tie.Need-returns Inv-loop μ-loop
 returns c =
-    let t = c .before .before .before in
-    test-fails (len (t .before .before)) (t .before .loop .inv) (t .loop-test .taken) (c .before .apart-address .ensures) (c .if1 .left)
+    let t = c .before .before in
+    test-fails (len (t .before .before)) (t .before .loop .inv) (t .loop-test .taken) (c .before .apart-key .ensures) (c .if1 .left)
 
 returns-2 : tie.Need-returns-2 Inv-loop μ-loop
 returns-2 c = test-out (len (c .before .before)) (c .before .loop .inv) (c .loop-test .left)
 
-pub address-alone-spec : {M : Type 1} → statement M
-address-alone-spec =
+pub key-alone-spec : {M : Type 1} → statement M
+key-alone-spec =
     tie.close
     (tie.spec
     Inv-loop
