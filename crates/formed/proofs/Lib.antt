@@ -3,3 +3,4 @@ pub mod Sizes
 pub mod Parts
 pub mod Keeping
 pub mod Advance
+pub mod Clauses
