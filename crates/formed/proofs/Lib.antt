@@ -4,3 +4,4 @@ pub mod Parts
 pub mod Keeping
 pub mod Advance
 pub mod Keys
+pub mod Clauses
