@@ -47,7 +47,7 @@ pub fn well_formed(u: Unit, p: Port) -> bool
     if setup_rules(u.capacity, p.address, accept) {
         let mut k = [0; 8];
         let mut i: usize = 0;
-        while i < 8 {
+        while i < Port::LOGINS {
             let l = t[i];
             let n = login_key(u.capacity, p.address, l);
             k[i] = n;
@@ -240,7 +240,7 @@ fn exchange_keys(t: [Exchange; 8], capacity: u64, full: u32, paired: u8) -> [u64
 {
     let mut k = [0; 8];
     let mut i: usize = 0;
-    while i < 8 {
+    while i < Login::PLACES {
         let e = t[i];
         let n = exchange_key(capacity, full, paired, e);
         k[i] = n;
@@ -253,7 +253,7 @@ fn all_closed(t: [Exchange; 8]) -> bool
     ensures { λ r. ⌜ r ≡ all isClosed t ⌝ }
 {
     let mut i: usize = 0;
-    while i < 8 {
+    while i < Login::PLACES {
         let e = t[i];
         if is_closed(e) {
             i += 1;

@@ -166,7 +166,7 @@ pub fn find_login(p: Port, address: u32) -> Found
 {
     let t = p.logins;
     let mut i: usize = 0;
-    while i < 8 {
+    while i < Port::LOGINS {
         let l = t[i];
         if has_address(l, address) {
             return Found::At(i);
@@ -182,7 +182,7 @@ pub fn free_login(p: Port) -> Found
 {
     let t = p.logins;
     let mut i: usize = 0;
-    while i < 8 {
+    while i < Port::LOGINS {
         let l = t[i];
         if is_free(l) {
             return Found::At(i);
@@ -198,7 +198,7 @@ pub fn find_exchange(l: Login, ox_id: u16) -> Found
 {
     let t = l.places;
     let mut i: usize = 0;
-    while i < 8 {
+    while i < Login::PLACES {
         let e = t[i];
         if has_id(e, ox_id) {
             return Found::At(i);
@@ -214,7 +214,7 @@ pub fn free_exchange(l: Login) -> Found
 {
     let t = l.places;
     let mut i: usize = 0;
-    while i < 8 {
+    while i < Login::PLACES {
         let e = t[i];
         if is_closed(e) {
             return Found::At(i);
@@ -276,7 +276,7 @@ pub fn empty_login() -> Login
 pub fn login_at(p: Port, i: usize) -> Login
     ensures { λ r. ⌜ r ≡ loginAt p i ⌝ }
 {
-    if i < 8 {
+    if i < Port::LOGINS {
         let t = p.logins;
         t[i]
     } else {
@@ -288,7 +288,7 @@ pub fn login_at(p: Port, i: usize) -> Login
 pub fn exchange_at(l: Login, j: usize) -> Exchange
     ensures { λ r. ⌜ r ≡ exchangeAt l j ⌝ }
 {
-    if j < 8 {
+    if j < Login::PLACES {
         let t = l.places;
         t[j]
     } else {
@@ -300,7 +300,7 @@ pub fn exchange_at(l: Login, j: usize) -> Exchange
 pub fn put_login(p: Port, i: usize, l: Login) -> Port
     ensures { λ r. ⌜ r ≡ withLogin p i l ⌝ }
 {
-    if i < 8 {
+    if i < Port::LOGINS {
         let mut q = p;
         q.logins[i] = l;
         q
@@ -313,7 +313,7 @@ pub fn put_login(p: Port, i: usize, l: Login) -> Port
 pub fn put_exchange(l: Login, j: usize, e: Exchange) -> Login
     ensures { λ r. ⌜ r ≡ withExchange l j e ⌝ }
 {
-    if j < 8 {
+    if j < Login::PLACES {
         let mut m = l;
         m.places[j] = e;
         m
@@ -360,7 +360,7 @@ pub fn set_attention(l: Login, attention: u8) -> Login
     m
 }
 
-// What a change makes of one login; a free place stays as it is.
+// What a change makes of one login. A free place stays free.
 pub fn changed(l: Login, c: Change) -> Login
     ensures { λ r. ⌜ r ≡ changedOf c l ⌝ }
 {
@@ -379,7 +379,7 @@ pub fn change_all(p: Port, c: Change) -> Port
 {
     let mut t = p.logins;
     let mut i: usize = 0;
-    while i < 8 {
+    while i < Port::LOGINS {
         let l = t[i];
         let m = changed(l, c);
         t[i] = m;
