@@ -11,8 +11,7 @@ use lib.Dec.{eqb, leb, ltb}
 use borrow.Author.Tests.{le-leb, lt-leb, leb-true, eqb-true, eq-eqb}
 use Rattle.tables.proofs.Bools.{and-left, and-right}
 use Rattle.state.specs.declared.Exchange.{Exchange}
-use Rattle.state.specs.Changes.{advanced}
-use Rattle.state.specs.Tables.{isClosed}
+use Rattle.state.specs.Changes.{advanced, isClosed}
 use Rattle.formed.specs.Formed.{total, framesOf, readFits, wantedFits, openable, sentFits, exchangeFine}
 
 -- "A frame carries the login's W18 size, 2,048 at most, or what is left"

@@ -16,9 +16,9 @@ use Rattle.state.specs.declared.Login.{Login}
 use Rattle.state.specs.declared.Port.{Port}
 use Rattle.state.specs.declared.Unit.{Unit}
 use Rattle.state.specs.declared.Change.{Change}
-use Rattle.state.specs.declared.Change.the-variants.{EndLogin, Unprove, EndUnproven, EndExchangesOf, EndExchanges}
-use Rattle.state.specs.Changes.{emptyExchange, emptyLogin, isUsed, loginAt, exchangeAt, withLogin, withLogins, withState, withProven, withPaired, withAttention, withPlaces, withExchange, withoutExchanges, hasAddress, endedOf, unproven, verified, abortedOf, changedOf, changedAll, poweredOn}
-use Rattle.state.specs.Tables.{isFree, isClosed, hasId, findExchange}
+use Rattle.state.specs.declared.Change.the-variants.{EndLogin, Unprove, EndUnproven, EndExchangesOf, Reset, Clear}
+use Rattle.state.specs.Changes.{emptyExchange, emptyLogin, isUsed, loginAt, exchangeAt, withLogin, withLogins, withState, withProven, withPaired, withAttention, withPlaces, withExchange, withoutExchanges, hasAddress, endedOf, unproven, verified, abortedOf, resetOf, losesTo, clearedBy, changedOf, changedAll, poweredOn, isClosed}
+use Rattle.state.specs.Tables.{isFree, hasId, findExchange}
 use Rattle.formed.specs.Formed.{fullFrame, openable, sentFits, exchangeFine, apartId, paramsFine, flagsFine, addressFine, loginFine, apartAddress, wellFormed}
 use Rattle.formed.proofs.Parts.{Used, fine-used, used-fine, Formed, formed-parts, formed-whole}
 
@@ -213,12 +213,13 @@ module _ {l : Login} where
   itself = same refl refl
 
 like : (c : Change) (l : Login) → Like l (changedOf c l)
-unfolding endedOf unproven verified abortedOf withoutExchanges
+unfolding endedOf unproven verified abortedOf resetOf clearedBy withoutExchanges
 like (EndLogin a) l = like-cond (hasAddress a l) gone itself
 like Unprove l = like-cond (isUsed l) (same refl refl) itself
 like EndUnproven l = like-cond (isUsed l) (like-cond (eqb (l .proven) 1) itself gone) itself
 like (EndExchangesOf a) l = like-cond (hasAddress a l) (same refl refl) itself
-like EndExchanges l = same refl refl
+like Reset l = like-cond (isUsed l) (same refl refl) itself
+like (Clear a) l = like-cond (isUsed l) (like-cond (losesTo a l) (same refl refl) (same refl refl)) itself
 
 like-apart : {l k m n : Login} → Like l k → Like m n → apartAddress l m ≡ true → apartAddress k n ≡ true
 unfolding apartAddress
@@ -236,13 +237,21 @@ module _ (capacity own : ℕ) where
   without-step l true h e = used-fine {l = withoutExchanges l} h (without-used (fine-used h e))
   without-step l false h e = free-fine capacity own l h e
 
+  -- a login that loses its exchanges, with an attention
+  told-fine : (l : Login) (a : ℕ) → anAttention a ≡ true → isUsed l ≡ true → loginFine capacity own l ≡ true → loginFine capacity own (withAttention (withoutExchanges l) a) ≡ true
+  unfolding withoutExchanges
+  told-fine l a n h e = used-fine {l = withAttention (withoutExchanges l) a} h (attention-used (without-used (fine-used h e)) a n)
+
   change-fine : (c : Change) (l : Login) → loginFine capacity own l ≡ true → loginFine capacity own (changedOf c l) ≡ true
-  unfolding endedOf unproven verified abortedOf
+  unfolding endedOf unproven verified abortedOf resetOf clearedBy
   change-fine (EndLogin a) l e = fine-cond (hasAddress a l) emptyLogin l (λ _. empty-fine capacity own) e
   change-fine Unprove l e = fine-cond (isUsed l) (withProven l 0) l (λ h. used-fine {l = withProven l 0} h (proven-used (fine-used h e) 0 refl)) e
   change-fine EndUnproven l e = fine-cond (isUsed l) (cond (eqb (l .proven) 1) l emptyLogin) l (λ _. fine-cond (eqb (l .proven) 1) l emptyLogin (λ _. e) (empty-fine capacity own)) e
   change-fine (EndExchangesOf a) l e = fine-cond (hasAddress a l) (withoutExchanges l) l (λ _. without-step l (isUsed l) refl e) e
-  change-fine EndExchanges l e = without-step l (isUsed l) refl e
+  change-fine Reset l e = fine-cond (isUsed l) (withAttention (withoutExchanges l) 0x29) l (λ h. told-fine l 0x29 refl h e) e
+  change-fine (Clear a) l e =
+      fine-cond (isUsed l) (cond (losesTo a l) (withAttention (withoutExchanges l) 0x2f) (withoutExchanges l)) l
+      (λ h. fine-cond (losesTo a l) (withAttention (withoutExchanges l) 0x2f) (withoutExchanges l) (λ _. told-fine l 0x2f refl h e) (without-step l true h e)) e
 
 module _ (u : Unit) (p : Port) (w : wellFormed u p ≡ true) where
   parts : Formed u p

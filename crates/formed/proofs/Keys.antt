@@ -10,7 +10,8 @@ use borrow.Author.Tests.{eq-eqb, ne-eqb}
 use Rattle.tables.specs.Lists.{all, pairs}
 use Rattle.tables.proofs.Bools.{and-left, and-right}
 use Rattle.state.specs.declared.Login.{Login}
-use Rattle.state.specs.Tables.{isFree, isClosed}
+use Rattle.state.specs.Changes.{isClosed}
+use Rattle.state.specs.Tables.{isFree}
 use Rattle.formed.specs.Formed.{fullFrame, exchangeFine, apartId, loginFine, apartAddress}
 use Rattle.formed.specs.Keys.{keyOf, apartKey, keyFine, keysFine, exchangeKey, loginKey}
 

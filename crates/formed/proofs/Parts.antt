@@ -10,8 +10,7 @@ use Rattle.state.specs.declared.Exchange.{Exchange}
 use Rattle.state.specs.declared.Login.{Login}
 use Rattle.state.specs.declared.Port.{Port}
 use Rattle.state.specs.declared.Unit.{Unit}
-use Rattle.state.specs.Changes.{isUsed}
-use Rattle.state.specs.Tables.{isClosed}
+use Rattle.state.specs.Changes.{isUsed, isClosed}
 use Rattle.formed.specs.Formed.{setupRules, fullFrame, exchangeFine, apartId, paramsFine, flagsFine, addressFine, usedFine, loginFine, apartAddress, wellFormed}
 
 -- what is asked of a login that is used

@@ -10,8 +10,8 @@ use Rattle.state.specs.declared.Exchange.{Exchange}
 use Rattle.state.specs.declared.Login.{Login}
 use Rattle.state.specs.declared.Port.{Port}
 use Rattle.state.specs.declared.Unit.{Unit}
-use Rattle.state.specs.Changes.{isUsed}
-use Rattle.state.specs.Tables.{isFree, isClosed}
+use Rattle.state.specs.Changes.{isUsed, isClosed}
+use Rattle.state.specs.Tables.{isFree}
 
 -- "Capacity 1 to 4,294,967,295 blocks of 512 bytes; own address; 28 identity bytes; words 1 to 28 of the login accept, which must pass the PLOGI rules below with W20/B1 = 01h"
 unfoldable pub setupRules : ℕ → ℕ → List ℕ → Bool

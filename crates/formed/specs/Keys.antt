@@ -6,7 +6,8 @@ use lib.Dec.{eqb}
 use Rattle.tables.specs.Lists.{every, all}
 use Rattle.state.specs.declared.Exchange.{Exchange}
 use Rattle.state.specs.declared.Login.{Login}
-use Rattle.state.specs.Tables.{isFree, isClosed}
+use Rattle.state.specs.Changes.{isClosed}
+use Rattle.state.specs.Tables.{isFree}
 use Rattle.formed.specs.Formed.{exchangeFine, loginFine}
 
 -- the key of a place: 0 where it is not fine, 1 where it is free, and from 2 on the number that it is known by

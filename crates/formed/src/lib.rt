@@ -8,6 +8,7 @@ use state::Login;
 use state::Port;
 use state::Setup;
 use state::Unit;
+use state::all_closed;
 use state::is_closed;
 use state::is_free;
 ghost use mathlib.Core.Path.{_≡_};
@@ -17,7 +18,7 @@ ghost use mathlib.Core.List.{map};
 ghost use lib.Dec.{leb, eqb};
 ghost use lib.ListN.{drop};
 ghost use Rattle.tables.specs.Lists.{all};
-ghost use Rattle.state.specs.Tables.{isClosed};
+ghost use Rattle.state.specs.Changes.{isClosed};
 ghost use Rattle.formed.specs.Formed.{setupRules, fullFrame, total, readFits, wantedFits, sentFits, exchangeFine, paramsFine, flagsFine, addressFine, usedFine, loginFine, wellFormed};
 ghost use Rattle.formed.specs.Keys.{keyOf, apartKey, keyFine, keysFine, exchangeKey, loginKey};
 
@@ -247,21 +248,6 @@ fn exchange_keys(t: [Exchange; 8], capacity: u64, full: u32, paired: u8) -> [u64
         i += 1;
     }
     k
-}
-
-fn all_closed(t: [Exchange; 8]) -> bool
-    ensures { λ r. ⌜ r ≡ all isClosed t ⌝ }
-{
-    let mut i: usize = 0;
-    while i < Login::PLACES {
-        let e = t[i];
-        if is_closed(e) {
-            i += 1;
-        } else {
-            return false;
-        }
-    }
-    true
 }
 
 fn flags_fine(l: Login) -> bool

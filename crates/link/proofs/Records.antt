@@ -14,8 +14,8 @@ use Rattle.tables.proofs.Keeping.{all-at}
 use Rattle.state.specs.declared.Login.{Login}
 use Rattle.state.specs.declared.Port.{Port}
 use Rattle.state.specs.declared.Change.{Change}
-use Rattle.state.specs.declared.Change.the-variants.{EndLogin, Unprove, EndUnproven, EndExchangesOf, EndExchanges}
-use Rattle.state.specs.Changes.{emptyLogin, isUsed, hasAddress, loginAt, withLogin, withProven, withoutExchanges, endedOf, unproven, verified, abortedOf, changedOf, changedAll, poweredOn}
+use Rattle.state.specs.declared.Change.the-variants.{EndLogin, Unprove, EndUnproven, EndExchangesOf, Reset, Clear}
+use Rattle.state.specs.Changes.{emptyLogin, isUsed, hasAddress, loginAt, withLogin, withProven, withAttention, withoutExchanges, endedOf, unproven, verified, abortedOf, resetOf, losesTo, clearedBy, changedOf, changedAll, poweredOn}
 use Rattle.state.specs.Tables.{isFree, findLogin, freeLogin}
 use Rattle.formed.specs.Formed.{apartAddress}
 use Rattle.link.specs.Record.{Record, out, held, recordAt, recordOf}
@@ -87,6 +87,22 @@ aborted-shown a b l = step (hasAddress b l)
     step true = without-shown a l
     step false = refl
 
+told-shown : (a n : ℕ) (l : Login) → shown a (withAttention (withoutExchanges l) n) ≡ shown a l
+unfolding withoutExchanges hasAddress
+told-shown a n l = refl
+
+either-shown : (a : ℕ) (b : Bool) (l m k : Login) → shown a m ≡ shown a l → shown a k ≡ shown a l → shown a (cond b m k) ≡ shown a l
+either-shown a true l m k p q = p
+either-shown a false l m k p q = q
+
+reset-shown : (a : ℕ) (l : Login) → shown a (resetOf l) ≡ shown a l
+unfolding resetOf
+reset-shown a l = either-shown a (isUsed l) l _ _ (told-shown a 0x29 l) refl
+
+cleared-shown : (a b : ℕ) (l : Login) → shown a (clearedBy b l) ≡ shown a l
+unfolding clearedBy
+cleared-shown a b l = either-shown a (isUsed l) l _ _ (either-shown a (losesTo b l) l _ _ (told-shown a 0x2f l) (without-shown a l)) refl
+
 -- no login of an address: exactly when its record is `out`
 pub out-missing : (p : Port) (a : ℕ) → recordOf p a ≡ out → findLogin p a ≡ Nothing
 unfolding recordOf
@@ -141,9 +157,13 @@ module _ (p : Port) (d : pairs apartAddress (p .logins) ≡ true) where
   pub abort-record : (b a : ℕ) → recordOf (changedAll (EndExchangesOf b) p) a ≡ recordOf p a
   abort-record b a = changed-record (EndExchangesOf b) a (λ r. r) refl (λ l. aborted-shown a b l)
 
-  -- all exchanges end: no record changes
-  pub abort-all-record : (a : ℕ) → recordOf (changedAll EndExchanges p) a ≡ recordOf p a
-  abort-all-record a = changed-record EndExchanges a (λ r. r) refl (without-shown a)
+  -- target reset: no record changes, for attention and exchanges are no part of it
+  pub target-record : (a : ℕ) → recordOf (changedAll Reset p) a ≡ recordOf p a
+  target-record a = changed-record Reset a (λ r. r) refl (reset-shown a)
+
+  -- nor where the task set is cleared
+  pub clear-record : (b a : ℕ) → recordOf (changedAll (Clear b) p) a ≡ recordOf p a
+  clear-record b a = changed-record (Clear b) a (λ r. r) refl (cleared-shown a b)
 
 -- a login stored where the login of address a stood
 module _ (p : Port) (a i : ℕ) (at : findLogin p a ≡ At i) where

@@ -99,6 +99,20 @@ pub fn abts(p: Port, from: u32, ox_id: u16, rx_id: u16) -> Decided
     }
 }
 
+// A reply with the port after it.
+pub fn decide_as(r: Reply, p: Port) -> Decided
+    ensures { λ d. ⌜ d ≡ decidedAs r p ⌝ }
+{
+    Decided { reply: r, port: p }
+}
+
+// A reply with the login after it.
+pub fn serve_as(r: Reply, l: Login) -> Served
+    ensures { λ d. ⌜ d ≡ servedAs r l ⌝ }
+{
+    Served { reply: r, login: l }
+}
+
 // The payload size of a code, 0 for another code.
 fn size_of(code: u8) -> usize
     ensures { λ r. ⌜ (r ≡ sizeOf code) × (r < 2113) ⌝ }
@@ -301,18 +315,6 @@ fn rrq(l: Login, from: u32, named: u32, ox_id: u16) -> Served
     } else {
         serve_as(Reply::Reject(0x03, 0x15), l)
     }
-}
-
-fn decide_as(r: Reply, p: Port) -> Decided
-    ensures { λ d. ⌜ d ≡ decidedAs r p ⌝ }
-{
-    Decided { reply: r, port: p }
-}
-
-fn serve_as(r: Reply, l: Login) -> Served
-    ensures { λ d. ⌜ d ≡ servedAs r l ⌝ }
-{
-    Served { reply: r, login: l }
 }
 
 // An ACC of this kind, and the login proven.

@@ -4,11 +4,12 @@ use mathlib.Core.Bool.{Bool, cond, not, _&&_}
 use mathlib.Core.List.{List, [], map}
 use lib.Dec.{eqb}
 use lib.ListN.{getD, set, replicate}
+use Rattle.tables.specs.Lists.{all}
 use Rattle.state.specs.declared.Exchange.{Exchange}
 use Rattle.state.specs.declared.Login.{Login}
 use Rattle.state.specs.declared.Port.{Port}
 use Rattle.state.specs.declared.Change.{Change}
-use Rattle.state.specs.declared.Change.the-variants.{EndLogin, Unprove, EndUnproven, EndExchangesOf, EndExchanges}
+use Rattle.state.specs.declared.Change.the-variants.{EndLogin, Unprove, EndUnproven, EndExchangesOf, Reset, Clear}
 
 -- a free place for an exchange
 abbrev pub emptyExchange : Exchange
@@ -123,6 +124,10 @@ advanced e n =
 abbrev pub isUsed : Login → Bool
 isUsed l = eqb (l .used) 1
 
+-- a place for an exchange is free
+abbrev pub isClosed : Exchange → Bool
+isClosed e = eqb (e .kind) 0
+
 -- a login is used and has this address
 unfoldable pub hasAddress : ℕ → Login → Bool
 hasAddress a l = isUsed l && eqb (l .address) a
@@ -143,13 +148,26 @@ verified l = cond (isUsed l) (cond (eqb (l .proven) 1) l emptyLogin) l
 unfoldable pub abortedOf : ℕ → Login → Login
 abortedOf a l = cond (hasAddress a l) (withoutExchanges l) l
 
+-- "20h target reset ends all exchanges and gives every login attention 29h"
+unfoldable pub resetOf : Login → Login
+resetOf l = cond (isUsed l) (withAttention (withoutExchanges l) 0x29) l
+
+-- "after 04h each other login that lost one gets 2Fh unless 29h stands": the login is one of these
+unfoldable pub losesTo : ℕ → Login → Bool
+losesTo from l = not (eqb (l .address) from) && not (all isClosed (l .places)) && not (eqb (l .attention) 0x29)
+
+-- "04h clear task set ends all", sent by this address
+unfoldable pub clearedBy : ℕ → Login → Login
+clearedBy from l = cond (isUsed l) (cond (losesTo from l) (withAttention (withoutExchanges l) 0x2f) (withoutExchanges l)) l
+
 -- what a change makes of one login
 abbrev pub changedOf : Change → Login → Login
 changedOf (EndLogin a) l = endedOf a l
 changedOf Unprove l = unproven l
 changedOf EndUnproven l = verified l
 changedOf (EndExchangesOf a) l = abortedOf a l
-changedOf EndExchanges l = withoutExchanges l
+changedOf Reset l = resetOf l
+changedOf (Clear from) l = clearedBy from l
 
 -- and of every login of a port
 unfoldable pub changedAll : Change → Port → Port

@@ -10,15 +10,11 @@ use Rattle.state.specs.declared.Login.{Login}
 use Rattle.state.specs.declared.Port.{Port}
 use Rattle.state.specs.declared.Standing.{Standing}
 use Rattle.state.specs.declared.Standing.the-variants.{Open, NoExchange, NoLogin}
-use Rattle.state.specs.Changes.{isUsed, hasAddress, loginAt}
+use Rattle.state.specs.Changes.{isUsed, isClosed, hasAddress, loginAt}
 
 -- a place for a login is free
 abbrev pub isFree : Login → Bool
 isFree l = not (isUsed l)
-
--- a place for an exchange is free
-abbrev pub isClosed : Exchange → Bool
-isClosed e = eqb (e .kind) 0
 
 -- an exchange is open and has this OX_ID
 unfoldable pub hasId : ℕ → Exchange → Bool

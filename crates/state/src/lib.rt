@@ -2,9 +2,9 @@
 // Everything stored is an unsigned integer or an array, so that any bytes are a state.
 use tables::Found;
 ghost use mathlib.Core.Path.{_≡_};
-ghost use Rattle.tables.specs.Lists.{Within};
-ghost use Rattle.state.specs.Tables.{isFree, hasId, isClosed, findLogin, freeLogin, findExchange, freeExchange, lookupOf, LookedUp};
-ghost use Rattle.state.specs.Changes.{emptyExchange, emptyLogin, loginAt, exchangeAt, withLogin, withExchange, withoutExchanges, withAttention, advanced, endedAt, hasAddress, endedOf, unproven, verified, abortedOf, changedOf, changedAll, poweredOn};
+ghost use Rattle.tables.specs.Lists.{Within, all};
+ghost use Rattle.state.specs.Tables.{isFree, hasId, findLogin, freeLogin, findExchange, freeExchange, lookupOf, LookedUp};
+ghost use Rattle.state.specs.Changes.{emptyExchange, emptyLogin, loginAt, exchangeAt, withLogin, withExchange, withoutExchanges, withAttention, advanced, endedAt, hasAddress, endedOf, unproven, verified, abortedOf, resetOf, losesTo, clearedBy, changedOf, changedAll, poweredOn, isClosed};
 
 // A place for an open exchange of a login. What it sends is told by kind; a free place has kind 0.
 #[repr(C)]
@@ -120,8 +120,10 @@ pub enum Change {
     EndUnproven,
     // the exchanges of the login of an address end
     EndExchangesOf(u32),
-    // all exchanges end
-    EndExchanges,
+    // target reset: all exchanges end, and every login gets attention 29h
+    Reset,
+    // the task set is cleared by the login of an address: all exchanges end, and each other login that lost one gets attention 2Fh
+    Clear(u32),
 }
 
 // Whether a login is used and has this address.
@@ -158,6 +160,22 @@ pub fn is_closed(e: Exchange) -> bool
     ensures { λ r. ⌜ r ≡ isClosed e ⌝ }
 {
     e.kind == Exchange::FREE
+}
+
+// Whether every place for an exchange is free.
+pub fn all_closed(t: [Exchange; 8]) -> bool
+    ensures { λ r. ⌜ r ≡ all isClosed t ⌝ }
+{
+    let mut i: usize = 0;
+    while i < Login::PLACES {
+        let e = t[i];
+        if is_closed(e) {
+            i += 1;
+        } else {
+            return false;
+        }
+    }
+    true
 }
 
 // The lowest place whose login has this address.
@@ -369,7 +387,8 @@ pub fn changed(l: Login, c: Change) -> Login
         Change::Unprove => unproved(l),
         Change::EndUnproven => kept(l),
         Change::EndExchangesOf(address) => aborted(l, address),
-        Change::EndExchanges => end_exchanges(l),
+        Change::Reset => reset(l),
+        Change::Clear(from) => cleared(l, from),
     }
 }
 
@@ -441,4 +460,44 @@ fn aborted(l: Login, address: u32) -> Login
     } else {
         l
     }
+}
+
+fn reset(l: Login) -> Login
+    ensures { λ r. ⌜ r ≡ resetOf l ⌝ }
+{
+    if l.used == 1 {
+        let m = end_exchanges(l);
+        set_attention(m, Login::RESET)
+    } else {
+        l
+    }
+}
+
+fn cleared(l: Login, from: u32) -> Login
+    ensures { λ r. ⌜ r ≡ clearedBy from l ⌝ }
+{
+    if l.used == 1 {
+        let m = end_exchanges(l);
+        if loses_to(l, from) {
+            set_attention(m, Login::CLEARED)
+        } else {
+            m
+        }
+    } else {
+        l
+    }
+}
+
+// Whether a login is another than the sender's, has an exchange to lose, and no attention 29h that stands.
+fn loses_to(l: Login, from: u32) -> bool
+    ensures { λ r. ⌜ r ≡ losesTo from l ⌝ }
+{
+    let t = l.places;
+    if l.address == from {
+        return false;
+    }
+    if all_closed(t) {
+        return false;
+    }
+    l.attention != Login::RESET
 }

@@ -16,7 +16,10 @@ returns-4 : tie.Need-returns-4
 returns-4 c = rw (c .before .before .c2 .given .1) (c .aborted .ensures)
 
 returns-5 : tie.Need-returns-5
-returns-5 c = rw (c .before .enum-told3 .given .1) (c .end-exchanges .ensures)
+returns-5 c = rw (c .before .enum-told3 .given .1) (c .reset .ensures)
+
+returns-6 : tie.Need-returns-6
+returns-6 c = rw (c .before .before .c3 .given .1) (c .cleared .ensures)
 
 pub changed-spec : {M : Type 1} → statement M
 changed-spec =
@@ -32,8 +35,11 @@ changed-spec =
     (λ c κs. search needs)
     (λ c. search needs)
     (λ c κs. search needs)
+    (λ c. search needs)
+    (λ c κs. search needs)
     returns
     returns-2
     returns-3
     returns-4
-    returns-5)
+    returns-5
+    returns-6)

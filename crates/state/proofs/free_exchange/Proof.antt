@@ -5,8 +5,8 @@ use lib.ListN.{length}
 use borrow.Author.Needs.{needs}
 use Rattle.tables.proofs.Loops.{Searched, search-starts, search-on, search-here, search-out}
 use Rattle.tables.proofs.Searches.{within}
-use Rattle.state.specs.Changes.{emptyExchange}
-use Rattle.state.specs.Tables.{isClosed, freeExchange}
+use Rattle.state.specs.Changes.{emptyExchange, isClosed}
+use Rattle.state.specs.Tables.{freeExchange}
 use Rattle.state.proofs.Shape.{places-8}
 use Rattle.state.proofs.free_exchange.Statement.{statement}
 use Rattle.state.proofs.free_exchange.Tie as tie

@@ -1,4 +1,4 @@
--- `formed::all_closed` meets its contract: the loop of a test at each place, by the laws of one. Assumes nothing.
+-- `state::all_closed` meets its contract: the loop of a test at each place, by the laws of one. Assumes nothing.
 use Prim.Native.Nat.{_-_}
 use mathlib.Core.Path.{_≡_, refl}
 use native.Mathlib.Omega.{arith}
@@ -6,10 +6,9 @@ use lib.ListN.{length}
 use borrow.Author.Needs.{needs}
 use Rattle.tables.specs.Lists.{all}
 use Rattle.tables.proofs.Loops.{Tested, test-on, test-fails, test-out}
-use Rattle.state.specs.Changes.{emptyExchange}
-use Rattle.state.specs.Tables.{isClosed}
-use Rattle.formed.proofs.all_closed.Statement.{statement}
-use Rattle.formed.proofs.all_closed.Tie as tie
+use Rattle.state.specs.Changes.{emptyExchange, isClosed}
+use Rattle.state.proofs.all_closed.Statement.{statement}
+use Rattle.state.proofs.all_closed.Tie as tie
 
 abbrev Inv-loop : tie.InvT-loop
 Inv-loop t i₀ i = Tested emptyExchange (all isClosed t) (λ e _. isClosed e) t 8 i

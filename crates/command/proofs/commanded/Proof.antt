@@ -1,0 +1,39 @@
+-- `command::commanded` meets its contract: a law for each way. Assumes nothing.
+use Rattle.command.proofs.Ways.{commanded-code, commanded-change, commanded-executes}
+use borrow.Author.Needs.{needs}
+use Rattle.command.proofs.commanded.Statement.{statement}
+use Rattle.command.proofs.commanded.Tie as tie
+
+returns : tie.Need-returns
+returns c =
+    let a = c .before .before .before .before .before .args in
+    commanded-code (a .capacity) (a .p) (a .i) (a .h) (a .c) (a .length) _ (c .before .before .before .before .task-of .ensures) _ _ (c .before .before .t .given .1) (c .decide-as .ensures)
+
+returns-2 : tie.Need-returns-2
+returns-2 c =
+    let a = c .before .before .before .before .before .before .args in
+    commanded-change (a .capacity) (a .p) (a .i) (a .h) (a .c) (a .length) _ (c .before .before .before .before .before .task-of .ensures) _ _ _ (c .before .before .before .t2 .given .1) (c .before .change-all .ensures) (c .decide-as2 .ensures)
+
+returns-3 : tie.Need-returns-3
+returns-3 c =
+    let a = c .before .before .before .before .before .before .before .before .args in
+    commanded-executes (a .capacity) (a .p) (a .i) (a .h) (a .c) (a .length) _ (c .before .before .before .before .before .before .before .task-of .ensures) _ _ _ _ (c .before .before .before .before .before .enum-told .given .1) (c .before .before .before .before .login-at .ensures) (c .before .before .before .execute .ensures) (c .before .put-login .ensures) (c .decide-as3 .ensures)
+
+pub commanded-spec : {M : Type 1} → statement M
+commanded-spec =
+    tie.close
+    (tie.spec
+    (λ c κs. search needs)
+    (λ c. search needs)
+    (λ c κs. search needs)
+    (λ c. search needs)
+    (λ c κs. search needs)
+    (λ c κs. search needs)
+    (λ c. search needs)
+    (λ c κs. search needs)
+    (λ c κs. search needs)
+    (λ c κs. search needs)
+    (λ c κs. search needs)
+    returns
+    returns-2
+    returns-3)

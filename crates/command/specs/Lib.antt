@@ -1,0 +1,3 @@
+pub mod Cmnd
+pub mod Tests
+pub mod Command
