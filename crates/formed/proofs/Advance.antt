@@ -9,7 +9,7 @@ use native.Mathlib.Omega.{arith}
 use lib.Arith.{digits-div, digits-mod}
 use lib.Dec.{eqb, leb, ltb}
 use borrow.Author.Tests.{le-leb, lt-leb, leb-true, eqb-true, eq-eqb}
-use Rattle.tables.proofs.Bools.{and-left, and-right}
+use Rattle.tables.proofs.Bools.{and-left, and-right, or-short}
 use Rattle.state.specs.declared.Exchange.{Exchange}
 use Rattle.state.specs.Changes.{advanced, isClosed}
 use Rattle.formed.specs.Formed.{total, framesOf, readFits, wantedFits, openable, sentFits, exchangeFine}
@@ -29,10 +29,6 @@ frames-more : (q full n : ℕ) → 0 < n → n ≤ full → framesOf (q * full +
 frames-more q full n h l =
     let e : q * full + n + (full - 1) ≡ (q + 1) * full + (n - 1) = let d = one-more q full in omega arith in
     ap (λ (m : ℕ). m / full) e ∙ digits-div (q + 1) {m = full} {r = n - 1} (omega arith)
-
-or-short : (a b : Bool) → (a || b) ≡ true → a ≡ false → b ≡ true
-or-short true b e f = let h : true ≡ false = f in cc
-or-short false b e f = e
 
 module _ (full : ℕ) (e : Exchange) (pos : 0 < full) (fits : sentFits full e ≡ true) (short : e .sent < total e) (small : total e < 4294967296) where
   -- what was sent is a whole number of full frames

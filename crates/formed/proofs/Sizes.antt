@@ -1,17 +1,13 @@
 -- A stored size that passes is at least 256, so a full frame has bytes. Assumes nothing.
-use mathlib.Core.Path.{_≡_, refl}
-use mathlib.Core.Bool.{Bool, true, false, not, _&&_, _||_}
+use mathlib.Core.Path.{_≡_}
+use mathlib.Core.Bool.{true, false, not, _&&_, _||_}
 use Prim.Native.Nat.{ℕ, _%_, _≤_}
 use lib.Dec.{eqb, ltb}
 use borrow.Author.Tests.{ltb-false, not-true}
-use Rattle.tables.proofs.Bools.{and-left, and-right}
+use Rattle.tables.proofs.Bools.{and-left, and-right, or-left}
 use Rattle.params.specs.Words.{sizeFails, zeroName}
 use Rattle.state.specs.declared.Login.{Login}
 use Rattle.formed.specs.Formed.{paramsFine}
-
-or-left : (a b : Bool) → (a || b) ≡ false → a ≡ false
-or-left true b e = e
-or-left false b e = refl
 
 pub size-least : (n : ℕ) → sizeFails n ≡ false → 256 ≤ n
 unfolding sizeFails

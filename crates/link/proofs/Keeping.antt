@@ -41,7 +41,7 @@ use Rattle.link.specs.declared.Outcome.the-variants.{Place, Rejected}
 use Rattle.link.specs.Link.{sizeOf, newLogin, roomFor, outcomeAfter, outcomeOf, outcomePort, plogiOf, provenBy, namesDiffer, pdiscOf, adiscOf, logoOf, pairFine, pageFine, prliOf, prloOf, rrqOf, serviceOf, linkOf, abortedAt, abtsOf}
 
 -- what a service makes of a login: none, or one of the same address that is fine where the old one was
-data Keeps (capacity own : ℕ) (l : Login) : Login → Type 0 where
+pub data Keeps (capacity own : ℕ) (l : Login) : Login → Type 0 where
   gone : Keeps capacity own l emptyLogin
   stays : {m : Login} → isUsed m ≡ isUsed l → m .address ≡ l .address → (Used capacity own l → Used capacity own m) → Keeps capacity own l m
 
@@ -99,14 +99,25 @@ new-fine capacity own from q valid other pass =
     })
 
 -- the port of one of two answers
-port-cond : (u : Unit) (b : Bool) (d e : Decided) → wellFormed u (d .port) ≡ true → wellFormed u (e .port) ≡ true → wellFormed u (cond b d e .port) ≡ true
+pub port-cond : (u : Unit) (b : Bool) (d e : Decided) → wellFormed u (d .port) ≡ true → wellFormed u (e .port) ≡ true → wellFormed u (cond b d e .port) ≡ true
 port-cond u true d e x y = x
 port-cond u false d e x y = y
 
--- the login found is used
-found-used : (p : Port) (from i : ℕ) → findLogin p from ≡ At i → isUsed (loginAt p i) ≡ true
-unfolding findLogin loginAt hasAddress
-found-used p from i e = and-left (isUsed (getD (p .logins) i emptyLogin)) (eqb (getD (p .logins) i emptyLogin .address) from) (found-passes emptyLogin (hasAddress from) (p .logins) e)
+-- the login that is found is used and has the address
+pub found-has : (p : Port) (a i : ℕ) → findLogin p a ≡ At i → hasAddress a (loginAt p i) ≡ true
+unfolding findLogin loginAt
+found-has p a i e = found-passes emptyLogin (hasAddress a) (p .logins) e
+
+pub found-used : (p : Port) (from i : ℕ) → findLogin p from ≡ At i → isUsed (loginAt p i) ≡ true
+unfolding hasAddress
+found-used p from i e = and-left (isUsed (loginAt p i)) (eqb (loginAt p i .address) from) (found-has p from i e)
+
+-- what stands where the login of an address stood
+module _ (u : Unit) (p : Port) (w : wellFormed u p ≡ true) (from : ℕ) where
+  pub stored-kept : (i : ℕ) (m : Login) → findLogin p from ≡ At i → Keeps (u .capacity) (p .address) (loginAt p i) m → wellFormed u (withLogin p i m) ≡ true
+  stored-kept i m e gone = end-kept u p w i
+  stored-kept i m e (stays used address fine) =
+      update-kept u p w i m used address (λ f. used-fine {l = m} (used ∙ found-used p from i e) (fine (fine-used (found-used p from i e) f)))
 
 module _ (u : Unit) (p : Port) (w : wellFormed u p ≡ true) (from : ℕ) (valid : validAddress from ≡ true) (other : eqb from (p .address) ≡ false) where
   abbrev Kept : Port → Type 0
@@ -132,14 +143,9 @@ module _ (u : Unit) (p : Port) (w : wellFormed u p ≡ true) (from : ℕ) (valid
   logo-kept named = port-cond u (eqb named from) _ _ out-kept w
 
   -- a service on the sender's login
-  stored-kept : (i : ℕ) (m : Login) → findLogin p from ≡ At i → Keeps (u .capacity) (p .address) (loginAt p i) m → Kept (withLogin p i m)
-  stored-kept i m e gone = end-kept u p w i
-  stored-kept i m e (stays used address fine) =
-      update-kept u p w i m used address (λ f. used-fine {l = m} (used ∙ found-used p from i e) (fine (fine-used (found-used p from i e) f)))
-
   served-kept : (g : Found) → findLogin p from ≡ g → (code : ℕ) (f : List ℕ) (d : Decided) → Kept (d .port)
       → Kept (onFound g (λ i. record { reply = serviceOf code (loginAt p i) from f .reply; port = withLogin p i (serviceOf code (loginAt p i) from f .login) }) d .port)
-  served-kept (At i) e code f d x = stored-kept i _ e (service-mild (u .capacity) (p .address) (loginAt p i) code from f)
+  served-kept (At i) e code f d x = stored-kept u p w from i _ e (service-mild (u .capacity) (p .address) (loginAt p i) code from f)
   served-kept Nothing e code f d x = x
 
 -- no frame to the link services makes a state ill formed, whose sender is a valid address and not ours

@@ -121,11 +121,6 @@ pub found-record : (p : Port) (a i : ℕ) → findLogin p a ≡ At i → recordO
 unfolding recordOf
 found-record p a i e = rw e
 
--- the login that is found is used and has the address
-pub found-has : (p : Port) (a i : ℕ) → findLogin p a ≡ At i → hasAddress a (loginAt p i) ≡ true
-unfolding findLogin loginAt
-found-has p a i e = found-passes emptyLogin (hasAddress a) (p .logins) e
-
 -- "power on ends all": every record is `out`
 pub power-record : (p : Port) (a : ℕ) → recordOf (poweredOn p) a ≡ out
 unfolding poweredOn
