@@ -36,91 +36,33 @@ use Rattle.command.specs.declared.Asked.the-variants as asked
 use Rattle.command.specs.Cmnd.{cmndOf, readBit, taskOf}
 use Rattle.command.specs.Tests.{otherUnit, attends, unknownCode, fieldSet, outside, exchangeFor, askedOf}
 use Rattle.command.specs.Command.{refusedWith, reports, toldOf, answerOf, answeredAs, executeOf, doneAs, commandedAt, loggedOut, commandOf}
+use Rattle.command.proofs.Moves.{Passed, Moves, same, ends, tells, opens, execute-moves}
 use Rattle.command.proofs.Opens.{New, exchange-new, sent-none, wants-opens}
 
--- a wanted exchange is the command's own, and test 7 let it through
-record Passed (capacity attention ox : ℕ) (c : Cmnd) (e : Exchange) : Type 0 where
-  is : e ≡ exchangeFor (getD (c .cdb) 0 0) attention ox c
-  within : outside capacity (getD (c .cdb) 0 0) (c .cdb) ≡ false
-
-passed-cond : (b : Bool) (x y : Asked) (e : Exchange) {A : Type 0} → (b ≡ true → x ≡ asked.Wants e → A) → (b ≡ false → y ≡ asked.Wants e → A) → cond b x y ≡ asked.Wants e → A
-passed-cond true x y e p q h = p refl h
-passed-cond false x y e p q h = q refl h
-
--- no refusal is a wish
-refused-not : {A : Type 0} (key code : ℕ) (e : Exchange) → asked.Refused key code ≡ asked.Wants e → A
-refused-not key code e h = let z : _≡_ {A = ℕ} 0 1 = cc in absurd (omega arith)
-
-attention-not : {A : Type 0} (e : Exchange) → asked.Attention ≡ asked.Wants e → A
-attention-not e h = let z : _≡_ {A = ℕ} 0 1 = cc in absurd (omega arith)
-
-same-exchange : (d e : Exchange) → asked.Wants d ≡ asked.Wants e → e ≡ d
-same-exchange d e h = cc
-
-wants-passed : (capacity attention ox : ℕ) (c : Cmnd) (e : Exchange) → askedOf capacity attention ox c ≡ asked.Wants e → Passed capacity attention ox c e
-unfolding askedOf
-wants-passed capacity attention ox c e =
-    let code = getD (c .cdb) 0 0 in
-    passed-cond (otherUnit code (c .unit)) _ _ e (λ _. refused-not 0x05 0x25 e)
-    (λ _. passed-cond (attends code attention) _ _ e (λ _. attention-not e)
-    (λ _. passed-cond (unknownCode code) _ _ e (λ _. refused-not 0x05 0x20 e)
-    (λ _. passed-cond (eqb code 0x2a) _ _ e (λ _. refused-not 0x07 0x27 e)
-    (λ _. passed-cond (fieldSet code (c .cdb)) _ _ e (λ _. refused-not 0x05 0x24 e)
-    (λ _. passed-cond (outside capacity code (c .cdb)) _ _ e (λ _. refused-not 0x05 0x21 e)
-    (λ w h. record { is = same-exchange _ e h; within = w }))))))
-
--- what a command on a paired login makes of it
+-- what a command on a paired login makes of it is fine
 module _ (capacity own : ℕ) (l : Login) (pair : eqb (l .paired) 1 ≡ true) (ox : ℕ) (c : Cmnd) (few : num 2 (c .cdb) 7 ≤ 65535) where
-  abbrev Mild : Served → Type 0
-  Mild s = Keeps capacity own l (s .login)
-
-  itself : Keeps capacity own l l
-  itself = stays refl refl (λ u. u)
-
-  mild-if : (b : Bool) (s t : Served) → (b ≡ true → Mild s) → (b ≡ false → Mild t) → Mild (cond b s t)
-  mild-if true s t p q = p refl
-  mild-if false s t p q = q refl
-
-  mild-found : (f : Found) (g : ℕ → Served) (t : Served) → ((j : ℕ) → Mild (g j)) → (f ≡ Nothing → Mild t) → Mild (onFound f g t)
-  mild-found (At j) g t p q = p j
-  mild-found Nothing g t p q = q refl
-
-  module _ (e : Exchange) (new : New ox e) (opens : openable capacity e ≡ true) (none : findExchange l ox ≡ Nothing) where
+  module _ (e : Exchange) (new : New ox e) (may : openable capacity e ≡ true) (none : findExchange l ox ≡ Nothing) where
     fine : Used capacity own l → exchangeFine capacity (fullFrame (l .size)) (l .paired) e ≡ true
     unfolding exchangeFine
     fine u =
         let least : 256 ≤ l .size = stored-size l (u .params) in
-        rw (pair, opens, sent-none (fullFrame (l .size)) e (omega arith) (new .sent) (new .count)) (or-true (isClosed e))
+        rw (pair, may, sent-none (fullFrame (l .size)) e (omega arith) (new .sent) (new .count)) (or-true (isClosed e))
 
     opened : (b : Bool) (j : ℕ) → Keeps capacity own l (withExchange (cond b (withAttention l 0) l) j e)
     unfolding withExchange findExchange
     opened true j = stays refl refl (λ u. open-used {l = withAttention l 0} (attention-used u 0 refl) j e (fine u) (rw (new .id) none))
     opened false j = stays refl refl (λ u. open-used u j e (fine u) (rw (new .id) none))
 
-  answer-mild : (e : Exchange) → Passed capacity (l .attention) ox c e → findExchange l ox ≡ Nothing → Mild (answerOf l (c .bits) e)
-  unfolding answerOf toldOf
-  answer-mild e p none =
-      mild-if (eqb (total e) 0) _ _ (λ _. itself)
-      (λ n. mild-if (readBit (c .bits)) _ _
-      (λ _. mild-found (freeExchange l) _ _ (λ j. opened e new (opens (eqb-false (total e) 0 n)) none (reports (e .kind)) j) (λ _. itself))
-      (λ _. itself))
+  moves-fine : (m : Login) → Moves capacity l ox c m → Keeps capacity own l m
+  unfolding withExchange
+  moves-fine m same = stays refl refl (λ u. u)
+  moves-fine m (ends j) = stays refl refl (λ u. end-used u j)
+  moves-fine m tells = stays refl refl (λ u. attention-used u 0 refl)
+  moves-fine m (opens b j e p n none) =
+      opened e (rw (p .is) (exchange-new (getD (c .cdb) 0 0) (l .attention) ox c)) (could n) none b j
     where
-      new : New ox e
-      new = rw (p .is) (exchange-new (getD (c .cdb) 0 0) (l .attention) ox c)
-
-      opens : (total e ≡ 0 → ⊥) → openable capacity e ≡ true
-      opens = rw (p .is) (wants-opens capacity (getD (c .cdb) 0 0) (l .attention) ox c few (p .within))
-
-  asked-mild : (a : Asked) → askedOf capacity (l .attention) ox c ≡ a → findExchange l ox ≡ Nothing → Mild (answeredAs a l c)
-  unfolding refusedWith
-  asked-mild (asked.Refused key code) e none = itself
-  asked-mild asked.Attention e none = stays refl refl (λ u. attention-used u 0 refl)
-  asked-mild (asked.Wants d) e none = answer-mild d (wants-passed capacity (l .attention) ox c d e) none
-
-  pub execute-mild : Mild (executeOf capacity l ox c)
-  unfolding executeOf refusedWith withExchange
-  execute-mild =
-      mild-found (findExchange l ox) _ _ (λ j. stays refl refl (λ u. end-used u j)) (λ none. asked-mild (askedOf capacity (l .attention) ox c) refl none)
+      could : (total e ≡ 0 → ⊥) → openable capacity e ≡ true
+      could = rw (p .is) (wants-opens capacity (getD (c .cdb) 0 0) (l .attention) ox c few (p .within))
 
 module _ (u : Unit) (p : Port) (h : Header) (f : List ℕ) (known : AllBytes f) (w : wellFormed u p ≡ true) where
   abbrev Kept : Decided → Type 0
@@ -144,7 +86,7 @@ module _ (u : Unit) (p : Port) (h : Header) (f : List ℕ) (known : AllBytes f) 
   unfolding commandedAt
   at-kept i at true pair =
       done-kept (taskOf (cmndOf f) (length f) (h .«s_id»)) (servedAt p i (executeOf (u .capacity) (loginAt p i) (h .«ox_id») (cmndOf f)))
-      (stored-kept u p w (h .«s_id») i _ at (execute-mild (u .capacity) (p .address) (loginAt p i) pair (h .«ox_id») (cmndOf f) count-small))
+      (stored-kept u p w (h .«s_id») i _ at (moves-fine (u .capacity) (p .address) (loginAt p i) pair (h .«ox_id») (cmndOf f) count-small _ (execute-moves (u .capacity) (loginAt p i) (h .«ox_id») (cmndOf f))))
   at-kept i at false pair = out-kept
 
   -- no FCP_CMND makes a state ill formed

@@ -177,7 +177,7 @@ module _ (p : Port) (a i : ℕ) (at : findLogin p a ≡ At i) where
   service-others code f b n = does-others (service-does code (loginAt p i) a f) b n
 
   -- a login of the same address that says the same leaves every record as it was
-  same-kept : (m : Login) → hasAddress a m ≡ true → recordAt m ≡ recordAt (loginAt p i) → (b : ℕ) → recordOf (withLogin p i m) b ≡ recordOf p b
+  pub same-kept : (m : Login) → hasAddress a m ≡ true → recordAt m ≡ recordAt (loginAt p i) → (b : ℕ) → recordOf (withLogin p i m) b ≡ recordOf p b
   same-kept m h e b = step (eqb b a) refl
     where
       step : (x : Bool) → eqb b a ≡ x → recordOf (withLogin p i m) b ≡ recordOf p b
