@@ -1,0 +1,81 @@
+-- The refusals of a frame in, in their order (document 01, "Numbers returned for refused calls").
+use Prim.Native.Nat.{ℕ, _%_}
+use mathlib.Core.Bool.{Bool, false, cond, not, _&&_, _||_}
+use mathlib.Core.List.{List}
+use lib.Dec.{eqb, leb, ltb}
+use lib.ListN.{length, getD}
+use Rattle.tables.specs.Lists.{onFound}
+use Rattle.frame.specs.declared.Header.{Header}
+use Rattle.address.specs.Address.{validAddress}
+use Rattle.state.specs.declared.Port.{Port}
+use Rattle.state.specs.declared.Unit.{Unit}
+use Rattle.state.specs.Changes.{loginAt}
+use Rattle.state.specs.Tables.{findLogin}
+use Rattle.formed.specs.Formed.{wellFormed}
+use Rattle.arrival.specs.declared.Refusal.{Refusal}
+use Rattle.arrival.specs.declared.Refusal.the-variants.{ShortBuffer, IllFormed, BadSize, NotOurs, BadSource, UnknownForm, Unproven, BadSetup, NoExchange, BadWindow}
+use Rattle.arrival.specs.declared.Kind.{Kind}
+use Rattle.arrival.specs.declared.Kind.the-variants.{Link, Done, Abort, Command}
+use Rattle.arrival.specs.declared.Judged.{Judged}
+use Rattle.arrival.specs.declared.Judged.the-variants.{Refused, Passed}
+
+-- the table of "Numbers returned for refused calls", line by line
+abbrev pub numberOf : Refusal → ℕ
+numberOf ShortBuffer = 1
+numberOf IllFormed = 2
+numberOf BadSize = 3
+numberOf NotOurs = 4
+numberOf BadSource = 5
+numberOf UnknownForm = 6
+numberOf Unproven = 7
+numberOf BadSetup = 8
+numberOf NoExchange = 9
+numberOf BadWindow = 10
+
+-- 1: "reply buffer under 2,136 bytes"
+abbrev pub shortBuffer : ℕ → Bool
+shortBuffer room = ltb room 2136
+
+-- 3: "frame not 24 to 2,136 bytes, or not a multiple of 4"
+unfoldable pub badSize : ℕ → Bool
+badSize size = ltb size 24 || ltb 2136 size || not (eqb (size % 4) 0)
+
+-- 5: "S_ID not a valid address, or ours"
+unfoldable pub badSource : ℕ → ℕ → Bool
+badSource own from = not (validAddress from) || eqb from own
+
+-- "(22h, 01h), (23h, 01h), (81h, 00h), (06h, 08h)"
+unfoldable pub knownPair : ℕ → ℕ → Bool
+knownPair rctl kind = cond (eqb rctl 0x22) (eqb kind 0x01) (cond (eqb rctl 0x23) (eqb kind 0x01) (cond (eqb rctl 0x81) (eqb kind 0x00) (eqb rctl 0x06 && eqb kind 0x08)))
+
+-- 6: "R_CTL, TYPE not one of ..; or DF_CTL, SEQ_CNT or the low two bits of F_CTL not 0; or a 22h frame without payload"
+unfoldable pub unknownForm : Header → ℕ → Bool
+unknownForm h size =
+    not (knownPair (h .«r_ctl») (h .kind)) || not (eqb (h .«df_ctl») 0) || not (eqb (h .«seq_cnt») 0) || not (eqb (h .«f_ctl» % 4) 0) || eqb (h .«r_ctl») 0x22 && leb size 24
+
+-- "Refusal 7 spares only PLOGI, PDISC, ADISC, LOGO"
+unfoldable pub spared : ℕ → ℕ → Bool
+spared rctl code = eqb rctl 0x22 && (eqb code 0x03 || eqb code 0x05 || eqb code 0x50 || eqb code 0x52)
+
+-- 7: "login unproven", the sender's
+unfoldable pub unprovenLogin : Port → ℕ → Bool
+unprovenLogin p from = onFound (findLogin p from) (λ i. not (eqb (loginAt p i .proven) 1)) false
+
+unfoldable pub unprovenCall : Port → Header → ℕ → Bool
+unprovenCall p h code = not (spared (h .«r_ctl») code) && unprovenLogin p (h .«s_id»)
+
+-- what a frame that passes is: 22h, 23h, 81h, 06h
+unfoldable pub kindOf : ℕ → Kind
+kindOf rctl = cond (eqb rctl 0x22) Link (cond (eqb rctl 0x23) Done (cond (eqb rctl 0x81) Abort Command))
+
+-- "Frame in: 1 to 7 in order"
+unfoldable pub judgedOf : Unit → Port → Header → List ℕ → ℕ → Judged
+judgedOf u p h f room =
+    cond (shortBuffer room) (Refused ShortBuffer)
+    (cond (not (wellFormed u p)) (Refused IllFormed)
+    (cond (badSize (length f)) (Refused BadSize)
+    (cond (not (eqb (h .«d_id») (p .address))) (Refused NotOurs)
+    (cond (badSource (p .address) (h .«s_id»)) (Refused BadSource)
+    (cond (unknownForm h (length f)) (Refused UnknownForm)
+    (cond (unprovenCall p h (getD f 24 0)) (Refused Unproven)
+    (Passed (kindOf (h .«r_ctl»)))))))))

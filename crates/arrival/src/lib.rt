@@ -1,0 +1,199 @@
+// What arrived: a frame in is refused by the first of the numbers 1 to 7 that fits it, or it is a request of one of four kinds.
+use address::valid_address;
+use formed::well_formed;
+use frame::Header;
+use state::Port;
+use state::Unit;
+use state::find_login;
+use state::login_at;
+use tables::Found;
+use wire::byte_at;
+ghost use mathlib.Core.Path.{_≡_};
+ghost use mathlib.Core.Bool.{not};
+ghost use Rattle.formed.specs.Formed.{wellFormed};
+ghost use Rattle.arrival.specs.Arrival.{numberOf, badSize, badSource, knownPair, unknownForm, spared, unprovenLogin, unprovenCall, kindOf, judgedOf};
+
+// Why a call is refused, in the order of their numbers.
+pub enum Refusal {
+    ShortBuffer,
+    IllFormed,
+    BadSize,
+    NotOurs,
+    BadSource,
+    UnknownForm,
+    Unproven,
+    BadSetup,
+    NoExchange,
+    BadWindow,
+}
+
+impl Refusal {
+    pub fn number(self) -> u8
+        ensures { λ r. ⌜ r ≡ numberOf self ⌝ }
+    {
+        match self {
+            Refusal::ShortBuffer => 1,
+            Refusal::IllFormed => 2,
+            Refusal::BadSize => 3,
+            Refusal::NotOurs => 4,
+            Refusal::BadSource => 5,
+            Refusal::UnknownForm => 6,
+            Refusal::Unproven => 7,
+            Refusal::BadSetup => 8,
+            Refusal::NoExchange => 9,
+            Refusal::BadWindow => 10,
+        }
+    }
+}
+
+// The kinds of frames that are taken: a request to the link services, the answer to one, ABTS, and FCP_CMND.
+pub enum Kind {
+    Link,
+    Done,
+    Abort,
+    Command,
+}
+
+pub enum Judged {
+    Refused(Refusal),
+    Passed(Kind),
+}
+
+// The frame with header h to a drive of this unit and port, with room for the reply: refusals 1 to 7 in order, or its kind.
+pub fn judge(u: Unit, p: Port, h: Header, frame: &[u8], room: usize) -> Judged
+    ensures { λ r. ⌜ r ≡ judgedOf u p h (now (frame .entry)) room ⌝ }
+{
+    if room < 2136 {
+        return Judged::Refused(Refusal::ShortBuffer);
+    }
+    if ill_formed(u, p) {
+        return Judged::Refused(Refusal::IllFormed);
+    }
+    if bad_size(frame.len()) {
+        return Judged::Refused(Refusal::BadSize);
+    }
+    if h.d_id != p.address {
+        return Judged::Refused(Refusal::NotOurs);
+    }
+    if bad_source(p.address, h.s_id) {
+        return Judged::Refused(Refusal::BadSource);
+    }
+    if unknown_form(h, frame.len()) {
+        return Judged::Refused(Refusal::UnknownForm);
+    }
+    if unproven_call(p, h, byte_at(frame, 24)) {
+        return Judged::Refused(Refusal::Unproven);
+    }
+    Judged::Passed(kind_of(h.r_ctl))
+}
+
+fn ill_formed(u: Unit, p: Port) -> bool
+    ensures { λ r. ⌜ r ≡ not (wellFormed u p) ⌝ }
+{
+    !well_formed(u, p)
+}
+
+// Not 24 to 2,136 bytes, or not a multiple of 4.
+fn bad_size(size: usize) -> bool
+    ensures { λ r. ⌜ r ≡ badSize size ⌝ }
+{
+    if size < 24 {
+        return true;
+    }
+    if 2136 < size {
+        return true;
+    }
+    size % 4 != 0
+}
+
+// Not a valid address, or ours.
+fn bad_source(own: u32, from: u32) -> bool
+    ensures { λ r. ⌜ r ≡ badSource own from ⌝ }
+{
+    if valid_address(from) {
+        from == own
+    } else {
+        true
+    }
+}
+
+// R_CTL and TYPE of a frame that is taken.
+fn known_pair(r_ctl: u8, kind: u8) -> bool
+    ensures { λ r. ⌜ r ≡ knownPair «r_ctl» kind ⌝ }
+{
+    match r_ctl {
+        0x22 => kind == 0x01,
+        0x23 => kind == 0x01,
+        0x81 => kind == 0x00,
+        0x06 => kind == 0x08,
+        _ => false,
+    }
+}
+
+// Another pair; DF_CTL, SEQ_CNT or the low two bits of F_CTL not 0; a 22h frame without payload.
+fn unknown_form(h: Header, size: usize) -> bool
+    ensures { λ r. ⌜ r ≡ unknownForm h size ⌝ }
+{
+    if known_pair(h.r_ctl, h.kind) {
+        if h.df_ctl != 0 {
+            return true;
+        }
+        if h.seq_cnt != 0 {
+            return true;
+        }
+        if h.f_ctl % 4 != 0 {
+            return true;
+        }
+        if h.r_ctl == 0x22 { size <= 24 } else { false }
+    } else {
+        true
+    }
+}
+
+// The sender's login is unproven, and the frame is none of PLOGI, PDISC, ADISC, LOGO.
+fn unproven_call(p: Port, h: Header, code: u8) -> bool
+    ensures { λ r. ⌜ r ≡ unprovenCall p h code ⌝ }
+{
+    if is_spared(h.r_ctl, code) {
+        false
+    } else {
+        unproven_login(p, h.s_id)
+    }
+}
+
+fn is_spared(r_ctl: u8, code: u8) -> bool
+    ensures { λ r. ⌜ r ≡ spared «r_ctl» code ⌝ }
+{
+    if r_ctl == 0x22 {
+        match code {
+            0x03 => true,
+            0x05 => true,
+            0x50 => true,
+            0x52 => true,
+            _ => false,
+        }
+    } else {
+        false
+    }
+}
+
+fn unproven_login(p: Port, from: u32) -> bool
+    ensures { λ r. ⌜ r ≡ unprovenLogin p from ⌝ }
+{
+    let Found::At(i) = find_login(p, from) else {
+        return false;
+    };
+    let l = login_at(p, i);
+    l.proven != 1
+}
+
+fn kind_of(r_ctl: u8) -> Kind
+    ensures { λ r. ⌜ r ≡ kindOf «r_ctl» ⌝ }
+{
+    match r_ctl {
+        0x22 => Kind::Link,
+        0x23 => Kind::Done,
+        0x81 => Kind::Abort,
+        _ => Kind::Command,
+    }
+}
