@@ -12,8 +12,8 @@ use Rattle.formed.proofs.Keeping.{empty-fine, empties-apart, change-kept, power
 use Rattle.drive.specs.declared.Drive.{Drive}
 use Rattle.drive.specs.declared.Event.{Event}
 use Rattle.drive.specs.declared.Event.the-variants.{LoopReset, TimeOver, PowerOn}
-use Rattle.drive.specs.declared.Refusal.{Refusal}
-use Rattle.drive.specs.declared.Refusal.the-variants.{IllFormed, BadSetup}
+use Rattle.arrival.specs.declared.Refusal.{Refusal}
+use Rattle.arrival.specs.declared.Refusal.the-variants.{IllFormed, BadSetup}
 use Rattle.drive.specs.declared.Said.{Said}
 use Rattle.drive.specs.declared.Said.the-variants.{Sent, Refused}
 use Rattle.drive.specs.declared.Answer.{Answer}

@@ -1,4 +1,4 @@
--- Making a drive, events, and the numbers of refused calls (document 01, "Numbers returned for refused calls", "Events").
+-- Making a drive, and events (document 01, "Numbers returned for refused calls", "Events").
 use Prim.Native.Nat.{ℕ}
 use mathlib.Core.Bool.{cond}
 use mathlib.Core.List.{List}
@@ -13,23 +13,10 @@ use Rattle.formed.specs.Formed.{setupRules, wellFormed}
 use Rattle.drive.specs.declared.Drive.{Drive}
 use Rattle.drive.specs.declared.Answer.{Answer}
 use Rattle.drive.specs.declared.Said.the-variants.{Sent, Refused}
-use Rattle.drive.specs.declared.Refusal.{Refusal}
-use Rattle.drive.specs.declared.Refusal.the-variants.{ShortBuffer, IllFormed, BadSize, NotOurs, BadSource, UnknownForm, Unproven, BadSetup, NoExchange, BadWindow}
+use Rattle.arrival.specs.declared.Refusal.{Refusal}
+use Rattle.arrival.specs.declared.Refusal.the-variants.{IllFormed, BadSetup}
 use Rattle.drive.specs.declared.Event.{Event}
 use Rattle.drive.specs.declared.Event.the-variants.{LoopReset, TimeOver, PowerOn}
-
--- the table of "Numbers returned for refused calls", line by line
-abbrev pub numberOf : Refusal → ℕ
-numberOf ShortBuffer = 1
-numberOf IllFormed = 2
-numberOf BadSize = 3
-numberOf NotOurs = 4
-numberOf BadSource = 5
-numberOf UnknownForm = 6
-numberOf Unproven = 7
-numberOf BadSetup = 8
-numberOf NoExchange = 9
-numberOf BadWindow = 10
 
 -- a drive with no logins, of this setup
 abbrev pub driveOf : ℕ → ℕ → List ℕ → List ℕ → Drive

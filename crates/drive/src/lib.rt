@@ -1,6 +1,20 @@
-// The drive: made from a setup, told of events. Every entry answers what it said beside the drive, which a refusal leaves as it was.
+// The drive: made from a setup, handed frames, told of events. Every entry answers what it said beside the drive, which a refusal leaves as it was.
+use arrival::Judged;
+use arrival::Kind;
+use arrival::Refusal;
+use arrival::judge;
+use command::command;
 use formed::setup_rules;
 use formed::well_formed;
+use frame::Header;
+use frame::read_header;
+use link::Decided;
+use link::abts;
+use link::decide_as;
+use link::link;
+use reply::Own;
+use reply::Reply;
+use reply::write;
 use state::Change;
 use state::Port;
 use state::Setup;
@@ -9,45 +23,14 @@ use state::change_all;
 use state::empty_login;
 use state::power_on;
 ghost use mathlib.Core.Path.{_≡_};
-ghost use Rattle.drive.specs.Drive.{numberOf, madeFrom, noDrive, newAnswer, eventAnswer};
+ghost use lib.ListN.{length};
+ghost use Rattle.drive.specs.Drive.{madeFrom, noDrive, newAnswer, eventAnswer};
+ghost use Rattle.drive.specs.Entry.{ownOf, decidedOf, frameIn, frameInBuffer};
 
 #[repr(C)]
 pub struct Drive {
     pub unit: Unit,
     pub port: Port,
-}
-
-// Why a call is refused, in the order of their numbers.
-pub enum Refusal {
-    ShortBuffer,
-    IllFormed,
-    BadSize,
-    NotOurs,
-    BadSource,
-    UnknownForm,
-    Unproven,
-    BadSetup,
-    NoExchange,
-    BadWindow,
-}
-
-impl Refusal {
-    pub fn number(self) -> u8
-        ensures { λ r. ⌜ r ≡ numberOf self ⌝ }
-    {
-        match self {
-            Refusal::ShortBuffer => 1,
-            Refusal::IllFormed => 2,
-            Refusal::BadSize => 3,
-            Refusal::NotOurs => 4,
-            Refusal::BadSource => 5,
-            Refusal::UnknownForm => 6,
-            Refusal::Unproven => 7,
-            Refusal::BadSetup => 8,
-            Refusal::NoExchange => 9,
-            Refusal::BadWindow => 10,
-        }
-    }
 }
 
 // What a call answers: the bytes of its reply, 0 for nothing to send, or the refusal.
@@ -87,6 +70,34 @@ impl Drive {
         }
     }
 
+    // A frame in: refused by the first of 1 to 7 that fits it, or its reply at the front of the buffer and the drive after it.
+    pub fn frame_in(self, frame: &[u8], reply: &mut [u8]) -> Answer
+        ensures { λ r. ⌜ r ≡ frameIn self (now (frame .entry)) (length (now (reply .entry))) ⌝ }
+        ensures { λ _. ⌜ now (reply .exit) ≡ frameInBuffer self (now (frame .entry)) (now (reply .entry)) ⌝ }
+    {
+        let u = self.unit;
+        let p = self.port;
+        let h = read_header(frame);
+        let j = judge(u, p, h, frame, reply.len());
+        match j {
+            Judged::Refused(x) => Answer {
+                said: Said::Refused(x),
+                drive: self,
+            },
+            Judged::Passed(k) => {
+                let d = decide(u.capacity, p, h, k, frame);
+                let r = d.reply;
+                let q = d.port;
+                let none = [0u8; 0];
+                let n = write(own_of(p), h, r, &none, reply);
+                Answer {
+                    said: Said::Sent(n),
+                    drive: Drive { unit: u, port: q },
+                }
+            }
+        }
+    }
+
     // The drive after an event, or refusal 2 and the drive as it was.
     pub fn event(self, e: Event) -> Answer
         ensures { λ r. ⌜ r ≡ eventAnswer self e ⌝ }
@@ -109,6 +120,28 @@ impl Drive {
                 drive: self,
             }
         }
+    }
+}
+
+// What a frame that passed is answered, and the port after it.
+fn decide(capacity: u64, p: Port, h: Header, k: Kind, frame: &[u8]) -> Decided
+    ensures { λ r. ⌜ r ≡ decidedOf capacity p h k (now (frame .entry)) ⌝ }
+{
+    match k {
+        Kind::Link => link(p, h, frame),
+        Kind::Done => decide_as(Reply::Nothing, p),
+        Kind::Abort => abts(p, h.s_id, h.ox_id, h.rx_id),
+        Kind::Command => command(capacity, p, h, frame),
+    }
+}
+
+fn own_of(p: Port) -> Own
+    ensures { λ r. ⌜ r ≡ ownOf p ⌝ }
+{
+    let accept = p.accept;
+    Own {
+        address: p.address,
+        accept: accept,
     }
 }
 

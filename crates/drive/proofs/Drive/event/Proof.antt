@@ -6,7 +6,7 @@ use Rattle.formed.specs.Formed.{wellFormed}
 use Rattle.drive.specs.declared.Drive.{Drive}
 use Rattle.drive.specs.declared.Event.{Event}
 use Rattle.drive.specs.declared.Answer.{Answer}
-use Rattle.drive.specs.declared.Refusal.the-variants.{IllFormed}
+use Rattle.arrival.specs.declared.Refusal.the-variants.{IllFormed}
 use Rattle.drive.specs.Drive.{portAfter, afterEvent, silent, refused, eventAnswer}
 use borrow.Author.Needs.{needs}
 use Rattle.drive.proofs.Drive.event.Statement.{statement}

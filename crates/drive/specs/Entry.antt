@@ -1,0 +1,60 @@
+-- A frame in: the definition of record (document 01, "Numbers returned for refused calls").
+use Prim.Native.Nat.{ℕ}
+use mathlib.Core.List.{List, []}
+use lib.ListN.{length}
+use Rattle.wire.specs.Bytes.{onto}
+use Rattle.frame.specs.declared.Header.{Header}
+use Rattle.frame.specs.Head.{headerOf}
+use Rattle.state.specs.declared.Port.{Port}
+use Rattle.reply.specs.declared.Own.{Own}
+use Rattle.reply.specs.declared.Reply.the-variants as reply
+use Rattle.reply.specs.Reply.{bytesOf}
+use Rattle.link.specs.declared.Decided.{Decided}
+use Rattle.link.specs.Link.{decidedAs, linkOf, abtsOf}
+use Rattle.command.specs.Command.{commandOf}
+use Rattle.arrival.specs.declared.Refusal.{Refusal}
+use Rattle.arrival.specs.declared.Kind.{Kind}
+use Rattle.arrival.specs.declared.Kind.the-variants.{Link, Done, Abort, Command}
+use Rattle.arrival.specs.declared.Judged.{Judged}
+use Rattle.arrival.specs.declared.Judged.the-variants as judged
+use Rattle.arrival.specs.Arrival.{judgedOf}
+use Rattle.drive.specs.declared.Drive.{Drive}
+use Rattle.drive.specs.declared.Answer.{Answer}
+use Rattle.drive.specs.declared.Said.the-variants.{Sent}
+use Rattle.drive.specs.Drive.{refused}
+
+-- what a reply takes from the setup
+abbrev pub ownOf : Port → Own
+ownOf p = record { address = p .address; accept = p .accept }
+
+-- the reply to a frame that passed, and the port after it; "A 23h frame that passes is answered with nothing and changes nothing"
+abbrev pub decidedOf : ℕ → Port → Header → Kind → List ℕ → Decided
+decidedOf capacity p h Link f = linkOf p h f
+decidedOf capacity p h Done f = decidedAs reply.Nothing p
+decidedOf capacity p h Abort f = abtsOf p (h .«s_id») (h .«ox_id») (h .«rx_id»)
+decidedOf capacity p h Command f = commandOf capacity p h f
+
+-- the reply's bytes; no data frame answers a frame in, so there is nothing to take data from
+unfoldable pub replyBytes : Drive → Header → Decided → List ℕ
+replyBytes d h r = bytesOf (ownOf (d .port)) h (r .reply) []
+
+-- the reply's length in the answer, and the next state
+abbrev pub answered : Drive → Header → Decided → Answer
+answered d h r = record { said = Sent (length (replyBytes d h r)); drive = record { unit = d .unit; port = r .port } }
+
+-- refused or not
+abbrev pub onJudged : {A : Type 0} → Judged → (Refusal → A) → (Kind → A) → A
+onJudged (judged.Refused x) g k = g x
+onJudged (judged.Passed t) g k = k t
+
+-- what is decided of a frame of this kind
+abbrev pub decidedIn : Drive → List ℕ → Kind → Decided
+decidedIn d f k = decidedOf (d .unit .capacity) (d .port) (headerOf f) k f
+
+-- "Frame in: 1 to 7 in order": "returns its number and the state unchanged"; otherwise the reply's length and the next state
+unfoldable pub frameIn : Drive → List ℕ → ℕ → Answer
+frameIn d f room = onJudged (judgedOf (d .unit) (d .port) (headerOf f) f room) (λ x. refused x d) (λ k. answered d (headerOf f) (decidedIn d f k))
+
+-- and "changes no lent byte"; "Otherwise the reply stands at the front of the buffer, .. later bytes unchanged"
+unfoldable pub frameInBuffer : Drive → List ℕ → List ℕ → List ℕ
+frameInBuffer d f l = onJudged (judgedOf (d .unit) (d .port) (headerOf f) f (length l)) (λ x. l) (λ k. onto (replyBytes d (headerOf f) (decidedIn d f k)) l)
