@@ -24,9 +24,9 @@ module _ (d : Drive) (f l : List ℕ) (h : Header) (j : Judged) (eh : h ≡ head
   judged-is : {k : Judged} → j ≡ k → judgedOf (d .unit) (d .port) (headerOf f) f (length l) ≡ k
   judged-is e = ap (λ (g : Header). judgedOf (d .unit) (d .port) g f (length l)) (sym eh) ∙ sym ej ∙ e
 
-  pub frame-refused : (x : Refusal) → j ≡ judged.Refused x → (refused x d ≡ frameIn d f (length l)) × (l ≡ frameInBuffer d f l)
+  pub frame-refused : (x : Refusal) (r : Answer) → j ≡ judged.Refused x → r ≡ refused x d → (r ≡ frameIn d f (length l)) × (l ≡ frameInBuffer d f l)
   unfolding frameIn frameInBuffer
-  frame-refused x e = rw (judged-is e) (refl, refl)
+  frame-refused x r e er = rw (judged-is e) (er, refl)
 
   pub frame-answered : (k : Kind) (r : Decided) (o : Own) (n : ℕ) (l₁ : List ℕ) → j ≡ judged.Passed k → r ≡ decidedOf (d .unit .capacity) (d .port) h k f → o ≡ ownOf (d .port)
       → n ≡ sentOf o h (r .reply) [] (length l) → l₁ ≡ writtenOf o h (r .reply) [] l

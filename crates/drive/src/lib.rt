@@ -24,7 +24,7 @@ use state::empty_login;
 use state::power_on;
 ghost use mathlib.Core.Path.{_≡_};
 ghost use lib.ListN.{length};
-ghost use Rattle.drive.specs.Drive.{madeFrom, noDrive, newAnswer, eventAnswer};
+ghost use Rattle.drive.specs.Drive.{refused, madeFrom, noDrive, newAnswer, eventAnswer};
 ghost use Rattle.drive.specs.Entry.{ownOf, decidedOf, frameIn, frameInBuffer};
 
 #[repr(C)]
@@ -63,10 +63,7 @@ impl Drive {
                 drive: made_from(setup),
             }
         } else {
-            Answer {
-                said: Said::Refused(Refusal::BadSetup),
-                drive: no_drive(),
-            }
+            refuse(Refusal::BadSetup, no_drive())
         }
     }
 
@@ -80,10 +77,7 @@ impl Drive {
         let h = read_header(frame);
         let j = judge(u, p, h, frame, reply.len());
         match j {
-            Judged::Refused(x) => Answer {
-                said: Said::Refused(x),
-                drive: self,
-            },
+            Judged::Refused(x) => refuse(x, self),
             Judged::Passed(k) => {
                 let d = decide(u.capacity, p, h, k, frame);
                 let r = d.reply;
@@ -115,11 +109,18 @@ impl Drive {
                 drive: Drive { unit: u, port: q },
             }
         } else {
-            Answer {
-                said: Said::Refused(Refusal::IllFormed),
-                drive: self,
-            }
+            refuse(Refusal::IllFormed, self)
         }
+    }
+}
+
+// A refusal, and the drive unchanged.
+fn refuse(x: Refusal, d: Drive) -> Answer
+    ensures { λ r. ⌜ r ≡ refused x d ⌝ }
+{
+    Answer {
+        said: Said::Refused(x),
+        drive: d,
     }
 }
 

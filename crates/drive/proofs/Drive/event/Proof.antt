@@ -34,7 +34,7 @@ returns-3 c =
 
 returns-4 : tie.Need-returns-4
 unfolding eventAnswer
-returns-4 c = rw (sym (c .before .well-formed .ensures) ∙ c .if1 .left)
+returns-4 c = rw (sym (c .before .before .well-formed .ensures) ∙ c .before .if1 .left) (c .refuse .ensures)
 
 pub event-spec : {M : Type 1} → statement M
 event-spec =
@@ -46,6 +46,7 @@ event-spec =
     (λ c. search needs)
     (λ c κs. search needs)
     (λ c. search needs)
+    (λ c κs. search needs)
     (λ c κs. search needs)
     returns
     returns-2

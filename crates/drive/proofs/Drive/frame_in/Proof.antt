@@ -6,8 +6,8 @@ use Rattle.drive.proofs.Drive.frame_in.Tie as tie
 
 returns : tie.Need-returns
 returns c =
-    let a = c .before .before .before .before .before .before .before .before .before .args in
-    frame-refused (a .self) (a .frame .now) (a .reply .now) _ _ (c .before .before .before .before .read-header .ensures) (c .before .before .before .judge .ensures) _ (c .before .j .given .1)
+    let a = c .before .before .before .before .before .before .before .before .before .before .args in
+    frame-refused (a .self) (a .frame .now) (a .reply .now) _ _ (c .before .before .before .before .before .read-header .ensures) (c .before .before .before .before .judge .ensures) _ _ (c .before .before .j .given .1) (c .refuse .ensures)
 
 returns-2 : tie.Need-returns-2
 returns-2 c =
@@ -22,6 +22,7 @@ frame-in-spec =
     (λ c κs. search needs)
     (λ c κs. search needs)
     (λ c. search needs)
+    (λ c κs. search needs)
     (λ c. search needs)
     (λ c κs. search needs)
     (λ c κs. search needs)

@@ -12,12 +12,13 @@ returns c = rw (sym (c .before .before .setup-rules .ensures) ∙ c .before .if1
 
 returns-2 : tie.Need-returns-2
 unfolding newAnswer
-returns-2 c = rw (sym (c .before .before .setup-rules .ensures) ∙ c .before .if1 .left) (ap (refused BadSetup) (c .no-drive .ensures))
+returns-2 c = rw (sym (c .before .before .before .setup-rules .ensures) ∙ c .before .before .if1 .left) (c .refuse .ensures ∙ ap (refused BadSetup) (c .before .no-drive .ensures))
 
 pub new-spec : {M : Type 1} → statement M
 new-spec =
     tie.close
     (tie.spec
+    (λ c κs. search needs)
     (λ c κs. search needs)
     (λ c κs. search needs)
     (λ c κs. search needs)
