@@ -1,5 +1,5 @@
 #!/usr/bin/env python3
-"""The vectors of the link layer: requests, and the answer and the table of logins that document 01 asks for after each.
+"""The vectors of the link services and commands: frames, and the answer and the table of logins that document 01 asks for after each.
 
 Usage: tests/vectors.py stdin | stdout
 
@@ -11,6 +11,7 @@ import sys
 
 # the drive
 
+CAPACITY = 100  # 01, Setup: "Capacity 1 to 4,294,967,295 blocks of 512 bytes"; 100 is that of its known numbers
 OWN = bytes.fromhex("0000EF")  # 01, Setup: "own address"; upper bytes 0000h, EFh is a loop address
 
 
@@ -97,6 +98,50 @@ def ba_rjt(f):
     return head("85", sender(f), "00", "990000", f[12], ox_of(f)) + bytes.fromhex("00030300")  # "BA_RJT 00 03 03 00"
 
 
+def rsp(f, f_ctl, payload):
+    """01: "FCP_RSP | 07 08 | 990000 | 00"; "FCP frames add the fill count to F_CTL"."""
+    return head("07", sender(f), "08", f_ctl, 0x00, ox_of(f)) + bytes(10) + payload  # "bytes 10 flags, ..": ten zeros before them
+
+
+def status(byte, flag, size):
+    """01: "bytes 10 flags, 11 status, 12 FCP_RESID, 16 sense length, 20 response length": 24 bytes."""
+    return lambda f: rsp(f, "990000", bytes.fromhex(flag + byte) + size.to_bytes(4, "big") + bytes.fromhex("00000000" "00000000"))
+
+
+def good():
+    return status("00", "00", 0)  # wanted and FCP_DL are the same
+
+
+def over(size):
+    return status("00", "04", size)  # "The signed difference of wanted and FCP_DL above 0 sets flag 04h, .. FCP_RESID its size"
+
+
+def under(size):
+    return status("00", "08", size)  # "below 0 flag 08h"
+
+
+def eight_open(dl):
+    return status("28", "08", dl)  # "status 28h"; wanted is "0 when refused, with 28h too", and FCP_DL is above 0 here
+
+
+def code(number):
+    """01: "then 8 bytes with the code at 3 (flag 01h)"; "RSP_CODE and task answers give 0"."""
+    return lambda f: rsp(f, "990000", bytes.fromhex("01" "00" "00000000" "00000000" "00000008" "000000" + number + "00000000"))
+
+
+def check(triple, dl=0):
+    """01: "or 18 sense bytes (flag 02h, status 02h): 70, 00, key, 4 zeros, 0A, code and qualifier at 12, 13"; wanted is "0 when refused"."""
+    key, first, second = triple.split("/")
+    sense = bytes.fromhex("70" "00" + key + "00000000" "0A" "00000000" + first + second + "00000000")
+    flags = "02" if dl == 0 else "0A"  # the difference is below 0 where FCP_DL is above it
+    lengths = dl.to_bytes(4, "big") + bytes.fromhex("00000012" "00000000")
+    return lambda f: rsp(f, "990002", bytes.fromhex(flags + "02") + lengths + sense + bytes(2))  # two fill bytes, counted in F_CTL
+
+
+def nothing(f):
+    return b""  # "Else the exchange opens silently"
+
+
 def sender(f):
     return f[7]
 
@@ -115,6 +160,21 @@ LIBFC = {name: bytes.fromhex(text) for name, text in {
     "rtv": "220000EF0000000101290000000000000102FFFF00000000" "0E000000",
     "adisc": "220000EF000000010129000000000000010CFFFF00000000" "52000000000000002000525400120001100052540012000100000001",
     "rec": "220000EF000000010129000000000000010EFFFF00000000" "1300000000000001010DFFFF",
+    "inquiry": "060000EF0000000108290000000000000103FFFF00000000" "000000000000000000000002" "12000000240000000000000000000000" "00000024",
+    "tur-attention": "060000EF0000000108290000000000000104FFFF00000000" "000000000000000000000000" + "00" * 16 + "00000000",
+    "inquiry-lun-1": "060000EF0000000108290000000000000105FFFF00000000" "000100000000000000000002" "12200000240000000000000000000000" "00000024",
+    "tur": "060000EF0000000108290000000000000106FFFF00000000" "000000000000000000000000" + "00" * 16 + "00000000",
+    "capacity": "060000EF0000000108290000000000000107FFFF00000000" "000000000000000000000002" "25000000000000000000000000000000" "00000008",
+    "mode-sense": "060000EF0000000108290000000000000108FFFF00000000" "000000000000000000000002" "1A003F00040000000000000000000000" "00000004",
+    "read": "060000EF0000000108290000000000000109FFFF00000000" "000000000000000000000002" "28000000000000000800000000000000" "00001000",
+    "report-luns": "060000EF000000010829000000000000010AFFFF00000000" "000000000000000000000002" "A0000000000000001000000000000000" "00001000",
+    "capacity-16": "060000EF000000010829000000000000010BFFFF00000000" "000000000000000000000002" "9E100000000000000000000000200000" "00000020",
+    "read-aborted": "060000EF000000010829000000000000010DFFFF00000000" "000000000000000000000002" "28000000000000000800000000000000" "00001000",
+    "lun-reset": "060000EF0000000108290000000000000111FFFF00000000" "000000000000000000001000" + "00" * 16 + "00000000",
+    "target-reset": "060000EF0000000108290000000000000112FFFF00000000" "000000000000000000002000" + "00" * 16 + "00000000",
+    "abort-task-set": "060000EF0000000108290000000000000113FFFF00000000" "000000000000000000000200" + "00" * 16 + "00000000",
+    "clear-task-set": "060000EF0000000108290000000000000114FFFF00000000" "000000000000000000000400" + "00" * 16 + "00000000",
+    "clear-aca": "060000EF0000000108290000000000000115FFFF00000000" "000000000000000000004000" + "00" * 16 + "00000000",
     "abts": "810000EF000000010009000001000000010DFFFF00000000",
     "rrq12": "220000EF000000010129000000000000010FFFFF00000000" "1200000000000001010DFFFF",
     "rrq": "220000EF0000000101290000000000000110FFFF00000000" "1200000000000001010DFFFF" + "00" * 32,
@@ -176,6 +236,42 @@ def abts(host, ox_id, rx_id=0xFFFF, seq_id=0x00):
     return frame(host, ox_id, b"", r_ctl=0x81, kind=0x00, rx_id=rx_id, seq_id=seq_id)
 
 
+# the commands
+
+ZERO_UNIT = bytes(8)
+
+
+def cmnd(host, ox_id, cdb, dl=0, bits=0x02, lun=ZERO_UNIT, task=0x00, size=32, **other):
+    """01: "FCP_CMND: LUN 8, byte 9 attribute (ignored), 10 task flags, 11 bit 1 read and bit 0 write, CDB 16, FCP_DL 4"."""
+    header = {field: value for field, value in other.items() if field not in ("byte8", "attribute")}
+    payload = (lun + bytes([other.get("byte8", 0), other.get("attribute", 0), task, bits])
+               + bytes.fromhex(cdb).ljust(16, b"\x00") + dl.to_bytes(4, "big"))
+    return frame(host, ox_id, payload[:size].ljust(size, b"\x00"), r_ctl=0x06, kind=0x08, **header)
+
+
+TEST_UNIT_READY, READ_CAPACITY = "000000000000", "25000000000000000000"
+
+
+def request_sense(most=18):
+    return "03000000%02X00" % most
+
+
+def inquiry(most=36):
+    return "12000000%02X00" % most
+
+
+def read(address, count):
+    return "2800%08X00%04X00" % (address, count)
+
+
+def write(address, count):
+    return "2A00%08X00%04X00" % (address, count)
+
+
+def test_unit(host, ox_id=0x0A00, **changes):
+    return cmnd(host, ox_id, TEST_UNIT_READY, bits=0x00, **changes)
+
+
 # the lines
 
 records, lines = [], []
@@ -197,49 +293,75 @@ def table(text):
     return " ".join(places + ["."] * (8 - len(places)))
 
 
-def link(name, f, reply, after):
+def answers(name, f, reply, after):
     """A frame, the reply to it, and the table after it."""
-    line(name, "f", f, reply(f).hex().upper() + " " + table(after))
+    line(name, "f", f, (reply(f).hex().upper() or "-") + " " + table(after))
 
 
-def fresh(after=""):
+def fresh(after="", capacity=CAPACITY):
     """A drive without logins; then each host named logs in."""
-    line("setup", "s", OWN + WORDS, "- " + table(""))
+    line("setup", "s", capacity.to_bytes(8, "big") + OWN + WORDS, "- " + table(""))
     so_far = ""
     for host in bytes.fromhex(after):
-        so_far += " %02Xp" % host
-        link("plogi", login(host), login_acc, so_far)
+        so_far += " %02Xp29" % host  # "proven, unpaired, attention 29h"
+        answers("plogi", login(host), login_acc, so_far)
 
 
 def event(name, letter, after):
     line(name, letter, b"", "- " + table(after))
 
 
-def opens(place, ox_id, after):
-    """An exchange opens at a login; the link layer opens none by itself."""
-    line("open", "x", bytes([place]) + ox_id.to_bytes(2, "big"), "- " + table(after))
+def opens(host, ox_id, after):
+    """An INQUIRY opens an exchange silently, also while an attention stands."""
+    answers("open", cmnd(host, ox_id, inquiry(), 36), nothing, after)
 
 
 def keeps(name, place, says):
     line(name, "l", bytes([place]), says)
 
 
+def shows(name, place, login, exchanges):
+    """What is open at a login's eight places: those that are not written are free."""
+    line(name, "e", bytes([place]), login + " " + table(exchanges))
+
+
+def exchange(ox_id, sends, wanted, dl, start=0, count=0):
+    """An exchange that has sent nothing yet: OX_ID, what it sends, a READ's first block and count, wanted, FCP_DL, bytes and frames sent."""
+    return "%04X=%s,%d,%d,%d,%d,0,0" % (ox_id, sends, start, count, wanted, dl)
+
+
 def a_linux_host():
     """libfc's requests in the order of a session."""
     fresh()
-    link("libfc-plogi", LIBFC["plogi"], login_acc, "01p")
+    answers("libfc-plogi", LIBFC["plogi"], login_acc, "01p29")
     # "keeps address, names, W18 size, W19/B1, W20/B1, proven, unpaired, attention 29h"
     keeps("libfc-kept", 0, "01" "01" "00" "29" "FF" "01" "0840" "00000001 2000525400120001 1000525400120001")
-    link("libfc-prli", LIBFC["prli"], prli_acc, "01P")
-    link("libfc-rtv", LIBFC["rtv"], rjt("0B,00"), "01P")  # "other code 0B,00"
-    opens(0, 0x010D, "01P:010D")
-    link("libfc-rec", LIBFC["rec"], rjt("0B,00"), "01P:010D")
-    link("libfc-adisc", LIBFC["adisc"], adisc_acc, "01P:010D")
-    link("libfc-rrq-of-12", LIBFC["rrq12"], rjt("03,00"), "01P:010D")  # "wrong size 03,00": RRQ 44
-    link("libfc-rrq-open", LIBFC["rrq"], rjt("03,17"), "01P:010D")  # "that OX_ID open 03,17"
-    link("libfc-abts", LIBFC["abts"], ba_acc, "01P")  # "the sender's exchange of that OX_ID, if any, ends"
-    link("libfc-rrq", LIBFC["rrq"], acc, "01P")  # "else ACC of 4 bytes"
-    link("libfc-logo", LIBFC["logo"], acc, "")  # "Ends the login if any; ACC of 4 bytes"
+    answers("libfc-prli", LIBFC["prli"], prli_acc, "01P29")
+    answers("libfc-rtv", LIBFC["rtv"], rjt("0B,00"), "01P29")  # "other code 0B,00"
+    answers("libfc-inquiry", LIBFC["inquiry"], nothing, "01P29:0103")  # "INQUIRY and REQUEST SENSE skip 2 and 3"
+    answers("libfc-tur-attention", LIBFC["tur-attention"], check("06/29/00"), "01P:0103")  # "and cleared"
+    answers("libfc-inquiry-lun-1", LIBFC["inquiry-lun-1"], nothing, "01P:0103:0105")  # only bit 0 of byte 1 is named
+    answers("libfc-tur", LIBFC["tur"], good(), "01P:0103:0105")
+    answers("libfc-capacity", LIBFC["capacity"], nothing, "01P:0103:0105:0107")
+    answers("libfc-mode-sense", LIBFC["mode-sense"], check("05/20/00", 4), "01P:0103:0105:0107")
+    answers("libfc-read", LIBFC["read"], nothing, "01P:0103:0105:0107:0109")
+    answers("libfc-report-luns", LIBFC["report-luns"], check("05/20/00", 4096), "01P:0103:0105:0107:0109")
+    answers("libfc-capacity-16", LIBFC["capacity-16"], check("05/20/00", 32), "01P:0103:0105:0107:0109")
+    shows("libfc-open", 0, "01P", " ".join((exchange(0x0103, "INQUIRY", 36, 36), exchange(0x0105, "INQUIRY-7F", 36, 36),
+                                           exchange(0x0107, "CAPACITY", 8, 8), exchange(0x0109, "READ", 4096, 4096, 0, 8))))
+    answers("libfc-adisc", LIBFC["adisc"], adisc_acc, "01P:0103:0105:0107:0109")
+    answers("libfc-read-aborted", LIBFC["read-aborted"], nothing, "01P:0103:0105:0107:0109:010D")
+    answers("libfc-rec", LIBFC["rec"], rjt("0B,00"), "01P:0103:0105:0107:0109:010D")
+    answers("libfc-rrq-of-12", LIBFC["rrq12"], rjt("03,00"), "01P:0103:0105:0107:0109:010D")  # "wrong size 03,00": RRQ 44
+    answers("libfc-rrq-open", LIBFC["rrq"], rjt("03,17"), "01P:0103:0105:0107:0109:010D")  # "that OX_ID open 03,17"
+    answers("libfc-abts", LIBFC["abts"], ba_acc, "01P:0103:0105:0107:0109")  # "the sender's exchange of that OX_ID, if any, ends"
+    answers("libfc-rrq", LIBFC["rrq"], acc, "01P:0103:0105:0107:0109")  # "else ACC of 4 bytes"
+    answers("libfc-lun-reset", LIBFC["lun-reset"], code("02"), "01P:0103:0105:0107:0109")  # "a task flag of 01h, 08h, 10h"
+    answers("libfc-clear-aca", LIBFC["clear-aca"], code("04"), "01P:0103:0105:0107:0109")  # "80h, 40h: 04"
+    answers("libfc-abort-task-set", LIBFC["abort-task-set"], code("00"), "01P")  # "02h abort task set the sender's"
+    answers("libfc-clear-task-set", LIBFC["clear-task-set"], code("00"), "01P")
+    answers("libfc-target-reset", LIBFC["target-reset"], code("00"), "01P29")  # "gives every login attention 29h"
+    answers("libfc-logo", LIBFC["logo"], acc, "")  # "Ends the login if any; ACC of 4 bytes"
 
 
 def other_codes_and_sizes():
@@ -247,27 +369,27 @@ def other_codes_and_sizes():
     fresh("01")
     for code in (0x00, 0x01, 0x02, 0x04, 0x06, 0x0F, 0x11, 0x13, 0x22, 0x24, 0x51, 0x53, 0xFF):
         for host, size in ((0x01, 116), (0x02, 4)):  # with a login and without, of any size
-            link("code-%02X" % code, frame(host, 0x0900 + code, bytes([code]) + bytes(size - 1)), rjt("0B,00"), "01p")
+            answers("code-%02X" % code, frame(host, 0x0900 + code, bytes([code]) + bytes(size - 1)), rjt("0B,00"), "01p29")
     sizes = {0x03: 116, 0x05: 16, 0x12: 44, 0x20: 20, 0x21: 20, 0x50: 116, 0x52: 28}  # "Codes and payload sizes"
     for code, size in sizes.items():
         for wrong in (4, size - 4, size + 4):
             for host in (0x01, 0x02):  # size is looked at before the login; a PLOGI "of right size" only ends the login
-                link("size-%02X-%d" % (code, wrong), frame(host, 0x0A00 + code, bytes([code]) + bytes(wrong - 1)), rjt("03,00"), "01p")
+                answers("size-%02X-%d" % (code, wrong), frame(host, 0x0A00 + code, bytes([code]) + bytes(wrong - 1)), rjt("03,00"), "01p29")
 
 
 def no_login():
     """"no login (PLOGI and LOGO excepted) a drive LOGO"; "ABTS: no login, drive LOGO"."""
     fresh("02")
     for host in (0x01, 0xE8):
-        link("no-login-pdisc", pdisc(host), logout, "02p")
-        link("no-login-adisc", adisc(host), logout, "02p")
-        link("no-login-prli", prli(host), logout, "02p")
-        link("no-login-prli-ill", prli(host, "20" + "00" * 19), logout, "02p")  # before the service's own tests
-        link("no-login-prlo", prlo(host), logout, "02p")
-        link("no-login-rrq", rrq(host, 0x0101), logout, "02p")
-        link("no-login-abts", abts(host, 0x0101), logout, "02p")
-        link("no-login-abts-rx-id", abts(host, 0x0101, rx_id=0x0000), logout, "02p")
-        link("no-login-logo", logo(host), acc, "02p")  # "Ends the login if any"
+        answers("no-login-pdisc", pdisc(host), logout, "02p29")
+        answers("no-login-adisc", adisc(host), logout, "02p29")
+        answers("no-login-prli", prli(host), logout, "02p29")
+        answers("no-login-prli-ill", prli(host, "20" + "00" * 19), logout, "02p29")  # before the service's own tests
+        answers("no-login-prlo", prlo(host), logout, "02p29")
+        answers("no-login-rrq", rrq(host, 0x0101), logout, "02p29")
+        answers("no-login-abts", abts(host, 0x0101), logout, "02p29")
+        answers("no-login-abts-rx-id", abts(host, 0x0101, rx_id=0x0000), logout, "02p29")
+        answers("no-login-logo", logo(host), acc, "02p29")  # "Ends the login if any"
 
 
 # "Tests in word order", each with its pair and, for the order, a second fault in the word after it
@@ -297,69 +419,69 @@ WORD_TESTS = (
 def plogi_tests():
     """"Of right size, it ends the sender's login and exchanges first, accepted or not"."""
     fresh("0102")
-    link("prli", prli(0x02), prli_acc, "01p 02P")
-    opens(1, 0x0101, "01p 02P:0101")
+    answers("prli", prli(0x02), prli_acc, "01p29 02P29")
+    opens(0x02, 0x0101, "01p29 02P29:0101")
     for name, pair, changes in WORD_TESTS:
-        link("plogi-" + name, login(0x01, **changes), rjt(pair), ". 02P:0101")  # the old login is gone
-        link("plogi", login(0x01), login_acc, "01p 02P:0101")
+        answers("plogi-" + name, login(0x01, **changes), rjt(pair), ". 02P29:0101")  # the old login is gone
+        answers("plogi", login(0x01), login_acc, "01p29 02P29:0101")
     # "low 12 bits"; the size that is kept is W18's
     for name, w2, w18, kept in (("256", "0840", "0100", "0100"), ("2112", "0100", "0840", "0840"), ("4352", "F840", "1100", "0100")):
         sizes = {"w2": bytes.fromhex(w2), "w18": bytes.fromhex(w18)}
-        link("plogi-w18-" + name, login(0x01, **sizes, w17=b"\x80", w19=b"\x7E", w20=b"\x03"), login_acc, "01p 02P:0101")
+        answers("plogi-w18-" + name, login(0x01, **sizes, w17=b"\x80", w19=b"\x7E", w20=b"\x03"), login_acc, "01p29 02P29:0101")
         keeps("kept-w18-" + name, 0, "01" "01" "00" "29" "7E" "03" + kept + "00000001 2000525400120001 1000525400120001")
-    link("plogi-again", login(0x02), login_acc, "01p 02p")  # ends its exchanges and its pairing
+    answers("plogi-again", login(0x02), login_acc, "01p29 02p29")  # ends its exchanges and its pairing
     keeps("kept-again", 1, "01" "01" "00" "29" "FF" "01" "0840" "00000002 2000525400120002 1000525400120002")
-    link("plogi-names-low", login(0x01, port=bytes(7) + b"\x01", node=b"\x01" + bytes(7)), login_acc, "01p 02p")  # "not zero"
+    answers("plogi-names-low", login(0x01, port=bytes(7) + b"\x01", node=b"\x01" + bytes(7)), login_acc, "01p29 02p29")  # "not zero"
     keeps("kept-names-low", 0, "01" "01" "00" "29" "FF" "01" "0840" "00000001 0000000000000001 0100000000000000")
 
 
 def places():
     """"8 logins at most"; "a free place, else 09,29"; "the lowest free place"; "A freed place is used again"."""
     fresh("01020408" "0F101718")
-    eight = "01p 02p 04p 08p 0Fp 10p 17p 18p"
-    link("ninth", login(0x1B), rjt("09,29"), eight)
-    link("ninth-w20", login(0x1B, w20=LOW), rjt("03,01"), eight)  # the room test comes last
-    link("ninth-pdisc", pdisc(0x1B), logout, eight)
-    link("full-member", login(0x08), login_acc, eight)  # a full table takes its own member's new login
-    link("full-pdisc", pdisc(0x18), login_acc, eight)  # "without the room test"
-    link("full-logo", logo(0x0F), acc, "01p 02p 04p 08p . 10p 17p 18p")
-    link("freed-place", login(0x1B), login_acc, "01p 02p 04p 08p 1Bp 10p 17p 18p")
-    link("full-rejected", login(0x10, w19=LOW), rjt("03,09"), "01p 02p 04p 08p 1Bp . 17p 18p")
-    link("logo", logo(0x02), acc, "01p . 04p 08p 1Bp . 17p 18p")
-    link("lowest-free", login(0x1D), login_acc, "01p 1Dp 04p 08p 1Bp . 17p 18p")
-    link("logo", logo(0x01), acc, ". 1Dp 04p 08p 1Bp . 17p 18p")
-    link("moves-down", login(0x18), login_acc, "18p 1Dp 04p 08p 1Bp . 17p")  # its old place is free and is not the lowest
+    eight = "01p29 02p29 04p29 08p29 0Fp29 10p29 17p29 18p29"
+    answers("ninth", login(0x1B), rjt("09,29"), eight)
+    answers("ninth-w20", login(0x1B, w20=LOW), rjt("03,01"), eight)  # the room test comes last
+    answers("ninth-pdisc", pdisc(0x1B), logout, eight)
+    answers("full-member", login(0x08), login_acc, eight)  # a full table takes its own member's new login
+    answers("full-pdisc", pdisc(0x18), login_acc, eight)  # "without the room test"
+    answers("full-logo", logo(0x0F), acc, "01p29 02p29 04p29 08p29 . 10p29 17p29 18p29")
+    answers("freed-place", login(0x1B), login_acc, "01p29 02p29 04p29 08p29 1Bp29 10p29 17p29 18p29")
+    answers("full-rejected", login(0x10, w19=LOW), rjt("03,09"), "01p29 02p29 04p29 08p29 1Bp29 . 17p29 18p29")
+    answers("logo", logo(0x02), acc, "01p29 . 04p29 08p29 1Bp29 . 17p29 18p29")
+    answers("lowest-free", login(0x1D), login_acc, "01p29 1Dp29 04p29 08p29 1Bp29 . 17p29 18p29")
+    answers("logo", logo(0x01), acc, ". 1Dp29 04p29 08p29 1Bp29 . 17p29 18p29")
+    answers("moves-down", login(0x18), login_acc, "18p29 1Dp29 04p29 08p29 1Bp29 . 17p29")  # its old place is free and is not the lowest
     fresh("01")
-    link("one-port-name", login(0x02, port=names_of(0x01)[0]), login_acc, "01p 02p")  # "not compared between addresses"
-    link("one-name", login(0x04, port=names_of(0x01)[0], node=names_of(0x01)[1]), login_acc, "01p 02p 04p")
+    answers("one-port-name", login(0x02, port=names_of(0x01)[0]), login_acc, "01p29 02p29")  # "not compared between addresses"
+    answers("one-name", login(0x04, port=names_of(0x01)[0], node=names_of(0x01)[1]), login_acc, "01p29 02p29 04p29")
 
 
 def verified():
     """PDISC and ADISC after a loop reset: "marks every login unproven"; "ACC marks the login proven and changes nothing else"."""
     fresh("0102")
-    link("prli", prli(0x01), prli_acc, "01P 02p")
-    opens(0, 0x0101, "01P:0101 02p")
+    answers("prli", prli(0x01), prli_acc, "01P29 02p29")
+    opens(0x01, 0x0101, "01P29:0101 02p29")
     for name, f, reply in (("pdisc", pdisc(0x01), login_acc), ("adisc", adisc(0x01), adisc_acc),
                            ("pdisc-other-sizes", pdisc(0x01, w2=b"\x01\x00", w18=b"\x02\x00", w19=b"\x09", w20=b"\x08"), login_acc)):
-        event("reset", "r", "01U:0101 02u")
-        link("reset-" + name, f, reply, "01P:0101 02u")
+        event("reset", "r", "01U29:0101 02u29")
+        answers("reset-" + name, f, reply, "01P29:0101 02u29")
         keeps("kept-" + name, 0, "01" "01" "01" "29" "FF" "01" "0840" "00000001 2000525400120001 1000525400120001")
-    event("reset", "r", "01U:0101 02u")
+    event("reset", "r", "01U29:0101 02u29")
     for name, pair, changes in WORD_TESTS:  # "PDISC then tests as PLOGI, .. changing nothing on reject"
         if not changes.keys() & {"port", "node"}:
-            link("pdisc-" + name, pdisc(0x01, **changes), rjt(pair), "01U:0101 02u")
+            answers("pdisc-" + name, pdisc(0x01, **changes), rjt(pair), "01U29:0101 02u29")
     keeps("kept-rejected", 0, "01" "00" "01" "29" "FF" "01" "0840" "00000001 2000525400120001 1000525400120001")
-    link("reset-logo", logo(0x02), acc, "01U:0101")
-    link("reset-plogi", login(0x02), login_acc, "01U:0101 02p")
-    event("verification-over", "v", ". 02p")
+    answers("reset-logo", logo(0x02), acc, "01U29:0101")
+    answers("reset-plogi", login(0x02), login_acc, "01U29:0101 02p29")
+    event("verification-over", "v", ". 02p29")
     event("power-on", "o", "")
 
 
 def other_names():
     """"Names differ from the login's, or ADISC W6/B1-3 from S_ID: drive LOGO, login ended"."""
     fresh("0201")
-    link("prli", prli(0x01), prli_acc, "02p 01P")
-    opens(1, 0x0101, "02p 01P:0101")
+    answers("prli", prli(0x01), prli_acc, "02p29 01P29")
+    opens(0x01, 0x0101, "02p29 01P29:0101")
     port, node = names_of(0x01)
     first, last = b"\x21" + port[1:], node[:7] + b"\x02"
     for name, f in (("pdisc-port", pdisc(0x01, port=first)), ("pdisc-node", pdisc(0x01, node=last)),
@@ -367,12 +489,12 @@ def other_names():
                     ("pdisc-swapped", pdisc(0x01, port=node, node=port)), ("pdisc-port-w2", pdisc(0x01, w2=bytes(2), port=first)),
                     ("adisc-port", adisc(0x01, port=first)), ("adisc-node", adisc(0x01, node=last)),
                     ("adisc-swapped", adisc(0x01, port=node, node=port)), ("adisc-address", adisc(0x01, named=0x02))):
-        link(name, f, logout, "02p")
-        link("plogi", login(0x01), login_acc, "02p 01p")
-        event("reset", "r", "02u 01u")
-        link(name + "-unproven", f, logout, "02u")
-        link("plogi", login(0x01), login_acc, "02u 01p")
-        link("pdisc", pdisc(0x02), login_acc, "02p 01p")
+        answers(name, f, logout, "02p29")
+        answers("plogi", login(0x01), login_acc, "02p29 01p29")
+        event("reset", "r", "02u29 01u29")
+        answers(name + "-unproven", f, logout, "02u29")
+        answers("plogi", login(0x01), login_acc, "02u29 01p29")
+        answers("pdisc", pdisc(0x02), login_acc, "02p29 01p29")
 
 
 def pairing():
@@ -381,60 +503,60 @@ def pairing():
     faults = (("b1", "11001408002000" + "00" * 8), ("b2", "10011408002000" + "00" * 8), ("b3", "10001808002000" + "00" * 8),
               ("type", "10001409002000" + "00" * 8), ("type-0", "10001400002000" + "00" * 8))
     for name, middle in faults:
-        link("prli-" + name, prli(0x01, "20" + middle + "00000022"), rjt("09,00"), "01p 02p")
+        answers("prli-" + name, prli(0x01, "20" + middle + "00000022"), rjt("09,00"), "01p29 02p29")
     for name, rest in (("pair-bit", "0800DF00" + "00" * 8 + "FFFFFFFF"), ("w4-bit-5", "08002000" + "00" * 8 + "FFFFFFDF"),
                        ("w4-bit-1", "08002000" + "00" * 8 + "FFFFFFFD"), ("w4-high", "08002000" + "00" * 8 + "22222200")):
-        link("prli-" + name, prli(0x01, "20100014" + rest), rjt("09,00"), "01p 02p")
-    link("prli-just", prli(0x01, "2010001408002000" + "00" * 8 + "00000022"), prli_acc, "01P 02p")
-    link("prli-all", prli(0x02, "2010001408FFFFFF" + "FF" * 12), prli_acc, "01P 02P")
+        answers("prli-" + name, prli(0x01, "20100014" + rest), rjt("09,00"), "01p29 02p29")
+    answers("prli-just", prli(0x01, "2010001408002000" + "00" * 8 + "00000022"), prli_acc, "01P29 02p29")
+    answers("prli-all", prli(0x02, "2010001408FFFFFF" + "FF" * 12), prli_acc, "01P29 02P29")
     keeps("kept-paired", 0, "01" "01" "01" "29" "FF" "01" "0840" "00000001 2000525400120001 1000525400120001")
-    opens(0, 0x0101, "01P:0101 02P")
-    opens(0, 0x0102, "01P:0101:0102 02P")
-    opens(1, 0x0101, "01P:0101:0102 02P:0101")
-    link("prli-again", prli(0x01), prli_acc, "01P:0101:0102 02P:0101")  # "ends nothing"
-    link("prli-rejected", prli(0x01, "20" + "00" * 19), rjt("09,00"), "01P:0101:0102 02P:0101")
+    opens(0x01, 0x0101, "01P29:0101 02P29")
+    opens(0x01, 0x0102, "01P29:0101:0102 02P29")
+    opens(0x02, 0x0101, "01P29:0101:0102 02P29:0101")
+    answers("prli-again", prli(0x01), prli_acc, "01P29:0101:0102 02P29:0101")  # "ends nothing"
+    answers("prli-rejected", prli(0x01, "20" + "00" * 19), rjt("09,00"), "01P29:0101:0102 02P29:0101")
     for name, middle in faults:
-        link("prlo-" + name, prlo(0x01, "21" + middle + "00000000"), rjt("09,00"), "01P:0101:0102 02P:0101")
-    link("prlo", prlo(0x01), prlo_acc, "01p 02P:0101")  # "ends the pairing and its exchanges"
-    link("prlo-again", prlo(0x01, "2110001408" + "FF" * 15), prlo_acc, "01p 02P:0101")
-    link("prli-after-prlo", prli(0x01), prli_acc, "01P 02P:0101")
+        answers("prlo-" + name, prlo(0x01, "21" + middle + "00000000"), rjt("09,00"), "01P29:0101:0102 02P29:0101")
+    answers("prlo", prlo(0x01), prlo_acc, "01p29 02P29:0101")  # "ends the pairing and its exchanges"
+    answers("prlo-again", prlo(0x01, "2110001408" + "FF" * 15), prlo_acc, "01p29 02P29:0101")
+    answers("prli-after-prlo", prli(0x01), prli_acc, "01P29 02P29:0101")
 
 
 def logo_and_rrq():
     """LOGO: "W1/B1-3 must equal S_ID, else 03,1F". RRQ: "W1/B1-3 not S_ID 03,15; that OX_ID open 03,17; else ACC of 4 bytes"."""
     fresh("0102")
-    link("prli", prli(0x01), prli_acc, "01P 02p")
-    opens(0, 0x0101, "01P:0101 02p")
-    opens(0, 0x8102, "01P:0101:8102 02p")
-    link("logo-other", logo(0x01, named=0x02), rjt("03,1F"), "01P:0101:8102 02p")
-    link("logo-other-no-login", logo(0x04, named=0x02), rjt("03,1F"), "01P:0101:8102 02p")
-    link("rrq-other", rrq(0x01, 0x0103, named=0x02), rjt("03,15"), "01P:0101:8102 02p")
-    link("rrq-other-open", rrq(0x01, 0x0101, named=0x02), rjt("03,15"), "01P:0101:8102 02p")
-    link("rrq-open", rrq(0x01, 0x8102), rjt("03,17"), "01P:0101:8102 02p")
-    link("rrq-closed", rrq(0x01, 0x0102), acc, "01P:0101:8102 02p")
-    link("rrq-unpaired", rrq(0x02, 0x0103), acc, "01P:0101:8102 02p")
-    link("logo-ends", logo(0x01), acc, ". 02p")
-    link("logo-again", logo(0x01), acc, ". 02p")
+    answers("prli", prli(0x01), prli_acc, "01P29 02p29")
+    opens(0x01, 0x0101, "01P29:0101 02p29")
+    opens(0x01, 0x8102, "01P29:0101:8102 02p29")
+    answers("logo-other", logo(0x01, named=0x02), rjt("03,1F"), "01P29:0101:8102 02p29")
+    answers("logo-other-no-login", logo(0x04, named=0x02), rjt("03,1F"), "01P29:0101:8102 02p29")
+    answers("rrq-other", rrq(0x01, 0x0103, named=0x02), rjt("03,15"), "01P29:0101:8102 02p29")
+    answers("rrq-other-open", rrq(0x01, 0x0101, named=0x02), rjt("03,15"), "01P29:0101:8102 02p29")
+    answers("rrq-open", rrq(0x01, 0x8102), rjt("03,17"), "01P29:0101:8102 02p29")
+    answers("rrq-closed", rrq(0x01, 0x0102), acc, "01P29:0101:8102 02p29")
+    answers("rrq-unpaired", rrq(0x02, 0x0103), acc, "01P29:0101:8102 02p29")
+    answers("logo-ends", logo(0x01), acc, ". 02p29")
+    answers("logo-again", logo(0x01), acc, ". 02p29")
 
 
 def aborts():
     """"ABTS: no login, drive LOGO. RX_ID not FFFFh, BA_RJT. Else the sender's exchange of that OX_ID, if any, ends; BA_ACC"."""
     fresh("0102")
-    link("abts-unpaired", abts(0x01, 0x0101), ba_acc, "01p 02p")
-    link("prli", prli(0x01), prli_acc, "01P 02p")
-    link("prli", prli(0x02), prli_acc, "01P 02P")
-    opens(0, 0x0101, "01P:0101 02P")
-    opens(0, 0x8102, "01P:0101:8102 02P")
-    opens(1, 0x8102, "01P:0101:8102 02P:8102")
+    answers("abts-unpaired", abts(0x01, 0x0101), ba_acc, "01p29 02p29")
+    answers("prli", prli(0x01), prli_acc, "01P29 02p29")
+    answers("prli", prli(0x02), prli_acc, "01P29 02P29")
+    opens(0x01, 0x0101, "01P29:0101 02P29")
+    opens(0x01, 0x8102, "01P29:0101:8102 02P29")
+    opens(0x02, 0x8102, "01P29:0101:8102 02P29:8102")
     for name, rx_id in (("0000", 0x0000), ("FFFE", 0xFFFE), ("00FF", 0x00FF), ("FF00", 0xFF00)):
-        link("abts-rx-id-%s-open" % name, abts(0x01, 0x8102, rx_id, seq_id=0x5A), ba_rjt, "01P:0101:8102 02P:8102")
-        link("abts-rx-id-%s" % name, abts(0x01, 0x8103, rx_id, seq_id=0xA5), ba_rjt, "01P:0101:8102 02P:8102")
-    link("abts-not-open", abts(0x01, 0x8103, seq_id=0x01), ba_acc, "01P:0101:8102 02P:8102")
-    link("abts-open", abts(0x01, 0x8102, seq_id=0xC3), ba_acc, "01P:0101 02P:8102")  # the other login's stays
-    link("abts-again", abts(0x01, 0x8102, seq_id=0xC4), ba_acc, "01P:0101 02P:8102")
-    opens(0, 0x0103, "01P:0101:0103 02P:8102")
-    link("abts-first", abts(0x01, 0x0101), ba_acc, "01P:0103 02P:8102")
-    opens(0, 0x0104, "01P:0104:0103 02P:8102")  # the freed place is the lowest
+        answers("abts-rx-id-%s-open" % name, abts(0x01, 0x8102, rx_id, seq_id=0x5A), ba_rjt, "01P29:0101:8102 02P29:8102")
+        answers("abts-rx-id-%s" % name, abts(0x01, 0x8103, rx_id, seq_id=0xA5), ba_rjt, "01P29:0101:8102 02P29:8102")
+    answers("abts-not-open", abts(0x01, 0x8103, seq_id=0x01), ba_acc, "01P29:0101:8102 02P29:8102")
+    answers("abts-open", abts(0x01, 0x8102, seq_id=0xC3), ba_acc, "01P29:0101 02P29:8102")  # the other login's stays
+    answers("abts-again", abts(0x01, 0x8102, seq_id=0xC4), ba_acc, "01P29:0101 02P29:8102")
+    opens(0x01, 0x0103, "01P29:0101:0103 02P29:8102")
+    answers("abts-first", abts(0x01, 0x0101), ba_acc, "01P29:0103 02P29:8102")
+    opens(0x01, 0x0104, "01P29:0104:0103 02P29:8102")  # the freed place is the lowest
 
 
 def headers():
@@ -442,13 +564,13 @@ def headers():
     other = {"seq_id": 0xA7, "rx_id": 0x4567, "reserved": 0x5C, "offset": 0x89ABCDEF}  # none of these is in a reply
     fresh("01")
     for name, payload, reply, after in (
-            ("rjt", "0E000000", rjt("0B,00"), "01p"), ("plogi", login(0x01)[24:].hex(), login_acc, "01p"),
-            ("adisc", adisc(0x01)[24:].hex(), adisc_acc, "01p"), ("prli", prli(0x01)[24:].hex(), prli_acc, "01P"),
-            ("prlo", prlo(0x01)[24:].hex(), prlo_acc, "01p"), ("pdisc", pdisc(0x01)[24:].hex(), login_acc, "01p"),
+            ("rjt", "0E000000", rjt("0B,00"), "01p29"), ("plogi", login(0x01)[24:].hex(), login_acc, "01p29"),
+            ("adisc", adisc(0x01)[24:].hex(), adisc_acc, "01p29"), ("prli", prli(0x01)[24:].hex(), prli_acc, "01P29"),
+            ("prlo", prlo(0x01)[24:].hex(), prlo_acc, "01p29"), ("pdisc", pdisc(0x01)[24:].hex(), login_acc, "01p29"),
             ("logo", logo(0x01)[24:].hex(), acc, ""), ("logout", prli(0x01)[24:].hex(), logout, "")):
-        link("header-" + name, frame(0x01, 0x8123, bytes.fromhex(payload), **other), reply, after)
-    link("header-highest", frame(0xE8, 0xFFFF, bytes.fromhex("0E000000")), rjt("0B,00"), "")
-    link("header-lowest", frame(0x01, 0x0000, bytes.fromhex("0E000000")), rjt("0B,00"), "")
+        answers("header-" + name, frame(0x01, 0x8123, bytes.fromhex(payload), **other), reply, after)
+    answers("header-highest", frame(0xE8, 0xFFFF, bytes.fromhex("0E000000")), rjt("0B,00"), "")
+    answers("header-lowest", frame(0x01, 0x0000, bytes.fromhex("0E000000")), rjt("0B,00"), "")
 
 
 def unnamed():
@@ -458,16 +580,16 @@ def unnamed():
     for p, w2, w17, w19, w20 in ((ones, "F840", 0xFF, 0xFF, 0xFF), (zeros, "0100", 0x80, 0x01, 0x01)):
         p[10:12], p[20:28], p[28:36] = bytes.fromhex(w2), PORT, NODE
         p[68], p[74:76], p[77], p[81] = w17, bytes.fromhex(w2), w19, w20
-    link("unnamed-plogi-ones", frame(0x01, 0x0201, bytes(ones)), login_acc, "01p")
+    answers("unnamed-plogi-ones", frame(0x01, 0x0201, bytes(ones)), login_acc, "01p29")
     keeps("kept-ones", 0, "01" "01" "00" "29" "FF" "FF" "0840" "00000001 2000525400120001 1000525400120001")
-    link("unnamed-plogi-zeros", frame(0x01, 0x0202, bytes(zeros)), login_acc, "01p")
+    answers("unnamed-plogi-zeros", frame(0x01, 0x0202, bytes(zeros)), login_acc, "01p29")
     keeps("kept-zeros", 0, "01" "01" "00" "29" "01" "01" "0100" "00000001 2000525400120001 1000525400120001")
     ones[0] = 0x50
-    link("unnamed-pdisc", frame(0x01, 0x0301, bytes(ones)), login_acc, "01p")
-    link("unnamed-adisc", frame(0x01, 0x0401, b"\x52" + b"\xFF" * 7 + PORT + NODE + bytes.fromhex("FF000001")), adisc_acc, "01p")
-    link("unnamed-rrq", frame(0x01, 0x0601, bytes.fromhex("12FFFFFFFF0000010101") + b"\xFF" * 34), acc, "01p")
-    link("unnamed-abts", frame(0x01, 0x0101, b"\xFF" * 8, r_ctl=0x81, kind=0x00), ba_acc, "01p")
-    link("unnamed-logo", frame(0x01, 0x0501, bytes.fromhex("05FFFFFFFF000001") + b"\xFF" * 8), acc, "")
+    answers("unnamed-pdisc", frame(0x01, 0x0301, bytes(ones)), login_acc, "01p29")
+    answers("unnamed-adisc", frame(0x01, 0x0401, b"\x52" + b"\xFF" * 7 + PORT + NODE + bytes.fromhex("FF000001")), adisc_acc, "01p29")
+    answers("unnamed-rrq", frame(0x01, 0x0601, bytes.fromhex("12FFFFFFFF0000010101") + b"\xFF" * 34), acc, "01p29")
+    answers("unnamed-abts", frame(0x01, 0x0101, b"\xFF" * 8, r_ctl=0x81, kind=0x00), ba_acc, "01p29")
+    answers("unnamed-logo", frame(0x01, 0x0501, bytes.fromhex("05FFFFFFFF000001") + b"\xFF" * 8), acc, "")
 
 
 for part in (a_linux_host, other_codes_and_sizes, no_login, plogi_tests, places, verified, other_names, pairing, logo_and_rrq,
