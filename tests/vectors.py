@@ -592,8 +592,407 @@ def unnamed():
     answers("unnamed-logo", frame(0x01, 0x0501, bytes.fromhex("05FFFFFFFF000001") + b"\xFF" * 8), acc, "")
 
 
+def paired(hosts, capacity=CAPACITY):
+    """A drive to which each host logs in and pairs; "attention 29h" stands at each."""
+    fresh(hosts, capacity)
+    known = bytes.fromhex(hosts)
+    for n in range(len(known)):
+        answers("prli", prli(known[n]), prli_acc, " ".join("%02X%s29" % (host, "P" if i <= n else "p") for i, host in enumerate(known)))
+
+
+def ready(hosts, capacity=CAPACITY):
+    """The same, and the first command of each host, which is told of the attention: "06/29/00 .. and cleared"."""
+    paired(hosts, capacity)
+    known = bytes.fromhex(hosts)
+    for n in range(len(known)):
+        answers("first", test_unit(known[n]), check("06/29/00"),
+                " ".join("%02XP%s" % (host, "" if i <= n else "29") for i, host in enumerate(known)))
+
+
+def task(host, flag, **changes):
+    return cmnd(host, 0x0B00 + flag, "", bits=0x00, task=flag, **changes)
+
+
+OTHER_UNITS = tuple(bytes(i) + bit + bytes(7 - i) for i, bit in enumerate((b"\x01", b"\x80") * 4))  # a bit in each of the eight bytes
+HIGHEST = 4294967295
+# a command for each code that is known, and two that are not
+EACH = (("test-unit-ready", TEST_UNIT_READY), ("request-sense", request_sense()), ("inquiry", inquiry()), ("read-capacity", READ_CAPACITY),
+        ("read", read(0, 1)), ("write", write(0, 1)), ("code-1A", "1A0000000000"), ("code-FF", "FF0000000000"))
+THE_REST = tuple((name, cdb) for name, cdb in EACH if name not in ("request-sense", "inquiry"))
+
+
+def no_paired_login():
+    """"No paired login: drive LOGO, login ended (house)"."""
+    fresh("01020408")
+    answers("prli", prli(0x08), prli_acc, "01p29 02p29 04p29 08P29")
+    opens(0x08, 0x0101, "01p29 02p29 04p29 08P29:0101")
+    answers("unpaired", test_unit(0x02), logout, "01p29 . 04p29 08P29:0101")
+    answers("unpaired-again", test_unit(0x02), logout, "01p29 . 04p29 08P29:0101")  # now there is no login at all
+    answers("never-logged-in", test_unit(0xE8), logout, "01p29 . 04p29 08P29:0101")
+    answers("unpaired-size-28", cmnd(0x01, 0x0102, inquiry(), 36, size=28), logout, ". . 04p29 08P29:0101")  # before the size
+    answers("unpaired-target-reset", task(0x04, 0x20), logout, ". . . 08P29:0101")  # before the task flags
+    answers("plogi", login(0x01), login_acc, "01p29 . . 08P29:0101")
+    answers("unpaired-inquiry", cmnd(0x01, 0x0102, inquiry(), 36), logout, ". . . 08P29:0101")
+    answers("plogi", login(0x01), login_acc, "01p29 . . 08P29:0101")
+    answers("prli", prli(0x01), prli_acc, "01P29 . . 08P29:0101")
+    answers("paired", test_unit(0x01), check("06/29/00"), "01P . . 08P29:0101")
+    answers("paired-again", test_unit(0x01), good(), "01P . . 08P29:0101")
+    opens(0x01, 0x0101, "01P:0101 . . 08P29:0101")
+    answers("prlo", prlo(0x01), prlo_acc, "01p . . 08P29:0101")
+    answers("after-prlo", test_unit(0x01), logout, ". . . 08P29:0101")
+
+
+def response_codes():
+    """"RSP_CODE 02 for a size other than 32, both data bits, a task flag of 01h, 08h, 10h, or two flags. 80h, 40h: 04"."""
+    paired("0102")
+    opens(0x01, 0x0101, "01P29:0101 02P29")
+    opens(0x02, 0x0102, "01P29:0101 02P29:0102")
+    same = "01P29:0101 02P29:0102"  # none of these changes anything, and "RSP_CODE .. answers give 0" whatever FCP_DL is
+    for size in (0, 4, 28, 36, 2112):
+        for ox_id in (0x0101, 0x0103):  # open, and not: the tests are "for the rest"
+            answers("cmnd-size-%d" % size, cmnd(0x01, ox_id, inquiry(), 36, size=size), code("02"), same)
+        for flag in (0x20, 0x80, 0x04):
+            answers("cmnd-size-%d-flag-%02X" % (size, flag), task(0x01, flag, dl=4096, size=size), code("02"), same)
+    for bits in (0x03, 0xFF):
+        for ox_id in (0x0101, 0x0103):
+            answers("both-bits-%02X" % bits, cmnd(0x01, ox_id, inquiry(), 36, bits=bits), code("02"), same)
+        for flag in (0x20, 0x80, 0x04):
+            answers("both-bits-%02X-flag-%02X" % (bits, flag), cmnd(0x01, 0x0103, "", 4096, bits=bits, task=flag), code("02"), same)
+    for ox_id in (0x0101, 0x0103):
+        for lun in (ZERO_UNIT, OTHER_UNITS[1]):
+            for flag in (0x01, 0x08, 0x10):
+                answers("flag-%02X" % flag, cmnd(0x01, ox_id, "", 4096, lun=lun, task=flag), code("02"), same)
+            for flag in (0x80, 0x40):
+                answers("flag-%02X" % flag, cmnd(0x01, ox_id, "", 4096, lun=lun, task=flag), code("04"), same)
+    flags = (0x80, 0x40, 0x20, 0x10, 0x08, 0x04, 0x02, 0x01)
+    for n, one in enumerate(flags):
+        for two in flags[n + 1:]:
+            answers("flags-%02X-%02X" % (one, two), task(0x01, one + two, dl=4096), code("02"), same)
+    answers("flags-all", task(0x01, 0xFF), code("02"), same)
+    answers("flags-three", task(0x01, 0x26, lun=OTHER_UNITS[0]), code("02"), same)
+    for flag in (0x04, 0x02):  # "with a nonzero LUN 05"
+        for lun in OTHER_UNITS:
+            answers("flag-%02X-lun" % flag, task(0x01, flag, dl=4096, lun=lun), code("05"), same)
+        answers("flag-%02X-lun-open" % flag, cmnd(0x01, 0x0101, "", task=flag, lun=OTHER_UNITS[7]), code("05"), same)
+
+
+def target_reset():
+    """"20h target reset ends all exchanges and gives every login attention 29h"."""
+    ready("01020408" "0F10")
+    opens(0x01, 0x0101, "01P:0101 02P 04P 08P 0FP 10P")
+    opens(0x02, 0x0101, "01P:0101 02P:0101 04P 08P 0FP 10P")
+    opens(0x02, 0x0102, "01P:0101 02P:0101:0102 04P 08P 0FP 10P")
+    opens(0x0F, 0x0103, "01P:0101 02P:0101:0102 04P 08P 0FP:0103 10P")
+    answers("prlo", prlo(0x08), prlo_acc, "01P:0101 02P:0101:0102 04P 08p 0FP:0103 10P")
+    event("reset", "r", "01U:0101 02U:0101:0102 04U 08u 0FU:0103 10U")
+    answers("pdisc", pdisc(0x01), login_acc, "01P:0101 02U:0101:0102 04U 08u 0FU:0103 10U")
+    answers("adisc", adisc(0x02), adisc_acc, "01P:0101 02P:0101:0102 04U 08u 0FU:0103 10U")
+    answers("adisc", adisc(0x10), adisc_acc, "01P:0101 02P:0101:0102 04U 08u 0FU:0103 10P")
+    # the sender, one that is not paired, and those that are not proven too
+    answers("target-reset", task(0x01, 0x20), code("00"), "01P29 02P29 04U29 08u29 0FU29 10P29")
+    keeps("kept-unproven-reset", 3, "01" "00" "00" "29" "FF" "01" "0840" "00000008 2000525400120008 1000525400120008")
+    shows("open-after-reset", 1, "02P29", "")
+    answers("target-reset-told", test_unit(0x01), check("06/29/00"), "01P 02P29 04U29 08u29 0FU29 10P29")
+    answers("target-reset-told", test_unit(0x02), check("06/29/00"), "01P 02P 04U29 08u29 0FU29 10P29")
+    opens(0x02, 0x0104, "01P 02P:0104 04U29 08u29 0FU29 10P29")
+    # FCP_DL counts for nothing; a LUN makes a difference to 04h and 02h alone
+    answers("target-reset-lun", task(0x02, 0x20, dl=4096, lun=OTHER_UNITS[0]), code("00"), "01P29 02P29 04U29 08u29 0FU29 10P29")
+    answers("target-reset-again", task(0x10, 0x20), code("00"), "01P29 02P29 04U29 08u29 0FU29 10P29")
+    opens(0x01, 0x0105, "01P29:0105 02P29 04U29 08u29 0FU29 10P29")
+    answers("target-reset-open", cmnd(0x01, 0x0105, "", task=0x20), code("00"), "01P29 02P29 04U29 08u29 0FU29 10P29")
+
+
+def clear_task_set():
+    """"04h clear task set ends all .. after 04h each other login that lost one gets 2Fh unless 29h stands"."""
+    ready("01020408" "0F10")
+    opens(0x10, 0x0101, "01P 02P 04P 08P 0FP 10P:0101")
+    answers("clear-one", task(0x01, 0x04), code("00"), "01P 02P 04P 08P 0FP 10P2F")
+    answers("plogi", login(0x0F), login_acc, "01P 02P 04P 08P 0Fp29 10P2F")
+    answers("prli", prli(0x0F), prli_acc, "01P 02P 04P 08P 0FP29 10P2F")
+    opens(0x0F, 0x0101, "01P 02P 04P 08P 0FP29:0101 10P2F")
+    opens(0x01, 0x0101, "01P:0101 02P 04P 08P 0FP29:0101 10P2F")
+    opens(0x02, 0x0102, "01P:0101 02P:0102 04P 08P 0FP29:0101 10P2F")
+    opens(0x02, 0x0103, "01P:0101 02P:0102:0103 04P 08P 0FP29:0101 10P2F")
+    opens(0x08, 0x0104, "01P:0101 02P:0102:0103 04P 08P:0104 0FP29:0101 10P2F")
+    event("reset", "r", "01U:0101 02U:0102:0103 04U 08U:0104 0FU29:0101 10U2F")
+    answers("pdisc", pdisc(0x01), login_acc, "01P:0101 02U:0102:0103 04U 08U:0104 0FU29:0101 10U2F")
+    answers("pdisc", pdisc(0x02), login_acc, "01P:0101 02P:0102:0103 04U 08U:0104 0FU29:0101 10U2F")
+    answers("adisc", adisc(0x04), adisc_acc, "01P:0101 02P:0102:0103 04P 08U:0104 0FU29:0101 10U2F")
+    answers("adisc", adisc(0x0F), adisc_acc, "01P:0101 02P:0102:0103 04P 08U:0104 0FP29:0101 10U2F")
+    answers("adisc", adisc(0x10), adisc_acc, "01P:0101 02P:0102:0103 04P 08U:0104 0FP29:0101 10P2F")
+    # 01 sent it, 02 and the unproven 08 lost one, 04 lost none, at 0F 29h stands, 10 lost none and keeps what it had
+    answers("clear-task-set", task(0x01, 0x04), code("00"), "01P 02P2F 04P 08U2F 0FP29 10P2F")
+    shows("open-after-clear", 1, "02P2F", "")
+    opens(0x02, 0x0105, "01P 02P2F:0105 04P 08U2F 0FP29 10P2F")
+    opens(0x04, 0x0105, "01P 02P2F:0105 04P:0105 08U2F 0FP29 10P2F")
+    answers("clear-by-loser", task(0x02, 0x04), code("00"), "01P 02P2F 04P2F 08U2F 0FP29 10P2F")  # the sender's attention stands
+    opens(0x02, 0x0106, "01P 02P2F:0106 04P2F 08U2F 0FP29 10P2F")
+    answers("clear-once-more", task(0x01, 0x04, dl=4096), code("00"), "01P 02P2F 04P2F 08U2F 0FP29 10P2F")
+    opens(0x0F, 0x0106, "01P 02P2F 04P2F 08U2F 0FP29:0106 10P2F")
+    answers("clear-by-29", cmnd(0x0F, 0x0106, "", task=0x04), code("00"), "01P 02P2F 04P2F 08U2F 0FP29 10P2F")
+    answers("clear-told", test_unit(0x02), check("06/2F/00"), "01P 02P 04P2F 08U2F 0FP29 10P2F")
+    answers("clear-told-once", test_unit(0x02), good(), "01P 02P 04P2F 08U2F 0FP29 10P2F")
+    answers("clear-told", test_unit(0x0F), check("06/29/00"), "01P 02P 04P2F 08U2F 0FP 10P2F")
+    answers("reset-over-2F", task(0x01, 0x20), code("00"), "01P29 02P29 04P29 08U29 0FP29 10P29")
+
+
+def abort_task_set():
+    """"02h abort task set the sender's": no attention, and no other login's exchange."""
+    ready("0102")
+    opens(0x01, 0x0101, "01P:0101 02P")
+    opens(0x01, 0x0102, "01P:0101:0102 02P")
+    opens(0x02, 0x0101, "01P:0101:0102 02P:0101")
+    answers("abort-task-set", task(0x01, 0x02), code("00"), "01P 02P:0101")
+    answers("abort-none", task(0x01, 0x02, dl=4096), code("00"), "01P 02P:0101")
+    opens(0x01, 0x0103, "01P:0103 02P:0101")
+    answers("abort-open", cmnd(0x01, 0x0103, "", task=0x02), code("00"), "01P 02P:0101")
+    answers("target-reset", task(0x01, 0x20), code("00"), "01P29 02P29")
+    opens(0x02, 0x0101, "01P29 02P29:0101")
+    answers("abort-with-29", task(0x02, 0x02), code("00"), "01P29 02P29")
+
+
+def overlapped():
+    """"(1) OX_ID open at this login: that exchange ends, 0B/4E/00"."""
+    ready("0102")
+    opens(0x02, 0x0101, "01P 02P:0101")  # the other login's stays
+    for name, cdb in EACH + (("field", "120100002400"), ("outside", read(100, 1))):
+        for how, changes in (("", {}), ("-lun", {"lun": OTHER_UNITS[1]}), ("-no-read-bit", {"bits": 0x00})):
+            opens(0x01, 0x0101, "01P:0101 02P:0101")
+            answers("overlap-" + name + how, cmnd(0x01, 0x0101, cdb, 512, **changes), check("0B/4E/00", 512), "01P 02P:0101")
+    opens(0x01, 0x0101, "01P:0101 02P:0101")
+    opens(0x01, 0x0102, "01P:0101:0102 02P:0101")
+    opens(0x01, 0x0103, "01P:0101:0102:0103 02P:0101")
+    answers("overlap-just-that", cmnd(0x01, 0x0102, read(0, 1)), check("0B/4E/00"), "01P:0101:0103 02P:0101")
+    shows("overlap-freed", 0, "01P", exchange(0x0101, "INQUIRY", 36, 36) + " . " + exchange(0x0103, "INQUIRY", 36, 36))
+    opens(0x01, 0x0102, "01P:0101:0102:0103 02P:0101")  # "A freed place is used again"
+    answers("target-reset", task(0x02, 0x20), code("00"), "01P29 02P29")
+    for name, cdb in EACH:
+        opens(0x01, 0x0101, "01P29:0101 02P29")
+        answers("overlap-attention-" + name, cmnd(0x01, 0x0101, cdb, 18), check("0B/4E/00", 18), "01P29 02P29")  # before test 3: not cleared
+
+
+def other_units():
+    """"(2) LUN not 0, 05/25/00"; "INQUIRY and REQUEST SENSE skip 2 and 3"."""
+    paired("01")
+    for lun in OTHER_UNITS:
+        answers("lun-test-unit-ready", test_unit(0x01, lun=lun), check("05/25/00"), "01P29")  # before test 3: the attention stands
+        answers("lun-inquiry", cmnd(0x01, 0x0101, inquiry(), 36, lun=lun), nothing, "01P29:0101")
+        answers("lun-request-sense", cmnd(0x01, 0x0102, request_sense(), 18, lun=lun), nothing, "01P29:0101:0102")
+        # "7Fh first for another LUN"; "or 05/25/00 for another LUN"
+        shows("lun-open", 0, "01P29", exchange(0x0101, "INQUIRY-7F", 36, 36) + " " + exchange(0x0102, "SENSE-052500", 18, 18))
+        answers("abort-task-set", task(0x01, 0x02), code("00"), "01P29")
+    for name, cdb in THE_REST + (("field", "25000100000000000000"), ("outside", read(100, 1))):
+        answers("lun-" + name, cmnd(0x01, 0x0101, cdb, 512, lun=OTHER_UNITS[0]), check("05/25/00", 512), "01P29")
+        answers("lun-no-read-bit-" + name, cmnd(0x01, 0x0101, cdb, 512, bits=0x01, lun=OTHER_UNITS[1]), check("05/25/00", 512), "01P29")
+
+
+def attentions():
+    """"(3) attention, 06/29/00 or 06/2F/00, and cleared"; "the attention, cleared as its exchange opens"."""
+    paired("0102")
+    opens(0x01, 0x0101, "01P29:0101 02P29")  # INQUIRY skips the test, and leaves the attention
+    answers("inquiry-none", cmnd(0x01, 0x0102, inquiry(0)), good(), "01P29:0101 02P29")
+    for name, cdb in THE_REST + (("field", "280100000000000001"), ("outside", read(100, 1))):  # before tests 4 to 8
+        answers("target-reset", task(0x02, 0x20), code("00"), "01P29 02P29")
+        answers("attention-29-" + name, cmnd(0x01, 0x0101, cdb, 512), check("06/29/00", 512), "01P 02P29")
+        opens(0x01, 0x0101, "01P:0101 02P29")
+        answers("clear-task-set", task(0x02, 0x04), code("00"), "01P2F 02P29")
+        answers("attention-2F-" + name, cmnd(0x01, 0x0101, cdb, 512, bits=0x00), check("06/2F/00", 512), "01P 02P29")
+    for shown, sends in (("01P29", "SENSE-062900"), ("01P2F", "SENSE-062F00")):
+        if shown == "01P29":
+            answers("target-reset", task(0x02, 0x20), code("00"), "01P29 02P29")
+        else:
+            opens(0x01, 0x0101, "01P:0101 02P29")
+            answers("clear-task-set", task(0x02, 0x04), code("00"), "01P2F 02P29")
+        for name, f, reply in (("none", cmnd(0x01, 0x0101, request_sense(0)), good()),
+                               ("none-of-18", cmnd(0x01, 0x0101, request_sense(0), 18), under(18)),
+                               ("dl-0", cmnd(0x01, 0x0101, request_sense(), 0), over(18)),
+                               ("no-read-bit", cmnd(0x01, 0x0101, request_sense(), 18, bits=0x00), code("02")),
+                               ("write-bit", cmnd(0x01, 0x0101, request_sense(), 18, bits=0x01), code("02"))):
+            answers("sense-not-cleared-" + name, f, reply, shown + " 02P29")  # no exchange opens
+        answers("sense-not-cleared-lun", cmnd(0x01, 0x0101, request_sense(), 18, lun=OTHER_UNITS[1]), nothing, shown + ":0101 02P29")
+        answers("sense-cleared", cmnd(0x01, 0x0102, request_sense(), 18), nothing, "01P:0101:0102 02P29")
+        answers("sense-again", cmnd(0x01, 0x0103, request_sense(), 18), nothing, "01P:0101:0102:0103 02P29")
+        shows("sense-open", 0, "01P", " ".join((exchange(0x0101, "SENSE-052500", 18, 18), exchange(0x0102, sends, 18, 18),
+                                               exchange(0x0103, "SENSE-000000", 18, 18))))
+        answers("sense-then", test_unit(0x01), good(), "01P:0101:0102:0103 02P29")
+        answers("abort-task-set", task(0x01, 0x02), code("00"), "01P 02P29")
+    answers("first-of-the-other", test_unit(0x02), check("06/29/00"), "01P 02P")
+    answers("target-reset", task(0x01, 0x20), code("00"), "01P29 02P29")
+    answers("sense-of-one-byte", cmnd(0x01, 0x0101, request_sense(1), 1), nothing, "01P:0101 02P29")  # it is cleared however little is sent
+    shows("sense-of-one-byte-open", 0, "01P", exchange(0x0101, "SENSE-062900", 1, 1))
+
+
+def codes_and_writes():
+    """"(4) code not 00h, 03h, 12h, 25h, 28h, 2Ah, 05/20/00; (5) 2Ah, 07/27/00"."""
+    ready("01")
+    for number in (0x01, 0x02, 0x04, 0x08, 0x0A, 0x10, 0x11, 0x13, 0x15, 0x1A, 0x1B, 0x23, 0x24, 0x26, 0x27, 0x29, 0x2B, 0x2E, 0x2F, 0x34, 0x35,
+                   0x3B, 0x3C, 0x52, 0x80, 0x83, 0x88, 0x92, 0x9E, 0xA0, 0xA5, 0xA8, 0xAA, 0xFF):
+        answers("code-%02X-command" % number, cmnd(0x01, 0x0101, "%02X01FFFFFFFFFFFFFF" % number, 36), check("05/20/00", 36), "01P")
+        answers("code-%02X-no-data" % number, cmnd(0x01, 0x0101, "%02X" % number, bits=0x00), check("05/20/00"), "01P")
+    for name, cdb in (("", write(0, 1)), ("-nothing", write(0, 0)), ("-outside", write(100, 1)), ("-field", "2A0100000000000001")):
+        for bits in (0x00, 0x01, 0x02):
+            answers("write%s-%d" % (name, bits), cmnd(0x01, 0x0101, cdb, 512, bits=bits), check("07/27/00", 512), "01P")
+    answers("write-dl-0", cmnd(0x01, 0x0101, write(0, 1)), check("07/27/00"), "01P")
+
+
+def fields():
+    """"(6) INQUIRY byte 1 bit 0 or byte 2, READ CAPACITY bytes 2-5 or byte 8 bit 0, READ(10) byte 1 bit 0 set, 05/24/00"."""
+    ready("01")
+    for name, cdb in (("inquiry-byte-1", "120100002400"), ("inquiry-byte-1-all", "12FF00002400"),
+                      ("inquiry-byte-2-low", "120001002400"), ("inquiry-byte-2-high", "120080002400"), ("inquiry-both", "120183002400"),
+                      ("capacity-byte-2-low", "25000100000000000000"), ("capacity-byte-2-high", "25008000000000000000"),
+                      ("capacity-byte-3-low", "25000001000000000000"), ("capacity-byte-3-high", "25000080000000000000"),
+                      ("capacity-byte-4-low", "25000000010000000000"), ("capacity-byte-4-high", "25000000800000000000"),
+                      ("capacity-byte-5-low", "25000000000100000000"), ("capacity-byte-5-high", "25000000008000000000"),
+                      ("capacity-byte-8", "25000000000000000100"), ("capacity-byte-8-all", "2500000000000000FF00"),
+                      ("read-byte-1", "28010000000000000100"), ("read-byte-1-all", "28FF0000000000000100"),
+                      ("read-outside", "28010000006400000100"), ("read-nothing", "28010000000000000000")):
+        answers("field-" + name, cmnd(0x01, 0x0101, cdb, 512), check("05/24/00", 512), "01P")
+        answers("field-%s-dl-0" % name, cmnd(0x01, 0x0101, cdb, 0), check("05/24/00"), "01P")
+        answers("field-%s-no-read-bit" % name, cmnd(0x01, 0x0101, cdb, 512, bits=0x00), check("05/24/00", 512), "01P")  # before test 8
+    answers("field-inquiry-lun", cmnd(0x01, 0x0101, "120100002400", 36, lun=OTHER_UNITS[1]), check("05/24/00", 36), "01P")
+    answers("target-reset", task(0x01, 0x20), code("00"), "01P29")
+    answers("field-inquiry-attention", cmnd(0x01, 0x0101, "120100002400", 36), check("05/24/00", 36), "01P29")
+
+
+def edges():
+    """"(7) READ(10) address not below capacity, or address plus count above it, 05/21/00"; the slip: "adding address and count in 32 bits"."""
+    for capacity, inside, outside in (
+            (100, ((99, 1), (0, 100), (98, 2), (0, 1)),
+             ((99, 2), (100, 0), (100, 1), (0, 101), (1, 100), (98, 3), (355, 1), (2147483648, 1), (4294967295, 0), (4294967295, 1), (4294967295, 101))),
+            (1, ((0, 1),), ((0, 2), (1, 0), (1, 1), (0, 65535), (4294967295, 1), (4294967295, 2))),
+            (8388609, ((8388608, 1), (8323074, 65535)), ((8388608, 2), (8388609, 0), (8323075, 65535))),
+            (4294967295, ((4294967294, 1), (4294901760, 65535), (0, 65535), (2147483648, 1)),
+             ((4294967294, 2), (4294967294, 3), (4294967294, 65535), (4294967295, 0), (4294967295, 1), (4294967295, 2), (4294967295, 65535),
+              (4294901761, 65535), (4294901762, 65535), (4294967280, 16), (4294967280, 17)))):
+        ready("01", capacity)
+        listed, after = [], "01P"
+        for n, (address, count) in enumerate(inside):
+            after += ":%04X" % (0x0101 + n)
+            answers("read-%d-%d" % (address, count), cmnd(0x01, 0x0101 + n, read(address, count), 512 * count), nothing, after)
+            listed.append(exchange(0x0101 + n, "READ", 512 * count, 512 * count, address, count))
+        shows("read-open", 0, "01P", " ".join(listed))
+        for address, count in outside:
+            answers("outside-%d-%d" % (address, count), cmnd(0x01, 0x0201, read(address, count), 512), check("05/21/00", 512), after)
+        address, count = outside[0]
+        answers("outside-dl-0", cmnd(0x01, 0x0201, read(address, count)), check("05/21/00"), after)  # before test 8, and whatever there is to send
+        answers("outside-no-read-bit", cmnd(0x01, 0x0201, read(address, count), 1024, bits=0x00), check("05/21/00", 1024), after)
+        for dl, reply in ((0, good()), (512, under(512))):  # count 0 below the capacity is no fault
+            answers("read-no-block", cmnd(0x01, 0x0201, read(capacity - 1, 0), dl, bits=0x00), reply, after)
+
+
+def no_read_bit():
+    """"(8) bytes to send without the read bit, RSP_CODE 02": FCP_DL 0, or nothing wanted, passes."""
+    ready("01")
+    for name, cdb, wants in (("request-sense", request_sense(), 18), ("inquiry", inquiry(), 36), ("read-capacity", READ_CAPACITY, 8), ("read", read(99, 1), 512)):
+        for bits in (0x00, 0x01, 0xFC, 0xFD):
+            for dl in (1, wants, HIGHEST):
+                answers("no-read-bit-%s-%02X" % (name, bits), cmnd(0x01, 0x0101, cdb, dl, bits=bits), code("02"), "01P")
+            answers("no-read-bit-%s-%02X-dl-0" % (name, bits), cmnd(0x01, 0x0101, cdb, 0, bits=bits), over(wants), "01P")
+
+
+def room():
+    """"(9) bytes to send, eight open, status 28h"; "each with 8 places for open exchanges of its own. A freed place is used again"."""
+    ready("0102")
+    eight = "01P"
+    for ox_id in range(0x0101, 0x0109):
+        eight += ":%04X" % ox_id
+        opens(0x01, ox_id, eight + " 02P")
+    for name, cdb, wants in (("request-sense", request_sense(), 18), ("inquiry", inquiry(), 36), ("read-capacity", READ_CAPACITY, 8), ("read", read(99, 1), 512)):
+        for dl in (1, wants, HIGHEST):
+            answers("eight-" + name, cmnd(0x01, 0x0109, cdb, dl), eight_open(dl), eight + " 02P")
+        answers("eight-%s-dl-0" % name, cmnd(0x01, 0x0109, cdb, 0), over(wants), eight + " 02P")  # nothing to send
+        answers("eight-%s-no-read-bit" % name, cmnd(0x01, 0x0109, cdb, wants, bits=0x00), code("02"), eight + " 02P")  # before test 9
+    for name, cdb, triple in (("code", "FF", "05/20/00"), ("write", write(0, 1), "07/27/00"), ("field", "280100000000000001", "05/24/00"),
+                              ("outside", read(100, 1), "05/21/00")):
+        answers("eight-" + name, cmnd(0x01, 0x0109, cdb, 512), check(triple, 512), eight + " 02P")
+    answers("eight-lun", cmnd(0x01, 0x0109, read(0, 1), 512, lun=OTHER_UNITS[1]), check("05/25/00", 512), eight + " 02P")
+    answers("eight-test-unit-ready", test_unit(0x01), good(), eight + " 02P")
+    answers("eight-read-no-block", cmnd(0x01, 0x0109, read(99, 0), 512), under(512), eight + " 02P")
+    opens(0x02, 0x0109, eight + " 02P:0109")  # each login has its own
+    # test 1 wins, and its place is the one that is free then
+    answers("eight-overlap", cmnd(0x01, 0x0103, read(0, 1), 512), check("0B/4E/00", 512), "01P:0101:0102:0104:0105:0106:0107:0108 02P:0109")
+    answers("eight-freed", cmnd(0x01, 0x0109, read(7, 2), 1024), nothing, "01P:0101:0102:0109:0104:0105:0106:0107:0108 02P:0109")
+    answers("eight-full-again", cmnd(0x01, 0x010A, read(0, 1), 512), eight_open(512), "01P:0101:0102:0109:0104:0105:0106:0107:0108 02P:0109")
+    answers("abts", abts(0x01, 0x0106), ba_acc, "01P:0101:0102:0109:0104:0105:0107:0108 02P:0109")
+    answers("abts", abts(0x01, 0x0101), ba_acc, "01P:0102:0109:0104:0105:0107:0108 02P:0109")
+    answers("lowest-free-first", cmnd(0x01, 0x010A, READ_CAPACITY, 8), nothing, "01P:010A:0102:0109:0104:0105:0107:0108 02P:0109")
+    answers("lowest-free-second", cmnd(0x01, 0x010B, request_sense(), 18), nothing, "01P:010A:0102:0109:0104:0105:010B:0107:0108 02P:0109")
+    shows("lowest-free-open", 0, "01P", " ".join((
+        exchange(0x010A, "CAPACITY", 8, 8), exchange(0x0102, "INQUIRY", 36, 36), exchange(0x0109, "READ", 1024, 1024, 7, 2),
+        exchange(0x0104, "INQUIRY", 36, 36), exchange(0x0105, "INQUIRY", 36, 36), exchange(0x010B, "SENSE-000000", 18, 18),
+        exchange(0x0107, "INQUIRY", 36, 36), exchange(0x0108, "INQUIRY", 36, 36))))
+    answers("abort-task-set", task(0x01, 0x02), code("00"), "01P 02P:0109")
+    opens(0x01, 0x0103, "01P:0103 02P:0109")
+    shows("lowest-free-of-all", 0, "01P", exchange(0x0103, "INQUIRY", 36, 36))
+    paired("01")
+    eight = "01P29"
+    for ox_id in range(0x0101, 0x0109):
+        eight += ":%04X" % ox_id
+        opens(0x01, ox_id, eight)
+    answers("eight-sense-attention", cmnd(0x01, 0x0109, request_sense(), 18), eight_open(18), eight)  # not cleared: no exchange opens
+    answers("eight-overlap-sense", cmnd(0x01, 0x0108, request_sense(), 18), check("0B/4E/00", 18), "01P29:0101:0102:0103:0104:0105:0106:0107")
+    answers("eight-sense-opens", cmnd(0x01, 0x0109, request_sense(), 18), nothing, "01P:0101:0102:0103:0104:0105:0106:0107:0109")
+    answers("target-reset", task(0x01, 0x20), code("00"), "01P29")
+    shows("none-open", 0, "01P29", "")
+
+
+def wanted():
+    """"Wanted: 0; 18 or byte 4 if smaller; 36 or byte 4 if smaller; 8; count × 512"; the residual where nothing is to be sent."""
+    ready("01")
+    commands = [(request_sense(most), "SENSE-000000", wants, 0, 0) for most, wants in ((1, 1), (17, 17), (18, 18), (19, 18), (36, 18), (255, 18))]
+    commands += [(inquiry(most), "INQUIRY", wants, 0, 0) for most, wants in ((1, 1), (18, 18), (35, 35), (36, 36), (37, 36), (255, 36))]
+    commands += [(READ_CAPACITY, "CAPACITY", 8, 0, 0)]
+    commands += [(read(start, count), "READ", wants, start, count) for start, count, wants in ((3, 1, 512), (0, 2, 1024), (0, 100, 51200), (98, 2, 1024))]
+    for cdb, sends, wants, start, count in commands:
+        # less than wanted, as much, and more: 01's known numbers are 1,024 with FCP_DL 1,000 and 2,048, and FCP_DL 1,001
+        lengths = (1, wants, wants + 1, 1000, 1001, 2048, HIGHEST)
+        after = "01P"
+        for n, dl in enumerate(lengths):
+            after += ":%04X" % (0x0101 + n)
+            answers("wanted-%s-dl-%d" % (sends, dl), cmnd(0x01, 0x0101 + n, cdb, dl), nothing, after)
+        shows("wanted-%s-%d" % (sends, wants), 0, "01P", " ".join(exchange(0x0101 + n, sends, wants, dl, start, count) for n, dl in enumerate(lengths)))
+        answers("abort-task-set", task(0x01, 0x02), code("00"), "01P")
+        answers("wanted-%s-dl-0" % sends, cmnd(0x01, 0x0101, cdb, 0), over(wants), "01P")
+    for name, cdb in (("test-unit-ready", TEST_UNIT_READY), ("request-sense-0", request_sense(0)), ("inquiry-0", inquiry(0)), ("read-0", read(0, 0))):
+        answers("wants-nothing-" + name, cmnd(0x01, 0x0101, cdb, 0), good(), "01P")
+        for dl in (1, 256, 1001, 65536, HIGHEST):
+            answers("wants-nothing-%s-dl-%d" % (name, dl), cmnd(0x01, 0x0101, cdb, dl), under(dl), "01P")
+    for dl in (1, 256, 1001, 65536, HIGHEST):  # "0 when refused"
+        answers("refused-dl-%d" % dl, cmnd(0x01, 0x0101, "FF", dl), check("05/20/00", dl), "01P")
+    ready("01", HIGHEST)
+    answers("wanted-most", cmnd(0x01, 0x0101, read(0, 65535), 1), nothing, "01P:0101")
+    shows("wanted-most-open", 0, "01P", exchange(0x0101, "READ", 33553920, 1, 0, 65535))
+    answers("wanted-most-dl-0", cmnd(0x01, 0x0102, read(0, 65535), 0), over(33553920), "01P:0101")
+
+
+def unnamed_of_commands():
+    """Bytes and bits of a command of which 01 says nothing, all ones; and every other field of the header, which no reply has."""
+    other = {"seq_id": 0xA7, "rx_id": 0x4567, "reserved": 0x5C, "offset": 0x89ABCDEF}
+    paired("0102")
+    answers("unnamed-attention", cmnd(0x01, 0x8101, "00" + "FF" * 15, bits=0xFC, byte8=0xFF, attribute=0xFF, **other), check("06/29/00"), "01P 02P29")
+    answers("unnamed-test-unit-ready", cmnd(0x01, 0x8101, "00" + "FF" * 15, 7, bits=0xFD, byte8=0xFF, attribute=0xFF, **other), under(7), "01P 02P29")
+    after = "01P"
+    for n, cdb in enumerate(("03FFFFFF24" + "FF" * 11, "12FE00FF24" + "FF" * 11, "25FF00000000FFFFFE" + "FF" * 7,
+                             "28FE00000063FF0001" + "FF" * 7)):
+        after += ":%04X" % (0x8101 + n)
+        answers("unnamed-" + cdb[:2], cmnd(0x01, 0x8101 + n, cdb, 36, bits=0xFE, byte8=0xFF, attribute=0xFF, **other), nothing, after + " 02P29")
+    shows("unnamed-open", 0, "01P", " ".join((exchange(0x8101, "SENSE-000000", 18, 36), exchange(0x8102, "INQUIRY", 36, 36),
+                                             exchange(0x8103, "CAPACITY", 8, 36), exchange(0x8104, "READ", 512, 36, 99, 1))))
+    answers("unnamed-2A", cmnd(0x01, 0x8105, "2A" + "FF" * 15, 36, bits=0xFE, byte8=0xFF, attribute=0xFF, **other), check("07/27/00", 36), after + " 02P29")
+    answers("unnamed-overlap", cmnd(0x01, 0x8101, "FF" * 16, HIGHEST, bits=0xFE, **other), check("0B/4E/00", HIGHEST), "01P:8102:8103:8104 02P29")
+    answers("unnamed-abort", cmnd(0x01, 0xFFFF, "FF" * 16, HIGHEST, bits=0xFE, task=0x02, byte8=0xFF, attribute=0xFF, **other), code("00"), "01P 02P29")
+    answers("unnamed-clear-aca", cmnd(0x01, 0x0000, "FF" * 16, HIGHEST, bits=0xFC, task=0x40, byte8=0xFF, attribute=0xFF, **other), code("04"), "01P 02P29")
+    answers("unnamed-reset", cmnd(0x01, 0x0000, "FF" * 16, HIGHEST, bits=0xFD, task=0x20, byte8=0xFF, attribute=0xFF, **other), code("00"), "01P29 02P29")
+    answers("prlo", prlo(0x02), prlo_acc, "01P29 02p29")
+    answers("unnamed-logout", cmnd(0x02, 0x8106, "FF" * 16, **other), logout, "01P29")
+    for attribute in (0x01, 0x02, 0x04, 0x05):  # "byte 9 attribute (ignored)"
+        answers("attribute-%d" % attribute, cmnd(0x01, 0x0101, inquiry(0), attribute=attribute), good(), "01P29")
+
+
 for part in (a_linux_host, other_codes_and_sizes, no_login, plogi_tests, places, verified, other_names, pairing, logo_and_rrq,
-             aborts, headers, unnamed):
+             aborts, headers, unnamed, no_paired_login, response_codes, target_reset, clear_task_set, abort_task_set, overlapped,
+             other_units, attentions, codes_and_writes, fields, edges, no_read_bit, room, wanted, unnamed_of_commands):
     part()
 
 STDIN, STDOUT = b"".join(records), "".join(text + "\n" for text in lines).encode()
