@@ -3,274 +3,13 @@
 
 Usage: tests/vectors.py stdin | stdout
 
-Nothing here comes from a run of the program. Each answer is put together by hand from the sentence of document 01 ("01")
-that stands beside it; the program `vectors` reads the records and must write these lines. 003 has the header's layout,
-000 and 004 those of the payloads.
+Nothing here comes from a run of the program. Each answer is put together by hand (frames.py) from the sentence of document 01 ("01")
+that stands beside it; the program `vectors` reads the records and must write these lines.
 """
 import sys
 
-# the drive
-
-CAPACITY = 100  # 01, Setup: "Capacity 1 to 4,294,967,295 blocks of 512 bytes"; 100 is that of its known numbers
-OWN = bytes.fromhex("0000EF")  # 01, Setup: "own address"; upper bytes 0000h, EFh is a loop address
-
-
-def accept_words():
-    """Words 1 to 28 of the login accept: each byte is its own place in the payload, so that no two can be swapped unseen."""
-    w = bytearray(range(116))
-    w[10:12] = bytes.fromhex("F840")  # W2/B2-3: low 12 bits 840h = 2,112
-    w[68] = 0xC4  # W17 bit 31 set
-    w[74:76] = bytes.fromhex("1800")  # W18/B2-3: low 12 bits 800h = 2,048
-    w[81] = 0x01  # 01, Setup: "with W20/B1 = 01h (004)"; W19/B1 is byte 77, 4Dh
-    return bytes(w[4:])
-
-
-WORDS = accept_words()
-OWN_PORT = bytes.fromhex("1415161718191A1B")  # W5-6 of these words
-OWN_NODE = bytes.fromhex("1C1D1E1F20212223")  # W7-8
-
-# the replies
-
-
-def head(r_ctl, to, kind, f_ctl, seq_id, ox_id):
-    """01: "24 bytes: R_CTL, D_ID(3), reserved, S_ID(3), TYPE, F_CTL(3), SEQ_ID, DF_CTL, SEQ_CNT(2), OX_ID(2), RX_ID(2), OFFSET(4)" (003)."""
-    return b"".join((
-        bytes.fromhex(r_ctl),
-        bytes([0, 0, to]),  # "addresses swapped": D_ID is the sender
-        bytes(1),  # reserved: "the rest 0"
-        OWN,  # S_ID is the drive
-        bytes.fromhex(kind),
-        bytes.fromhex(f_ctl),
-        bytes([seq_id]),
-        bytes(1),  # DF_CTL: "the rest 0"
-        bytes(2),  # SEQ_CNT: "the rest 0"
-        ox_id.to_bytes(2, "big"),
-        bytes.fromhex("FFFF"),  # "RX_ID FFFFh"
-        bytes(4),  # OFFSET: "the rest 0"
-    ))
-
-
-def answer(f, payload):
-    """01: "ACC, LS_RJT | 23 01 | 990000 | FF", "OX_ID echoed"."""
-    return head("23", sender(f), "01", "990000", 0xFF, ox_of(f)) + payload
-
-
-def acc(f):
-    return answer(f, bytes.fromhex("02000000"))  # "ACC of 4 bytes"
-
-
-def login_acc(f):
-    return answer(f, bytes.fromhex("02000000") + WORDS)  # "ACC is 02 00 00 00 and the setup words"; "PDISC's is PLOGI's"
-
-
-def adisc_acc(f):
-    # "ADISC ACC: 02 00 00 00, own address, own names, own address"; W1 and W6 are a zero byte and the address (000)
-    return answer(f, bytes.fromhex("02000000") + bytes(1) + OWN + OWN_PORT + OWN_NODE + bytes(1) + OWN)
-
-
-def prli_acc(f):
-    # "ACC 02 10 00 14, 08 00 21 00, two zero words, 00 00 00 12"
-    return answer(f, bytes.fromhex("02100014" "08002100" "00000000" "00000000" "00000012"))
-
-
-def prlo_acc(f):
-    # "ACC 02 10 00 14, 08 00 01 00, three zero words"
-    return answer(f, bytes.fromhex("02100014" "08000100" "00000000" "00000000" "00000000"))
-
-
-def rjt(pair):
-    """01: "LS_RJT is 01 00 00 00, then 00, reason, explanation, 00"."""
-    return lambda f: answer(f, bytes.fromhex("01000000" "00") + bytes.fromhex(pair.replace(",", "")) + bytes(1))
-
-
-def logout(f):
-    """01: "LOGO by the drive, OX_ID = destination address | 22 01 | 290000 | 00"; "05 00 00 00, own address, own port name"."""
-    return head("22", sender(f), "01", "290000", 0x00, sender(f)) + bytes.fromhex("05000000") + bytes(1) + OWN + OWN_PORT
-
-
-def ba_acc(f):
-    # "BA_ACC, BA_RJT | 84, 85 00 | 990000 | the ABTS's"; "BA_ACC 00000000, OX_ID, FFFF, 0000, FFFF"
-    return (head("84", sender(f), "00", "990000", f[12], ox_of(f))
-            + bytes.fromhex("00000000") + ox_of(f).to_bytes(2, "big") + bytes.fromhex("FFFF" "0000" "FFFF"))
-
-
-def ba_rjt(f):
-    return head("85", sender(f), "00", "990000", f[12], ox_of(f)) + bytes.fromhex("00030300")  # "BA_RJT 00 03 03 00"
-
-
-def rsp(f, f_ctl, payload):
-    """01: "FCP_RSP | 07 08 | 990000 | 00"; "FCP frames add the fill count to F_CTL"."""
-    return head("07", sender(f), "08", f_ctl, 0x00, ox_of(f)) + bytes(10) + payload  # "bytes 10 flags, ..": ten zeros before them
-
-
-def status(byte, flag, size):
-    """01: "bytes 10 flags, 11 status, 12 FCP_RESID, 16 sense length, 20 response length": 24 bytes."""
-    return lambda f: rsp(f, "990000", bytes.fromhex(flag + byte) + size.to_bytes(4, "big") + bytes.fromhex("00000000" "00000000"))
-
-
-def good():
-    return status("00", "00", 0)  # wanted and FCP_DL are the same
-
-
-def over(size):
-    return status("00", "04", size)  # "The signed difference of wanted and FCP_DL above 0 sets flag 04h, .. FCP_RESID its size"
-
-
-def under(size):
-    return status("00", "08", size)  # "below 0 flag 08h"
-
-
-def eight_open(dl):
-    return status("28", "08", dl)  # "status 28h"; wanted is "0 when refused, with 28h too", and FCP_DL is above 0 here
-
-
-def code(number):
-    """01: "then 8 bytes with the code at 3 (flag 01h)"; "RSP_CODE and task answers give 0"."""
-    return lambda f: rsp(f, "990000", bytes.fromhex("01" "00" "00000000" "00000000" "00000008" "000000" + number + "00000000"))
-
-
-def check(triple, dl=0):
-    """01: "or 18 sense bytes (flag 02h, status 02h): 70, 00, key, 4 zeros, 0A, code and qualifier at 12, 13"; wanted is "0 when refused"."""
-    key, first, second = triple.split("/")
-    sense = bytes.fromhex("70" "00" + key + "00000000" "0A" "00000000" + first + second + "00000000")
-    flags = "02" if dl == 0 else "0A"  # the difference is below 0 where FCP_DL is above it
-    lengths = dl.to_bytes(4, "big") + bytes.fromhex("00000012" "00000000")
-    return lambda f: rsp(f, "990002", bytes.fromhex(flags + "02") + lengths + sense + bytes(2))  # two fill bytes, counted in F_CTL
-
-
-def nothing(f):
-    return b""  # "Else the exchange opens silently"
-
-
-def sender(f):
-    return f[7]
-
-
-def ox_of(f):
-    return f[16] * 256 + f[17]
-
-
-# the requests
-
-# What the Linux initiator libfc sends (kernel 6.1) from address 01h, its D_ID set to this drive's.
-LIBFC = {name: bytes.fromhex(text) for name, text in {
-    "plogi": "220000EF0000000101290000000000000100FFFF00000000" "030000002020000A8000084000FF001F000007D0"
-             "20005254001200011000525400120001" + "00" * 32 + "880000000000084000FF000000010000" + "00" * 32,
-    "prli": "220000EF0000000101290000000000000101FFFF00000000" "20100014080020000000000000000000000001A2",
-    "rtv": "220000EF0000000101290000000000000102FFFF00000000" "0E000000",
-    "adisc": "220000EF000000010129000000000000010CFFFF00000000" "52000000000000002000525400120001100052540012000100000001",
-    "rec": "220000EF000000010129000000000000010EFFFF00000000" "1300000000000001010DFFFF",
-    "inquiry": "060000EF0000000108290000000000000103FFFF00000000" "000000000000000000000002" "12000000240000000000000000000000" "00000024",
-    "tur-attention": "060000EF0000000108290000000000000104FFFF00000000" "000000000000000000000000" + "00" * 16 + "00000000",
-    "inquiry-lun-1": "060000EF0000000108290000000000000105FFFF00000000" "000100000000000000000002" "12200000240000000000000000000000" "00000024",
-    "tur": "060000EF0000000108290000000000000106FFFF00000000" "000000000000000000000000" + "00" * 16 + "00000000",
-    "capacity": "060000EF0000000108290000000000000107FFFF00000000" "000000000000000000000002" "25000000000000000000000000000000" "00000008",
-    "mode-sense": "060000EF0000000108290000000000000108FFFF00000000" "000000000000000000000002" "1A003F00040000000000000000000000" "00000004",
-    "read": "060000EF0000000108290000000000000109FFFF00000000" "000000000000000000000002" "28000000000000000800000000000000" "00001000",
-    "report-luns": "060000EF000000010829000000000000010AFFFF00000000" "000000000000000000000002" "A0000000000000001000000000000000" "00001000",
-    "capacity-16": "060000EF000000010829000000000000010BFFFF00000000" "000000000000000000000002" "9E100000000000000000000000200000" "00000020",
-    "read-aborted": "060000EF000000010829000000000000010DFFFF00000000" "000000000000000000000002" "28000000000000000800000000000000" "00001000",
-    "lun-reset": "060000EF0000000108290000000000000111FFFF00000000" "000000000000000000001000" + "00" * 16 + "00000000",
-    "target-reset": "060000EF0000000108290000000000000112FFFF00000000" "000000000000000000002000" + "00" * 16 + "00000000",
-    "abort-task-set": "060000EF0000000108290000000000000113FFFF00000000" "000000000000000000000200" + "00" * 16 + "00000000",
-    "clear-task-set": "060000EF0000000108290000000000000114FFFF00000000" "000000000000000000000400" + "00" * 16 + "00000000",
-    "clear-aca": "060000EF0000000108290000000000000115FFFF00000000" "000000000000000000004000" + "00" * 16 + "00000000",
-    "abts": "810000EF000000010009000001000000010DFFFF00000000",
-    "rrq12": "220000EF000000010129000000000000010FFFFF00000000" "1200000000000001010DFFFF",
-    "rrq": "220000EF0000000101290000000000000110FFFF00000000" "1200000000000001010DFFFF" + "00" * 32,
-    "logo": "220000EF0000000101290000000000000116FFFF00000000" "05000000000000012000525400120001",
-}.items()}
-
-PORT, NODE = bytes.fromhex("2000525400120001"), bytes.fromhex("1000525400120001")  # libfc's names
-
-
-def frame(host, ox_id, payload, r_ctl=0x22, kind=0x01, seq_id=0x00, rx_id=0xFFFF, reserved=0x00, offset=0):
-    return (bytes([r_ctl]) + OWN + bytes([reserved, 0, 0, host, kind]) + bytes.fromhex("290000") + bytes([seq_id, 0, 0, 0])
-            + ox_id.to_bytes(2, "big") + rx_id.to_bytes(2, "big") + offset.to_bytes(4, "big") + payload)
-
-
-def names_of(host):
-    """The names of the host at an address: libfc's with the address in the last byte."""
-    return PORT[:7] + bytes([host]), NODE[:7] + bytes([host])
-
-
-def login(host, code=0x03, ox_id=0x0200, **changes):
-    """A PLOGI, or with code 50h a PDISC: libfc's payload with the host's names and these changes."""
-    p = bytearray(LIBFC["plogi"][24:])
-    p[0] = code
-    p[20:28], p[28:36] = names_of(host)
-    for field, value in changes.items():
-        at = {"w2": 10, "port": 20, "node": 28, "w17": 68, "w18": 74, "w19": 77, "w20": 81}[field]
-        p[at:at + len(value)] = value
-    return frame(host, ox_id, bytes(p))
-
-
-def pdisc(host, **changes):
-    return login(host, 0x50, 0x0300, **changes)
-
-
-def adisc(host, port=None, node=None, named=None):
-    # W2-3 port name, W4-5 node name, W6/B1-3 address (000)
-    port, node = port or names_of(host)[0], node or names_of(host)[1]
-    return frame(host, 0x0400, bytes.fromhex("5200000000000000") + port + node + bytes([0, 0, 0, named or host]))
-
-
-def logo(host, named=None):
-    return frame(host, 0x0500, bytes.fromhex("0500000000") + bytes([0, 0, named or host]) + names_of(host)[0])
-
-
-def rrq(host, ox_id, named=None):
-    # W1/B1-3 address, W2/B0-1 OX_ID (000)
-    return frame(host, 0x0600, bytes.fromhex("1200000000") + bytes([0, 0, named or host]) + ox_id.to_bytes(2, "big") + bytes(34))
-
-
-def prli(host, payload="20100014080020000000000000000000000001A2"):
-    return frame(host, 0x0700, bytes.fromhex(payload))
-
-
-def prlo(host, payload="2110001408000000000000000000000000000000"):
-    return frame(host, 0x0800, bytes.fromhex(payload))
-
-
-def abts(host, ox_id, rx_id=0xFFFF, seq_id=0x00):
-    return frame(host, ox_id, b"", r_ctl=0x81, kind=0x00, rx_id=rx_id, seq_id=seq_id)
-
-
-# the commands
-
-ZERO_UNIT = bytes(8)
-
-
-def cmnd(host, ox_id, cdb, dl=0, bits=0x02, lun=ZERO_UNIT, task=0x00, size=32, **other):
-    """01: "FCP_CMND: LUN 8, byte 9 attribute (ignored), 10 task flags, 11 bit 1 read and bit 0 write, CDB 16, FCP_DL 4"."""
-    header = {field: value for field, value in other.items() if field not in ("byte8", "attribute")}
-    payload = (lun + bytes([other.get("byte8", 0), other.get("attribute", 0), task, bits])
-               + bytes.fromhex(cdb).ljust(16, b"\x00") + dl.to_bytes(4, "big"))
-    return frame(host, ox_id, payload[:size].ljust(size, b"\x00"), r_ctl=0x06, kind=0x08, **header)
-
-
-TEST_UNIT_READY, READ_CAPACITY = "000000000000", "25000000000000000000"
-
-
-def request_sense(most=18):
-    return "03000000%02X00" % most
-
-
-def inquiry(most=36):
-    return "12000000%02X00" % most
-
-
-def read(address, count):
-    return "2800%08X00%04X00" % (address, count)
-
-
-def write(address, count):
-    return "2A00%08X00%04X00" % (address, count)
-
-
-def test_unit(host, ox_id=0x0A00, **changes):
-    return cmnd(host, ox_id, TEST_UNIT_READY, bits=0x00, **changes)
-
+sys.dont_write_bytecode = True
+from frames import *  # noqa: E402, F403
 
 # the lines
 
@@ -320,9 +59,9 @@ def keeps(name, place, says):
     line(name, "l", bytes([place]), says)
 
 
-def shows(name, place, login, exchanges):
+def shows(name, place, standing, exchanges):
     """What is open at a login's eight places: those that are not written are free."""
-    line(name, "e", bytes([place]), login + " " + table(exchanges))
+    line(name, "e", bytes([place]), standing + " " + table(exchanges))
 
 
 def exchange(ox_id, sends, wanted, dl, start=0, count=0):
@@ -619,6 +358,8 @@ HIGHEST = 4294967295
 EACH = (("test-unit-ready", TEST_UNIT_READY), ("request-sense", request_sense()), ("inquiry", inquiry()), ("read-capacity", READ_CAPACITY),
         ("read", read(0, 1)), ("write", write(0, 1)), ("code-1A", "1A0000000000"), ("code-FF", "FF0000000000"))
 THE_REST = tuple((name, cdb) for name, cdb in EACH if name not in ("request-sense", "inquiry"))
+# those that send something, and what they want
+SENDING = (("request-sense", request_sense(), 18), ("inquiry", inquiry(), 36), ("read-capacity", READ_CAPACITY, 8), ("read", read(99, 1), 512))
 
 
 def no_paired_login():
@@ -768,7 +509,8 @@ def overlapped():
     answers("target-reset", task(0x02, 0x20), code("00"), "01P29 02P29")
     for name, cdb in EACH:
         opens(0x01, 0x0101, "01P29:0101 02P29")
-        answers("overlap-attention-" + name, cmnd(0x01, 0x0101, cdb, 18), check("0B/4E/00", 18), "01P29 02P29")  # before test 3: not cleared
+        # before test 3: the attention is not cleared
+        answers("overlap-attention-" + name, cmnd(0x01, 0x0101, cdb, 18), check("0B/4E/00", 18), "01P29 02P29")
 
 
 def other_units():
@@ -849,7 +591,8 @@ def fields():
                       ("read-outside", "28010000006400000100"), ("read-nothing", "28010000000000000000")):
         answers("field-" + name, cmnd(0x01, 0x0101, cdb, 512), check("05/24/00", 512), "01P")
         answers("field-%s-dl-0" % name, cmnd(0x01, 0x0101, cdb, 0), check("05/24/00"), "01P")
-        answers("field-%s-no-read-bit" % name, cmnd(0x01, 0x0101, cdb, 512, bits=0x00), check("05/24/00", 512), "01P")  # before test 8
+        # before test 8
+        answers("field-%s-no-read-bit" % name, cmnd(0x01, 0x0101, cdb, 512, bits=0x00), check("05/24/00", 512), "01P")
     answers("field-inquiry-lun", cmnd(0x01, 0x0101, "120100002400", 36, lun=OTHER_UNITS[1]), check("05/24/00", 36), "01P")
     answers("target-reset", task(0x01, 0x20), code("00"), "01P29")
     answers("field-inquiry-attention", cmnd(0x01, 0x0101, "120100002400", 36), check("05/24/00", 36), "01P29")
@@ -859,7 +602,8 @@ def edges():
     """"(7) READ(10) address not below capacity, or address plus count above it, 05/21/00"; the slip: "adding address and count in 32 bits"."""
     for capacity, inside, outside in (
             (100, ((99, 1), (0, 100), (98, 2), (0, 1)),
-             ((99, 2), (100, 0), (100, 1), (0, 101), (1, 100), (98, 3), (355, 1), (2147483648, 1), (4294967295, 0), (4294967295, 1), (4294967295, 101))),
+             ((99, 2), (100, 0), (100, 1), (0, 101), (1, 100), (98, 3), (355, 1), (2147483648, 1), (4294967295, 0), (4294967295, 1),
+              (4294967295, 101))),
             (1, ((0, 1),), ((0, 2), (1, 0), (1, 1), (0, 65535), (4294967295, 1), (4294967295, 2))),
             (8388609, ((8388608, 1), (8323074, 65535)), ((8388608, 2), (8388609, 0), (8323075, 65535))),
             (4294967295, ((4294967294, 1), (4294901760, 65535), (0, 65535), (2147483648, 1)),
@@ -875,7 +619,8 @@ def edges():
         for address, count in outside:
             answers("outside-%d-%d" % (address, count), cmnd(0x01, 0x0201, read(address, count), 512), check("05/21/00", 512), after)
         address, count = outside[0]
-        answers("outside-dl-0", cmnd(0x01, 0x0201, read(address, count)), check("05/21/00"), after)  # before test 8, and whatever there is to send
+        # before test 8, and whatever there is to send
+        answers("outside-dl-0", cmnd(0x01, 0x0201, read(address, count)), check("05/21/00"), after)
         answers("outside-no-read-bit", cmnd(0x01, 0x0201, read(address, count), 1024, bits=0x00), check("05/21/00", 1024), after)
         for dl, reply in ((0, good()), (512, under(512))):  # count 0 below the capacity is no fault
             answers("read-no-block", cmnd(0x01, 0x0201, read(capacity - 1, 0), dl, bits=0x00), reply, after)
@@ -884,7 +629,7 @@ def edges():
 def no_read_bit():
     """"(8) bytes to send without the read bit, RSP_CODE 02": FCP_DL 0, or nothing wanted, passes."""
     ready("01")
-    for name, cdb, wants in (("request-sense", request_sense(), 18), ("inquiry", inquiry(), 36), ("read-capacity", READ_CAPACITY, 8), ("read", read(99, 1), 512)):
+    for name, cdb, wants in SENDING:
         for bits in (0x00, 0x01, 0xFC, 0xFD):
             for dl in (1, wants, HIGHEST):
                 answers("no-read-bit-%s-%02X" % (name, bits), cmnd(0x01, 0x0101, cdb, dl, bits=bits), code("02"), "01P")
@@ -898,7 +643,7 @@ def room():
     for ox_id in range(0x0101, 0x0109):
         eight += ":%04X" % ox_id
         opens(0x01, ox_id, eight + " 02P")
-    for name, cdb, wants in (("request-sense", request_sense(), 18), ("inquiry", inquiry(), 36), ("read-capacity", READ_CAPACITY, 8), ("read", read(99, 1), 512)):
+    for name, cdb, wants in SENDING:
         for dl in (1, wants, HIGHEST):
             answers("eight-" + name, cmnd(0x01, 0x0109, cdb, dl), eight_open(dl), eight + " 02P")
         answers("eight-%s-dl-0" % name, cmnd(0x01, 0x0109, cdb, 0), over(wants), eight + " 02P")  # nothing to send
@@ -940,10 +685,13 @@ def room():
 def wanted():
     """"Wanted: 0; 18 or byte 4 if smaller; 36 or byte 4 if smaller; 8; count × 512"; the residual where nothing is to be sent."""
     ready("01")
-    commands = [(request_sense(most), "SENSE-000000", wants, 0, 0) for most, wants in ((1, 1), (17, 17), (18, 18), (19, 18), (36, 18), (255, 18))]
-    commands += [(inquiry(most), "INQUIRY", wants, 0, 0) for most, wants in ((1, 1), (18, 18), (35, 35), (36, 36), (37, 36), (255, 36))]
+    commands = [(request_sense(most), "SENSE-000000", wants, 0, 0)
+                for most, wants in ((1, 1), (17, 17), (18, 18), (19, 18), (36, 18), (255, 18))]
+    commands += [(inquiry(most), "INQUIRY", wants, 0, 0)
+                 for most, wants in ((1, 1), (18, 18), (35, 35), (36, 36), (37, 36), (255, 36))]
     commands += [(READ_CAPACITY, "CAPACITY", 8, 0, 0)]
-    commands += [(read(start, count), "READ", wants, start, count) for start, count, wants in ((3, 1, 512), (0, 2, 1024), (0, 100, 51200), (98, 2, 1024))]
+    commands += [(read(start, count), "READ", wants, start, count)
+                 for start, count, wants in ((3, 1, 512), (0, 2, 1024), (0, 100, 51200), (98, 2, 1024))]
     for cdb, sends, wants, start, count in commands:
         # less than wanted, as much, and more: 01's known numbers are 1,024 with FCP_DL 1,000 and 2,048, and FCP_DL 1,001
         lengths = (1, wants, wants + 1, 1000, 1001, 2048, HIGHEST)
@@ -951,10 +699,12 @@ def wanted():
         for n, dl in enumerate(lengths):
             after += ":%04X" % (0x0101 + n)
             answers("wanted-%s-dl-%d" % (sends, dl), cmnd(0x01, 0x0101 + n, cdb, dl), nothing, after)
-        shows("wanted-%s-%d" % (sends, wants), 0, "01P", " ".join(exchange(0x0101 + n, sends, wants, dl, start, count) for n, dl in enumerate(lengths)))
+        shows("wanted-%s-%d" % (sends, wants), 0, "01P",
+              " ".join(exchange(0x0101 + n, sends, wants, dl, start, count) for n, dl in enumerate(lengths)))
         answers("abort-task-set", task(0x01, 0x02), code("00"), "01P")
         answers("wanted-%s-dl-0" % sends, cmnd(0x01, 0x0101, cdb, 0), over(wants), "01P")
-    for name, cdb in (("test-unit-ready", TEST_UNIT_READY), ("request-sense-0", request_sense(0)), ("inquiry-0", inquiry(0)), ("read-0", read(0, 0))):
+    for name, cdb in (("test-unit-ready", TEST_UNIT_READY), ("request-sense-0", request_sense(0)), ("inquiry-0", inquiry(0)),
+                      ("read-0", read(0, 0))):
         answers("wants-nothing-" + name, cmnd(0x01, 0x0101, cdb, 0), good(), "01P")
         for dl in (1, 256, 1001, 65536, HIGHEST):
             answers("wants-nothing-%s-dl-%d" % (name, dl), cmnd(0x01, 0x0101, cdb, dl), under(dl), "01P")
@@ -968,24 +718,25 @@ def wanted():
 
 def unnamed_of_commands():
     """Bytes and bits of a command of which 01 says nothing, all ones; and every other field of the header, which no reply has."""
-    other = {"seq_id": 0xA7, "rx_id": 0x4567, "reserved": 0x5C, "offset": 0x89ABCDEF}
+    header = {"seq_id": 0xA7, "rx_id": 0x4567, "reserved": 0x5C, "offset": 0x89ABCDEF}
+    ones = {"byte_8": 0xFF, "attribute": 0xFF, **header}
     paired("0102")
-    answers("unnamed-attention", cmnd(0x01, 0x8101, "00" + "FF" * 15, bits=0xFC, byte8=0xFF, attribute=0xFF, **other), check("06/29/00"), "01P 02P29")
-    answers("unnamed-test-unit-ready", cmnd(0x01, 0x8101, "00" + "FF" * 15, 7, bits=0xFD, byte8=0xFF, attribute=0xFF, **other), under(7), "01P 02P29")
+    answers("unnamed-attention", cmnd(0x01, 0x8101, "00" + "FF" * 15, bits=0xFC, **ones), check("06/29/00"), "01P 02P29")
+    answers("unnamed-test-unit-ready", cmnd(0x01, 0x8101, "00" + "FF" * 15, 7, bits=0xFD, **ones), under(7), "01P 02P29")
     after = "01P"
     for n, cdb in enumerate(("03FFFFFF24" + "FF" * 11, "12FE00FF24" + "FF" * 11, "25FF00000000FFFFFE" + "FF" * 7,
                              "28FE00000063FF0001" + "FF" * 7)):
         after += ":%04X" % (0x8101 + n)
-        answers("unnamed-" + cdb[:2], cmnd(0x01, 0x8101 + n, cdb, 36, bits=0xFE, byte8=0xFF, attribute=0xFF, **other), nothing, after + " 02P29")
+        answers("unnamed-" + cdb[:2], cmnd(0x01, 0x8101 + n, cdb, 36, bits=0xFE, **ones), nothing, after + " 02P29")
     shows("unnamed-open", 0, "01P", " ".join((exchange(0x8101, "SENSE-000000", 18, 36), exchange(0x8102, "INQUIRY", 36, 36),
                                              exchange(0x8103, "CAPACITY", 8, 36), exchange(0x8104, "READ", 512, 36, 99, 1))))
-    answers("unnamed-2A", cmnd(0x01, 0x8105, "2A" + "FF" * 15, 36, bits=0xFE, byte8=0xFF, attribute=0xFF, **other), check("07/27/00", 36), after + " 02P29")
-    answers("unnamed-overlap", cmnd(0x01, 0x8101, "FF" * 16, HIGHEST, bits=0xFE, **other), check("0B/4E/00", HIGHEST), "01P:8102:8103:8104 02P29")
-    answers("unnamed-abort", cmnd(0x01, 0xFFFF, "FF" * 16, HIGHEST, bits=0xFE, task=0x02, byte8=0xFF, attribute=0xFF, **other), code("00"), "01P 02P29")
-    answers("unnamed-clear-aca", cmnd(0x01, 0x0000, "FF" * 16, HIGHEST, bits=0xFC, task=0x40, byte8=0xFF, attribute=0xFF, **other), code("04"), "01P 02P29")
-    answers("unnamed-reset", cmnd(0x01, 0x0000, "FF" * 16, HIGHEST, bits=0xFD, task=0x20, byte8=0xFF, attribute=0xFF, **other), code("00"), "01P29 02P29")
+    answers("unnamed-2A", cmnd(0x01, 0x8105, "2A" + "FF" * 15, 36, bits=0xFE, **ones), check("07/27/00", 36), after + " 02P29")
+    answers("unnamed-overlap", cmnd(0x01, 0x8101, "FF" * 16, HIGHEST, bits=0xFE, **ones), check("0B/4E/00", HIGHEST), "01P:8102:8103:8104 02P29")
+    answers("unnamed-abort", cmnd(0x01, 0xFFFF, "FF" * 16, HIGHEST, bits=0xFE, task=0x02, **ones), code("00"), "01P 02P29")
+    answers("unnamed-clear-aca", cmnd(0x01, 0x0000, "FF" * 16, HIGHEST, bits=0xFC, task=0x40, **ones), code("04"), "01P 02P29")
+    answers("unnamed-reset", cmnd(0x01, 0x0000, "FF" * 16, HIGHEST, bits=0xFD, task=0x20, **ones), code("00"), "01P29 02P29")
     answers("prlo", prlo(0x02), prlo_acc, "01P29 02p29")
-    answers("unnamed-logout", cmnd(0x02, 0x8106, "FF" * 16, **other), logout, "01P29")
+    answers("unnamed-logout", cmnd(0x02, 0x8106, "FF" * 16, **ones), logout, "01P29")
     for attribute in (0x01, 0x02, 0x04, 0x05):  # "byte 9 attribute (ignored)"
         answers("attribute-%d" % attribute, cmnd(0x01, 0x0101, inquiry(0), attribute=attribute), good(), "01P29")
 
