@@ -1,180 +1,15 @@
 #!/usr/bin/env python3
-"""The vectors of the link layer: requests, and the answer and the table of logins that document 01 asks for after each.
+"""The vectors of the link services and commands: frames, and the answer and the table of logins that document 01 asks for after each.
 
 Usage: tests/vectors.py stdin | stdout
 
-Nothing here comes from a run of the program. Each answer is put together by hand from the sentence of document 01 ("01")
-that stands beside it; the program `vectors` reads the records and must write these lines. 003 has the header's layout,
-000 and 004 those of the payloads.
+Nothing here comes from a run of the program. Each answer is put together by hand (frames.py) from the sentence of document 01 ("01")
+that stands beside it; the program `vectors` reads the records and must write these lines.
 """
 import sys
 
-# the drive
-
-OWN = bytes.fromhex("0000EF")  # 01, Setup: "own address"; upper bytes 0000h, EFh is a loop address
-
-
-def accept_words():
-    """Words 1 to 28 of the login accept: each byte is its own place in the payload, so that no two can be swapped unseen."""
-    w = bytearray(range(116))
-    w[10:12] = bytes.fromhex("F840")  # W2/B2-3: low 12 bits 840h = 2,112
-    w[68] = 0xC4  # W17 bit 31 set
-    w[74:76] = bytes.fromhex("1800")  # W18/B2-3: low 12 bits 800h = 2,048
-    w[81] = 0x01  # 01, Setup: "with W20/B1 = 01h (004)"; W19/B1 is byte 77, 4Dh
-    return bytes(w[4:])
-
-
-WORDS = accept_words()
-OWN_PORT = bytes.fromhex("1415161718191A1B")  # W5-6 of these words
-OWN_NODE = bytes.fromhex("1C1D1E1F20212223")  # W7-8
-
-# the replies
-
-
-def head(r_ctl, to, kind, f_ctl, seq_id, ox_id):
-    """01: "24 bytes: R_CTL, D_ID(3), reserved, S_ID(3), TYPE, F_CTL(3), SEQ_ID, DF_CTL, SEQ_CNT(2), OX_ID(2), RX_ID(2), OFFSET(4)" (003)."""
-    return b"".join((
-        bytes.fromhex(r_ctl),
-        bytes([0, 0, to]),  # "addresses swapped": D_ID is the sender
-        bytes(1),  # reserved: "the rest 0"
-        OWN,  # S_ID is the drive
-        bytes.fromhex(kind),
-        bytes.fromhex(f_ctl),
-        bytes([seq_id]),
-        bytes(1),  # DF_CTL: "the rest 0"
-        bytes(2),  # SEQ_CNT: "the rest 0"
-        ox_id.to_bytes(2, "big"),
-        bytes.fromhex("FFFF"),  # "RX_ID FFFFh"
-        bytes(4),  # OFFSET: "the rest 0"
-    ))
-
-
-def answer(f, payload):
-    """01: "ACC, LS_RJT | 23 01 | 990000 | FF", "OX_ID echoed"."""
-    return head("23", sender(f), "01", "990000", 0xFF, ox_of(f)) + payload
-
-
-def acc(f):
-    return answer(f, bytes.fromhex("02000000"))  # "ACC of 4 bytes"
-
-
-def login_acc(f):
-    return answer(f, bytes.fromhex("02000000") + WORDS)  # "ACC is 02 00 00 00 and the setup words"; "PDISC's is PLOGI's"
-
-
-def adisc_acc(f):
-    # "ADISC ACC: 02 00 00 00, own address, own names, own address"; W1 and W6 are a zero byte and the address (000)
-    return answer(f, bytes.fromhex("02000000") + bytes(1) + OWN + OWN_PORT + OWN_NODE + bytes(1) + OWN)
-
-
-def prli_acc(f):
-    # "ACC 02 10 00 14, 08 00 21 00, two zero words, 00 00 00 12"
-    return answer(f, bytes.fromhex("02100014" "08002100" "00000000" "00000000" "00000012"))
-
-
-def prlo_acc(f):
-    # "ACC 02 10 00 14, 08 00 01 00, three zero words"
-    return answer(f, bytes.fromhex("02100014" "08000100" "00000000" "00000000" "00000000"))
-
-
-def rjt(pair):
-    """01: "LS_RJT is 01 00 00 00, then 00, reason, explanation, 00"."""
-    return lambda f: answer(f, bytes.fromhex("01000000" "00") + bytes.fromhex(pair.replace(",", "")) + bytes(1))
-
-
-def logout(f):
-    """01: "LOGO by the drive, OX_ID = destination address | 22 01 | 290000 | 00"; "05 00 00 00, own address, own port name"."""
-    return head("22", sender(f), "01", "290000", 0x00, sender(f)) + bytes.fromhex("05000000") + bytes(1) + OWN + OWN_PORT
-
-
-def ba_acc(f):
-    # "BA_ACC, BA_RJT | 84, 85 00 | 990000 | the ABTS's"; "BA_ACC 00000000, OX_ID, FFFF, 0000, FFFF"
-    return (head("84", sender(f), "00", "990000", f[12], ox_of(f))
-            + bytes.fromhex("00000000") + ox_of(f).to_bytes(2, "big") + bytes.fromhex("FFFF" "0000" "FFFF"))
-
-
-def ba_rjt(f):
-    return head("85", sender(f), "00", "990000", f[12], ox_of(f)) + bytes.fromhex("00030300")  # "BA_RJT 00 03 03 00"
-
-
-def sender(f):
-    return f[7]
-
-
-def ox_of(f):
-    return f[16] * 256 + f[17]
-
-
-# the requests
-
-# What the Linux initiator libfc sends (kernel 6.1) from address 01h, its D_ID set to this drive's.
-LIBFC = {name: bytes.fromhex(text) for name, text in {
-    "plogi": "220000EF0000000101290000000000000100FFFF00000000" "030000002020000A8000084000FF001F000007D0"
-             "20005254001200011000525400120001" + "00" * 32 + "880000000000084000FF000000010000" + "00" * 32,
-    "prli": "220000EF0000000101290000000000000101FFFF00000000" "20100014080020000000000000000000000001A2",
-    "rtv": "220000EF0000000101290000000000000102FFFF00000000" "0E000000",
-    "adisc": "220000EF000000010129000000000000010CFFFF00000000" "52000000000000002000525400120001100052540012000100000001",
-    "rec": "220000EF000000010129000000000000010EFFFF00000000" "1300000000000001010DFFFF",
-    "abts": "810000EF000000010009000001000000010DFFFF00000000",
-    "rrq12": "220000EF000000010129000000000000010FFFFF00000000" "1200000000000001010DFFFF",
-    "rrq": "220000EF0000000101290000000000000110FFFF00000000" "1200000000000001010DFFFF" + "00" * 32,
-    "logo": "220000EF0000000101290000000000000116FFFF00000000" "05000000000000012000525400120001",
-}.items()}
-
-PORT, NODE = bytes.fromhex("2000525400120001"), bytes.fromhex("1000525400120001")  # libfc's names
-
-
-def frame(host, ox_id, payload, r_ctl=0x22, kind=0x01, seq_id=0x00, rx_id=0xFFFF, reserved=0x00, offset=0):
-    return (bytes([r_ctl]) + OWN + bytes([reserved, 0, 0, host, kind]) + bytes.fromhex("290000") + bytes([seq_id, 0, 0, 0])
-            + ox_id.to_bytes(2, "big") + rx_id.to_bytes(2, "big") + offset.to_bytes(4, "big") + payload)
-
-
-def names_of(host):
-    """The names of the host at an address: libfc's with the address in the last byte."""
-    return PORT[:7] + bytes([host]), NODE[:7] + bytes([host])
-
-
-def login(host, code=0x03, ox_id=0x0200, **changes):
-    """A PLOGI, or with code 50h a PDISC: libfc's payload with the host's names and these changes."""
-    p = bytearray(LIBFC["plogi"][24:])
-    p[0] = code
-    p[20:28], p[28:36] = names_of(host)
-    for field, value in changes.items():
-        at = {"w2": 10, "port": 20, "node": 28, "w17": 68, "w18": 74, "w19": 77, "w20": 81}[field]
-        p[at:at + len(value)] = value
-    return frame(host, ox_id, bytes(p))
-
-
-def pdisc(host, **changes):
-    return login(host, 0x50, 0x0300, **changes)
-
-
-def adisc(host, port=None, node=None, named=None):
-    # W2-3 port name, W4-5 node name, W6/B1-3 address (000)
-    port, node = port or names_of(host)[0], node or names_of(host)[1]
-    return frame(host, 0x0400, bytes.fromhex("5200000000000000") + port + node + bytes([0, 0, 0, named or host]))
-
-
-def logo(host, named=None):
-    return frame(host, 0x0500, bytes.fromhex("0500000000") + bytes([0, 0, named or host]) + names_of(host)[0])
-
-
-def rrq(host, ox_id, named=None):
-    # W1/B1-3 address, W2/B0-1 OX_ID (000)
-    return frame(host, 0x0600, bytes.fromhex("1200000000") + bytes([0, 0, named or host]) + ox_id.to_bytes(2, "big") + bytes(34))
-
-
-def prli(host, payload="20100014080020000000000000000000000001A2"):
-    return frame(host, 0x0700, bytes.fromhex(payload))
-
-
-def prlo(host, payload="2110001408000000000000000000000000000000"):
-    return frame(host, 0x0800, bytes.fromhex(payload))
-
-
-def abts(host, ox_id, rx_id=0xFFFF, seq_id=0x00):
-    return frame(host, ox_id, b"", r_ctl=0x81, kind=0x00, rx_id=rx_id, seq_id=seq_id)
-
+sys.dont_write_bytecode = True
+from frames import *  # noqa: E402, F403
 
 # the lines
 
@@ -197,49 +32,75 @@ def table(text):
     return " ".join(places + ["."] * (8 - len(places)))
 
 
-def link(name, f, reply, after):
+def answers(name, f, reply, after):
     """A frame, the reply to it, and the table after it."""
-    line(name, "f", f, reply(f).hex().upper() + " " + table(after))
+    line(name, "f", f, (reply(f).hex().upper() or "-") + " " + table(after))
 
 
-def fresh(after=""):
+def fresh(after="", capacity=CAPACITY):
     """A drive without logins; then each host named logs in."""
-    line("setup", "s", OWN + WORDS, "- " + table(""))
+    line("setup", "s", capacity.to_bytes(8, "big") + OWN + WORDS, "- " + table(""))
     so_far = ""
     for host in bytes.fromhex(after):
-        so_far += " %02Xp" % host
-        link("plogi", login(host), login_acc, so_far)
+        so_far += " %02Xp29" % host  # "proven, unpaired, attention 29h"
+        answers("plogi", login(host), login_acc, so_far)
 
 
 def event(name, letter, after):
     line(name, letter, b"", "- " + table(after))
 
 
-def opens(place, ox_id, after):
-    """An exchange opens at a login; the link layer opens none by itself."""
-    line("open", "x", bytes([place]) + ox_id.to_bytes(2, "big"), "- " + table(after))
+def opens(host, ox_id, after):
+    """An INQUIRY opens an exchange silently, also while an attention stands."""
+    answers("open", cmnd(host, ox_id, inquiry(), 36), nothing, after)
 
 
 def keeps(name, place, says):
     line(name, "l", bytes([place]), says)
 
 
+def shows(name, place, standing, exchanges):
+    """What is open at a login's eight places: those that are not written are free."""
+    line(name, "e", bytes([place]), standing + " " + table(exchanges))
+
+
+def exchange(ox_id, sends, wanted, dl, start=0, count=0):
+    """An exchange that has sent nothing yet: OX_ID, what it sends, a READ's first block and count, wanted, FCP_DL, bytes and frames sent."""
+    return "%04X=%s,%d,%d,%d,%d,0,0" % (ox_id, sends, start, count, wanted, dl)
+
+
 def a_linux_host():
     """libfc's requests in the order of a session."""
     fresh()
-    link("libfc-plogi", LIBFC["plogi"], login_acc, "01p")
+    answers("libfc-plogi", LIBFC["plogi"], login_acc, "01p29")
     # "keeps address, names, W18 size, W19/B1, W20/B1, proven, unpaired, attention 29h"
     keeps("libfc-kept", 0, "01" "01" "00" "29" "FF" "01" "0840" "00000001 2000525400120001 1000525400120001")
-    link("libfc-prli", LIBFC["prli"], prli_acc, "01P")
-    link("libfc-rtv", LIBFC["rtv"], rjt("0B,00"), "01P")  # "other code 0B,00"
-    opens(0, 0x010D, "01P:010D")
-    link("libfc-rec", LIBFC["rec"], rjt("0B,00"), "01P:010D")
-    link("libfc-adisc", LIBFC["adisc"], adisc_acc, "01P:010D")
-    link("libfc-rrq-of-12", LIBFC["rrq12"], rjt("03,00"), "01P:010D")  # "wrong size 03,00": RRQ 44
-    link("libfc-rrq-open", LIBFC["rrq"], rjt("03,17"), "01P:010D")  # "that OX_ID open 03,17"
-    link("libfc-abts", LIBFC["abts"], ba_acc, "01P")  # "the sender's exchange of that OX_ID, if any, ends"
-    link("libfc-rrq", LIBFC["rrq"], acc, "01P")  # "else ACC of 4 bytes"
-    link("libfc-logo", LIBFC["logo"], acc, "")  # "Ends the login if any; ACC of 4 bytes"
+    answers("libfc-prli", LIBFC["prli"], prli_acc, "01P29")
+    answers("libfc-rtv", LIBFC["rtv"], rjt("0B,00"), "01P29")  # "other code 0B,00"
+    answers("libfc-inquiry", LIBFC["inquiry"], nothing, "01P29:0103")  # "INQUIRY and REQUEST SENSE skip 2 and 3"
+    answers("libfc-tur-attention", LIBFC["tur-attention"], check("06/29/00"), "01P:0103")  # "and cleared"
+    answers("libfc-inquiry-lun-1", LIBFC["inquiry-lun-1"], nothing, "01P:0103:0105")  # only bit 0 of byte 1 is named
+    answers("libfc-tur", LIBFC["tur"], good(), "01P:0103:0105")
+    answers("libfc-capacity", LIBFC["capacity"], nothing, "01P:0103:0105:0107")
+    answers("libfc-mode-sense", LIBFC["mode-sense"], check("05/20/00", 4), "01P:0103:0105:0107")
+    answers("libfc-read", LIBFC["read"], nothing, "01P:0103:0105:0107:0109")
+    answers("libfc-report-luns", LIBFC["report-luns"], check("05/20/00", 4096), "01P:0103:0105:0107:0109")
+    answers("libfc-capacity-16", LIBFC["capacity-16"], check("05/20/00", 32), "01P:0103:0105:0107:0109")
+    shows("libfc-open", 0, "01P", " ".join((exchange(0x0103, "INQUIRY", 36, 36), exchange(0x0105, "INQUIRY-7F", 36, 36),
+                                           exchange(0x0107, "CAPACITY", 8, 8), exchange(0x0109, "READ", 4096, 4096, 0, 8))))
+    answers("libfc-adisc", LIBFC["adisc"], adisc_acc, "01P:0103:0105:0107:0109")
+    answers("libfc-read-aborted", LIBFC["read-aborted"], nothing, "01P:0103:0105:0107:0109:010D")
+    answers("libfc-rec", LIBFC["rec"], rjt("0B,00"), "01P:0103:0105:0107:0109:010D")
+    answers("libfc-rrq-of-12", LIBFC["rrq12"], rjt("03,00"), "01P:0103:0105:0107:0109:010D")  # "wrong size 03,00": RRQ 44
+    answers("libfc-rrq-open", LIBFC["rrq"], rjt("03,17"), "01P:0103:0105:0107:0109:010D")  # "that OX_ID open 03,17"
+    answers("libfc-abts", LIBFC["abts"], ba_acc, "01P:0103:0105:0107:0109")  # "the sender's exchange of that OX_ID, if any, ends"
+    answers("libfc-rrq", LIBFC["rrq"], acc, "01P:0103:0105:0107:0109")  # "else ACC of 4 bytes"
+    answers("libfc-lun-reset", LIBFC["lun-reset"], code("02"), "01P:0103:0105:0107:0109")  # "a task flag of 01h, 08h, 10h"
+    answers("libfc-clear-aca", LIBFC["clear-aca"], code("04"), "01P:0103:0105:0107:0109")  # "80h, 40h: 04"
+    answers("libfc-abort-task-set", LIBFC["abort-task-set"], code("00"), "01P")  # "02h abort task set the sender's"
+    answers("libfc-clear-task-set", LIBFC["clear-task-set"], code("00"), "01P")
+    answers("libfc-target-reset", LIBFC["target-reset"], code("00"), "01P29")  # "gives every login attention 29h"
+    answers("libfc-logo", LIBFC["logo"], acc, "")  # "Ends the login if any; ACC of 4 bytes"
 
 
 def other_codes_and_sizes():
@@ -247,27 +108,27 @@ def other_codes_and_sizes():
     fresh("01")
     for code in (0x00, 0x01, 0x02, 0x04, 0x06, 0x0F, 0x11, 0x13, 0x22, 0x24, 0x51, 0x53, 0xFF):
         for host, size in ((0x01, 116), (0x02, 4)):  # with a login and without, of any size
-            link("code-%02X" % code, frame(host, 0x0900 + code, bytes([code]) + bytes(size - 1)), rjt("0B,00"), "01p")
+            answers("code-%02X" % code, frame(host, 0x0900 + code, bytes([code]) + bytes(size - 1)), rjt("0B,00"), "01p29")
     sizes = {0x03: 116, 0x05: 16, 0x12: 44, 0x20: 20, 0x21: 20, 0x50: 116, 0x52: 28}  # "Codes and payload sizes"
     for code, size in sizes.items():
         for wrong in (4, size - 4, size + 4):
             for host in (0x01, 0x02):  # size is looked at before the login; a PLOGI "of right size" only ends the login
-                link("size-%02X-%d" % (code, wrong), frame(host, 0x0A00 + code, bytes([code]) + bytes(wrong - 1)), rjt("03,00"), "01p")
+                answers("size-%02X-%d" % (code, wrong), frame(host, 0x0A00 + code, bytes([code]) + bytes(wrong - 1)), rjt("03,00"), "01p29")
 
 
 def no_login():
     """"no login (PLOGI and LOGO excepted) a drive LOGO"; "ABTS: no login, drive LOGO"."""
     fresh("02")
     for host in (0x01, 0xE8):
-        link("no-login-pdisc", pdisc(host), logout, "02p")
-        link("no-login-adisc", adisc(host), logout, "02p")
-        link("no-login-prli", prli(host), logout, "02p")
-        link("no-login-prli-ill", prli(host, "20" + "00" * 19), logout, "02p")  # before the service's own tests
-        link("no-login-prlo", prlo(host), logout, "02p")
-        link("no-login-rrq", rrq(host, 0x0101), logout, "02p")
-        link("no-login-abts", abts(host, 0x0101), logout, "02p")
-        link("no-login-abts-rx-id", abts(host, 0x0101, rx_id=0x0000), logout, "02p")
-        link("no-login-logo", logo(host), acc, "02p")  # "Ends the login if any"
+        answers("no-login-pdisc", pdisc(host), logout, "02p29")
+        answers("no-login-adisc", adisc(host), logout, "02p29")
+        answers("no-login-prli", prli(host), logout, "02p29")
+        answers("no-login-prli-ill", prli(host, "20" + "00" * 19), logout, "02p29")  # before the service's own tests
+        answers("no-login-prlo", prlo(host), logout, "02p29")
+        answers("no-login-rrq", rrq(host, 0x0101), logout, "02p29")
+        answers("no-login-abts", abts(host, 0x0101), logout, "02p29")
+        answers("no-login-abts-rx-id", abts(host, 0x0101, rx_id=0x0000), logout, "02p29")
+        answers("no-login-logo", logo(host), acc, "02p29")  # "Ends the login if any"
 
 
 # "Tests in word order", each with its pair and, for the order, a second fault in the word after it
@@ -297,69 +158,69 @@ WORD_TESTS = (
 def plogi_tests():
     """"Of right size, it ends the sender's login and exchanges first, accepted or not"."""
     fresh("0102")
-    link("prli", prli(0x02), prli_acc, "01p 02P")
-    opens(1, 0x0101, "01p 02P:0101")
+    answers("prli", prli(0x02), prli_acc, "01p29 02P29")
+    opens(0x02, 0x0101, "01p29 02P29:0101")
     for name, pair, changes in WORD_TESTS:
-        link("plogi-" + name, login(0x01, **changes), rjt(pair), ". 02P:0101")  # the old login is gone
-        link("plogi", login(0x01), login_acc, "01p 02P:0101")
+        answers("plogi-" + name, login(0x01, **changes), rjt(pair), ". 02P29:0101")  # the old login is gone
+        answers("plogi", login(0x01), login_acc, "01p29 02P29:0101")
     # "low 12 bits"; the size that is kept is W18's
     for name, w2, w18, kept in (("256", "0840", "0100", "0100"), ("2112", "0100", "0840", "0840"), ("4352", "F840", "1100", "0100")):
         sizes = {"w2": bytes.fromhex(w2), "w18": bytes.fromhex(w18)}
-        link("plogi-w18-" + name, login(0x01, **sizes, w17=b"\x80", w19=b"\x7E", w20=b"\x03"), login_acc, "01p 02P:0101")
+        answers("plogi-w18-" + name, login(0x01, **sizes, w17=b"\x80", w19=b"\x7E", w20=b"\x03"), login_acc, "01p29 02P29:0101")
         keeps("kept-w18-" + name, 0, "01" "01" "00" "29" "7E" "03" + kept + "00000001 2000525400120001 1000525400120001")
-    link("plogi-again", login(0x02), login_acc, "01p 02p")  # ends its exchanges and its pairing
+    answers("plogi-again", login(0x02), login_acc, "01p29 02p29")  # ends its exchanges and its pairing
     keeps("kept-again", 1, "01" "01" "00" "29" "FF" "01" "0840" "00000002 2000525400120002 1000525400120002")
-    link("plogi-names-low", login(0x01, port=bytes(7) + b"\x01", node=b"\x01" + bytes(7)), login_acc, "01p 02p")  # "not zero"
+    answers("plogi-names-low", login(0x01, port=bytes(7) + b"\x01", node=b"\x01" + bytes(7)), login_acc, "01p29 02p29")  # "not zero"
     keeps("kept-names-low", 0, "01" "01" "00" "29" "FF" "01" "0840" "00000001 0000000000000001 0100000000000000")
 
 
 def places():
     """"8 logins at most"; "a free place, else 09,29"; "the lowest free place"; "A freed place is used again"."""
     fresh("01020408" "0F101718")
-    eight = "01p 02p 04p 08p 0Fp 10p 17p 18p"
-    link("ninth", login(0x1B), rjt("09,29"), eight)
-    link("ninth-w20", login(0x1B, w20=LOW), rjt("03,01"), eight)  # the room test comes last
-    link("ninth-pdisc", pdisc(0x1B), logout, eight)
-    link("full-member", login(0x08), login_acc, eight)  # a full table takes its own member's new login
-    link("full-pdisc", pdisc(0x18), login_acc, eight)  # "without the room test"
-    link("full-logo", logo(0x0F), acc, "01p 02p 04p 08p . 10p 17p 18p")
-    link("freed-place", login(0x1B), login_acc, "01p 02p 04p 08p 1Bp 10p 17p 18p")
-    link("full-rejected", login(0x10, w19=LOW), rjt("03,09"), "01p 02p 04p 08p 1Bp . 17p 18p")
-    link("logo", logo(0x02), acc, "01p . 04p 08p 1Bp . 17p 18p")
-    link("lowest-free", login(0x1D), login_acc, "01p 1Dp 04p 08p 1Bp . 17p 18p")
-    link("logo", logo(0x01), acc, ". 1Dp 04p 08p 1Bp . 17p 18p")
-    link("moves-down", login(0x18), login_acc, "18p 1Dp 04p 08p 1Bp . 17p")  # its old place is free and is not the lowest
+    eight = "01p29 02p29 04p29 08p29 0Fp29 10p29 17p29 18p29"
+    answers("ninth", login(0x1B), rjt("09,29"), eight)
+    answers("ninth-w20", login(0x1B, w20=LOW), rjt("03,01"), eight)  # the room test comes last
+    answers("ninth-pdisc", pdisc(0x1B), logout, eight)
+    answers("full-member", login(0x08), login_acc, eight)  # a full table takes its own member's new login
+    answers("full-pdisc", pdisc(0x18), login_acc, eight)  # "without the room test"
+    answers("full-logo", logo(0x0F), acc, "01p29 02p29 04p29 08p29 . 10p29 17p29 18p29")
+    answers("freed-place", login(0x1B), login_acc, "01p29 02p29 04p29 08p29 1Bp29 10p29 17p29 18p29")
+    answers("full-rejected", login(0x10, w19=LOW), rjt("03,09"), "01p29 02p29 04p29 08p29 1Bp29 . 17p29 18p29")
+    answers("logo", logo(0x02), acc, "01p29 . 04p29 08p29 1Bp29 . 17p29 18p29")
+    answers("lowest-free", login(0x1D), login_acc, "01p29 1Dp29 04p29 08p29 1Bp29 . 17p29 18p29")
+    answers("logo", logo(0x01), acc, ". 1Dp29 04p29 08p29 1Bp29 . 17p29 18p29")
+    answers("moves-down", login(0x18), login_acc, "18p29 1Dp29 04p29 08p29 1Bp29 . 17p29")  # its old place is free and is not the lowest
     fresh("01")
-    link("one-port-name", login(0x02, port=names_of(0x01)[0]), login_acc, "01p 02p")  # "not compared between addresses"
-    link("one-name", login(0x04, port=names_of(0x01)[0], node=names_of(0x01)[1]), login_acc, "01p 02p 04p")
+    answers("one-port-name", login(0x02, port=names_of(0x01)[0]), login_acc, "01p29 02p29")  # "not compared between addresses"
+    answers("one-name", login(0x04, port=names_of(0x01)[0], node=names_of(0x01)[1]), login_acc, "01p29 02p29 04p29")
 
 
 def verified():
     """PDISC and ADISC after a loop reset: "marks every login unproven"; "ACC marks the login proven and changes nothing else"."""
     fresh("0102")
-    link("prli", prli(0x01), prli_acc, "01P 02p")
-    opens(0, 0x0101, "01P:0101 02p")
+    answers("prli", prli(0x01), prli_acc, "01P29 02p29")
+    opens(0x01, 0x0101, "01P29:0101 02p29")
     for name, f, reply in (("pdisc", pdisc(0x01), login_acc), ("adisc", adisc(0x01), adisc_acc),
                            ("pdisc-other-sizes", pdisc(0x01, w2=b"\x01\x00", w18=b"\x02\x00", w19=b"\x09", w20=b"\x08"), login_acc)):
-        event("reset", "r", "01U:0101 02u")
-        link("reset-" + name, f, reply, "01P:0101 02u")
+        event("reset", "r", "01U29:0101 02u29")
+        answers("reset-" + name, f, reply, "01P29:0101 02u29")
         keeps("kept-" + name, 0, "01" "01" "01" "29" "FF" "01" "0840" "00000001 2000525400120001 1000525400120001")
-    event("reset", "r", "01U:0101 02u")
+    event("reset", "r", "01U29:0101 02u29")
     for name, pair, changes in WORD_TESTS:  # "PDISC then tests as PLOGI, .. changing nothing on reject"
         if not changes.keys() & {"port", "node"}:
-            link("pdisc-" + name, pdisc(0x01, **changes), rjt(pair), "01U:0101 02u")
+            answers("pdisc-" + name, pdisc(0x01, **changes), rjt(pair), "01U29:0101 02u29")
     keeps("kept-rejected", 0, "01" "00" "01" "29" "FF" "01" "0840" "00000001 2000525400120001 1000525400120001")
-    link("reset-logo", logo(0x02), acc, "01U:0101")
-    link("reset-plogi", login(0x02), login_acc, "01U:0101 02p")
-    event("verification-over", "v", ". 02p")
+    answers("reset-logo", logo(0x02), acc, "01U29:0101")
+    answers("reset-plogi", login(0x02), login_acc, "01U29:0101 02p29")
+    event("verification-over", "v", ". 02p29")
     event("power-on", "o", "")
 
 
 def other_names():
     """"Names differ from the login's, or ADISC W6/B1-3 from S_ID: drive LOGO, login ended"."""
     fresh("0201")
-    link("prli", prli(0x01), prli_acc, "02p 01P")
-    opens(1, 0x0101, "02p 01P:0101")
+    answers("prli", prli(0x01), prli_acc, "02p29 01P29")
+    opens(0x01, 0x0101, "02p29 01P29:0101")
     port, node = names_of(0x01)
     first, last = b"\x21" + port[1:], node[:7] + b"\x02"
     for name, f in (("pdisc-port", pdisc(0x01, port=first)), ("pdisc-node", pdisc(0x01, node=last)),
@@ -367,12 +228,12 @@ def other_names():
                     ("pdisc-swapped", pdisc(0x01, port=node, node=port)), ("pdisc-port-w2", pdisc(0x01, w2=bytes(2), port=first)),
                     ("adisc-port", adisc(0x01, port=first)), ("adisc-node", adisc(0x01, node=last)),
                     ("adisc-swapped", adisc(0x01, port=node, node=port)), ("adisc-address", adisc(0x01, named=0x02))):
-        link(name, f, logout, "02p")
-        link("plogi", login(0x01), login_acc, "02p 01p")
-        event("reset", "r", "02u 01u")
-        link(name + "-unproven", f, logout, "02u")
-        link("plogi", login(0x01), login_acc, "02u 01p")
-        link("pdisc", pdisc(0x02), login_acc, "02p 01p")
+        answers(name, f, logout, "02p29")
+        answers("plogi", login(0x01), login_acc, "02p29 01p29")
+        event("reset", "r", "02u29 01u29")
+        answers(name + "-unproven", f, logout, "02u29")
+        answers("plogi", login(0x01), login_acc, "02u29 01p29")
+        answers("pdisc", pdisc(0x02), login_acc, "02p29 01p29")
 
 
 def pairing():
@@ -381,60 +242,60 @@ def pairing():
     faults = (("b1", "11001408002000" + "00" * 8), ("b2", "10011408002000" + "00" * 8), ("b3", "10001808002000" + "00" * 8),
               ("type", "10001409002000" + "00" * 8), ("type-0", "10001400002000" + "00" * 8))
     for name, middle in faults:
-        link("prli-" + name, prli(0x01, "20" + middle + "00000022"), rjt("09,00"), "01p 02p")
+        answers("prli-" + name, prli(0x01, "20" + middle + "00000022"), rjt("09,00"), "01p29 02p29")
     for name, rest in (("pair-bit", "0800DF00" + "00" * 8 + "FFFFFFFF"), ("w4-bit-5", "08002000" + "00" * 8 + "FFFFFFDF"),
                        ("w4-bit-1", "08002000" + "00" * 8 + "FFFFFFFD"), ("w4-high", "08002000" + "00" * 8 + "22222200")):
-        link("prli-" + name, prli(0x01, "20100014" + rest), rjt("09,00"), "01p 02p")
-    link("prli-just", prli(0x01, "2010001408002000" + "00" * 8 + "00000022"), prli_acc, "01P 02p")
-    link("prli-all", prli(0x02, "2010001408FFFFFF" + "FF" * 12), prli_acc, "01P 02P")
+        answers("prli-" + name, prli(0x01, "20100014" + rest), rjt("09,00"), "01p29 02p29")
+    answers("prli-just", prli(0x01, "2010001408002000" + "00" * 8 + "00000022"), prli_acc, "01P29 02p29")
+    answers("prli-all", prli(0x02, "2010001408FFFFFF" + "FF" * 12), prli_acc, "01P29 02P29")
     keeps("kept-paired", 0, "01" "01" "01" "29" "FF" "01" "0840" "00000001 2000525400120001 1000525400120001")
-    opens(0, 0x0101, "01P:0101 02P")
-    opens(0, 0x0102, "01P:0101:0102 02P")
-    opens(1, 0x0101, "01P:0101:0102 02P:0101")
-    link("prli-again", prli(0x01), prli_acc, "01P:0101:0102 02P:0101")  # "ends nothing"
-    link("prli-rejected", prli(0x01, "20" + "00" * 19), rjt("09,00"), "01P:0101:0102 02P:0101")
+    opens(0x01, 0x0101, "01P29:0101 02P29")
+    opens(0x01, 0x0102, "01P29:0101:0102 02P29")
+    opens(0x02, 0x0101, "01P29:0101:0102 02P29:0101")
+    answers("prli-again", prli(0x01), prli_acc, "01P29:0101:0102 02P29:0101")  # "ends nothing"
+    answers("prli-rejected", prli(0x01, "20" + "00" * 19), rjt("09,00"), "01P29:0101:0102 02P29:0101")
     for name, middle in faults:
-        link("prlo-" + name, prlo(0x01, "21" + middle + "00000000"), rjt("09,00"), "01P:0101:0102 02P:0101")
-    link("prlo", prlo(0x01), prlo_acc, "01p 02P:0101")  # "ends the pairing and its exchanges"
-    link("prlo-again", prlo(0x01, "2110001408" + "FF" * 15), prlo_acc, "01p 02P:0101")
-    link("prli-after-prlo", prli(0x01), prli_acc, "01P 02P:0101")
+        answers("prlo-" + name, prlo(0x01, "21" + middle + "00000000"), rjt("09,00"), "01P29:0101:0102 02P29:0101")
+    answers("prlo", prlo(0x01), prlo_acc, "01p29 02P29:0101")  # "ends the pairing and its exchanges"
+    answers("prlo-again", prlo(0x01, "2110001408" + "FF" * 15), prlo_acc, "01p29 02P29:0101")
+    answers("prli-after-prlo", prli(0x01), prli_acc, "01P29 02P29:0101")
 
 
 def logo_and_rrq():
     """LOGO: "W1/B1-3 must equal S_ID, else 03,1F". RRQ: "W1/B1-3 not S_ID 03,15; that OX_ID open 03,17; else ACC of 4 bytes"."""
     fresh("0102")
-    link("prli", prli(0x01), prli_acc, "01P 02p")
-    opens(0, 0x0101, "01P:0101 02p")
-    opens(0, 0x8102, "01P:0101:8102 02p")
-    link("logo-other", logo(0x01, named=0x02), rjt("03,1F"), "01P:0101:8102 02p")
-    link("logo-other-no-login", logo(0x04, named=0x02), rjt("03,1F"), "01P:0101:8102 02p")
-    link("rrq-other", rrq(0x01, 0x0103, named=0x02), rjt("03,15"), "01P:0101:8102 02p")
-    link("rrq-other-open", rrq(0x01, 0x0101, named=0x02), rjt("03,15"), "01P:0101:8102 02p")
-    link("rrq-open", rrq(0x01, 0x8102), rjt("03,17"), "01P:0101:8102 02p")
-    link("rrq-closed", rrq(0x01, 0x0102), acc, "01P:0101:8102 02p")
-    link("rrq-unpaired", rrq(0x02, 0x0103), acc, "01P:0101:8102 02p")
-    link("logo-ends", logo(0x01), acc, ". 02p")
-    link("logo-again", logo(0x01), acc, ". 02p")
+    answers("prli", prli(0x01), prli_acc, "01P29 02p29")
+    opens(0x01, 0x0101, "01P29:0101 02p29")
+    opens(0x01, 0x8102, "01P29:0101:8102 02p29")
+    answers("logo-other", logo(0x01, named=0x02), rjt("03,1F"), "01P29:0101:8102 02p29")
+    answers("logo-other-no-login", logo(0x04, named=0x02), rjt("03,1F"), "01P29:0101:8102 02p29")
+    answers("rrq-other", rrq(0x01, 0x0103, named=0x02), rjt("03,15"), "01P29:0101:8102 02p29")
+    answers("rrq-other-open", rrq(0x01, 0x0101, named=0x02), rjt("03,15"), "01P29:0101:8102 02p29")
+    answers("rrq-open", rrq(0x01, 0x8102), rjt("03,17"), "01P29:0101:8102 02p29")
+    answers("rrq-closed", rrq(0x01, 0x0102), acc, "01P29:0101:8102 02p29")
+    answers("rrq-unpaired", rrq(0x02, 0x0103), acc, "01P29:0101:8102 02p29")
+    answers("logo-ends", logo(0x01), acc, ". 02p29")
+    answers("logo-again", logo(0x01), acc, ". 02p29")
 
 
 def aborts():
     """"ABTS: no login, drive LOGO. RX_ID not FFFFh, BA_RJT. Else the sender's exchange of that OX_ID, if any, ends; BA_ACC"."""
     fresh("0102")
-    link("abts-unpaired", abts(0x01, 0x0101), ba_acc, "01p 02p")
-    link("prli", prli(0x01), prli_acc, "01P 02p")
-    link("prli", prli(0x02), prli_acc, "01P 02P")
-    opens(0, 0x0101, "01P:0101 02P")
-    opens(0, 0x8102, "01P:0101:8102 02P")
-    opens(1, 0x8102, "01P:0101:8102 02P:8102")
+    answers("abts-unpaired", abts(0x01, 0x0101), ba_acc, "01p29 02p29")
+    answers("prli", prli(0x01), prli_acc, "01P29 02p29")
+    answers("prli", prli(0x02), prli_acc, "01P29 02P29")
+    opens(0x01, 0x0101, "01P29:0101 02P29")
+    opens(0x01, 0x8102, "01P29:0101:8102 02P29")
+    opens(0x02, 0x8102, "01P29:0101:8102 02P29:8102")
     for name, rx_id in (("0000", 0x0000), ("FFFE", 0xFFFE), ("00FF", 0x00FF), ("FF00", 0xFF00)):
-        link("abts-rx-id-%s-open" % name, abts(0x01, 0x8102, rx_id, seq_id=0x5A), ba_rjt, "01P:0101:8102 02P:8102")
-        link("abts-rx-id-%s" % name, abts(0x01, 0x8103, rx_id, seq_id=0xA5), ba_rjt, "01P:0101:8102 02P:8102")
-    link("abts-not-open", abts(0x01, 0x8103, seq_id=0x01), ba_acc, "01P:0101:8102 02P:8102")
-    link("abts-open", abts(0x01, 0x8102, seq_id=0xC3), ba_acc, "01P:0101 02P:8102")  # the other login's stays
-    link("abts-again", abts(0x01, 0x8102, seq_id=0xC4), ba_acc, "01P:0101 02P:8102")
-    opens(0, 0x0103, "01P:0101:0103 02P:8102")
-    link("abts-first", abts(0x01, 0x0101), ba_acc, "01P:0103 02P:8102")
-    opens(0, 0x0104, "01P:0104:0103 02P:8102")  # the freed place is the lowest
+        answers("abts-rx-id-%s-open" % name, abts(0x01, 0x8102, rx_id, seq_id=0x5A), ba_rjt, "01P29:0101:8102 02P29:8102")
+        answers("abts-rx-id-%s" % name, abts(0x01, 0x8103, rx_id, seq_id=0xA5), ba_rjt, "01P29:0101:8102 02P29:8102")
+    answers("abts-not-open", abts(0x01, 0x8103, seq_id=0x01), ba_acc, "01P29:0101:8102 02P29:8102")
+    answers("abts-open", abts(0x01, 0x8102, seq_id=0xC3), ba_acc, "01P29:0101 02P29:8102")  # the other login's stays
+    answers("abts-again", abts(0x01, 0x8102, seq_id=0xC4), ba_acc, "01P29:0101 02P29:8102")
+    opens(0x01, 0x0103, "01P29:0101:0103 02P29:8102")
+    answers("abts-first", abts(0x01, 0x0101), ba_acc, "01P29:0103 02P29:8102")
+    opens(0x01, 0x0104, "01P29:0104:0103 02P29:8102")  # the freed place is the lowest
 
 
 def headers():
@@ -442,13 +303,13 @@ def headers():
     other = {"seq_id": 0xA7, "rx_id": 0x4567, "reserved": 0x5C, "offset": 0x89ABCDEF}  # none of these is in a reply
     fresh("01")
     for name, payload, reply, after in (
-            ("rjt", "0E000000", rjt("0B,00"), "01p"), ("plogi", login(0x01)[24:].hex(), login_acc, "01p"),
-            ("adisc", adisc(0x01)[24:].hex(), adisc_acc, "01p"), ("prli", prli(0x01)[24:].hex(), prli_acc, "01P"),
-            ("prlo", prlo(0x01)[24:].hex(), prlo_acc, "01p"), ("pdisc", pdisc(0x01)[24:].hex(), login_acc, "01p"),
+            ("rjt", "0E000000", rjt("0B,00"), "01p29"), ("plogi", login(0x01)[24:].hex(), login_acc, "01p29"),
+            ("adisc", adisc(0x01)[24:].hex(), adisc_acc, "01p29"), ("prli", prli(0x01)[24:].hex(), prli_acc, "01P29"),
+            ("prlo", prlo(0x01)[24:].hex(), prlo_acc, "01p29"), ("pdisc", pdisc(0x01)[24:].hex(), login_acc, "01p29"),
             ("logo", logo(0x01)[24:].hex(), acc, ""), ("logout", prli(0x01)[24:].hex(), logout, "")):
-        link("header-" + name, frame(0x01, 0x8123, bytes.fromhex(payload), **other), reply, after)
-    link("header-highest", frame(0xE8, 0xFFFF, bytes.fromhex("0E000000")), rjt("0B,00"), "")
-    link("header-lowest", frame(0x01, 0x0000, bytes.fromhex("0E000000")), rjt("0B,00"), "")
+        answers("header-" + name, frame(0x01, 0x8123, bytes.fromhex(payload), **other), reply, after)
+    answers("header-highest", frame(0xE8, 0xFFFF, bytes.fromhex("0E000000")), rjt("0B,00"), "")
+    answers("header-lowest", frame(0x01, 0x0000, bytes.fromhex("0E000000")), rjt("0B,00"), "")
 
 
 def unnamed():
@@ -458,20 +319,431 @@ def unnamed():
     for p, w2, w17, w19, w20 in ((ones, "F840", 0xFF, 0xFF, 0xFF), (zeros, "0100", 0x80, 0x01, 0x01)):
         p[10:12], p[20:28], p[28:36] = bytes.fromhex(w2), PORT, NODE
         p[68], p[74:76], p[77], p[81] = w17, bytes.fromhex(w2), w19, w20
-    link("unnamed-plogi-ones", frame(0x01, 0x0201, bytes(ones)), login_acc, "01p")
+    answers("unnamed-plogi-ones", frame(0x01, 0x0201, bytes(ones)), login_acc, "01p29")
     keeps("kept-ones", 0, "01" "01" "00" "29" "FF" "FF" "0840" "00000001 2000525400120001 1000525400120001")
-    link("unnamed-plogi-zeros", frame(0x01, 0x0202, bytes(zeros)), login_acc, "01p")
+    answers("unnamed-plogi-zeros", frame(0x01, 0x0202, bytes(zeros)), login_acc, "01p29")
     keeps("kept-zeros", 0, "01" "01" "00" "29" "01" "01" "0100" "00000001 2000525400120001 1000525400120001")
     ones[0] = 0x50
-    link("unnamed-pdisc", frame(0x01, 0x0301, bytes(ones)), login_acc, "01p")
-    link("unnamed-adisc", frame(0x01, 0x0401, b"\x52" + b"\xFF" * 7 + PORT + NODE + bytes.fromhex("FF000001")), adisc_acc, "01p")
-    link("unnamed-rrq", frame(0x01, 0x0601, bytes.fromhex("12FFFFFFFF0000010101") + b"\xFF" * 34), acc, "01p")
-    link("unnamed-abts", frame(0x01, 0x0101, b"\xFF" * 8, r_ctl=0x81, kind=0x00), ba_acc, "01p")
-    link("unnamed-logo", frame(0x01, 0x0501, bytes.fromhex("05FFFFFFFF000001") + b"\xFF" * 8), acc, "")
+    answers("unnamed-pdisc", frame(0x01, 0x0301, bytes(ones)), login_acc, "01p29")
+    answers("unnamed-adisc", frame(0x01, 0x0401, b"\x52" + b"\xFF" * 7 + PORT + NODE + bytes.fromhex("FF000001")), adisc_acc, "01p29")
+    answers("unnamed-rrq", frame(0x01, 0x0601, bytes.fromhex("12FFFFFFFF0000010101") + b"\xFF" * 34), acc, "01p29")
+    answers("unnamed-abts", frame(0x01, 0x0101, b"\xFF" * 8, r_ctl=0x81, kind=0x00), ba_acc, "01p29")
+    answers("unnamed-logo", frame(0x01, 0x0501, bytes.fromhex("05FFFFFFFF000001") + b"\xFF" * 8), acc, "")
+
+
+def paired(hosts, capacity=CAPACITY):
+    """A drive to which each host logs in and pairs; "attention 29h" stands at each."""
+    fresh(hosts, capacity)
+    known = bytes.fromhex(hosts)
+    for n in range(len(known)):
+        answers("prli", prli(known[n]), prli_acc, " ".join("%02X%s29" % (host, "P" if i <= n else "p") for i, host in enumerate(known)))
+
+
+def ready(hosts, capacity=CAPACITY):
+    """The same, and the first command of each host, which is told of the attention: "06/29/00 .. and cleared"."""
+    paired(hosts, capacity)
+    known = bytes.fromhex(hosts)
+    for n in range(len(known)):
+        answers("first", test_unit(known[n]), check("06/29/00"),
+                " ".join("%02XP%s" % (host, "" if i <= n else "29") for i, host in enumerate(known)))
+
+
+def task(host, flag, **changes):
+    return cmnd(host, 0x0B00 + flag, "", bits=0x00, task=flag, **changes)
+
+
+OTHER_UNITS = tuple(bytes(i) + bit + bytes(7 - i) for i, bit in enumerate((b"\x01", b"\x80") * 4))  # a bit in each of the eight bytes
+HIGHEST = 4294967295
+# a command for each code that is known, and two that are not
+EACH = (("test-unit-ready", TEST_UNIT_READY), ("request-sense", request_sense()), ("inquiry", inquiry()), ("read-capacity", READ_CAPACITY),
+        ("read", read(0, 1)), ("write", write(0, 1)), ("code-1A", "1A0000000000"), ("code-FF", "FF0000000000"))
+THE_REST = tuple((name, cdb) for name, cdb in EACH if name not in ("request-sense", "inquiry"))
+# those that send something, and what they want
+SENDING = (("request-sense", request_sense(), 18), ("inquiry", inquiry(), 36), ("read-capacity", READ_CAPACITY, 8), ("read", read(99, 1), 512))
+
+
+def no_paired_login():
+    """"No paired login: drive LOGO, login ended (house)"."""
+    fresh("01020408")
+    answers("prli", prli(0x08), prli_acc, "01p29 02p29 04p29 08P29")
+    opens(0x08, 0x0101, "01p29 02p29 04p29 08P29:0101")
+    answers("unpaired", test_unit(0x02), logout, "01p29 . 04p29 08P29:0101")
+    answers("unpaired-again", test_unit(0x02), logout, "01p29 . 04p29 08P29:0101")  # now there is no login at all
+    answers("never-logged-in", test_unit(0xE8), logout, "01p29 . 04p29 08P29:0101")
+    answers("unpaired-size-28", cmnd(0x01, 0x0102, inquiry(), 36, size=28), logout, ". . 04p29 08P29:0101")  # before the size
+    answers("unpaired-target-reset", task(0x04, 0x20), logout, ". . . 08P29:0101")  # before the task flags
+    answers("plogi", login(0x01), login_acc, "01p29 . . 08P29:0101")
+    answers("unpaired-inquiry", cmnd(0x01, 0x0102, inquiry(), 36), logout, ". . . 08P29:0101")
+    answers("plogi", login(0x01), login_acc, "01p29 . . 08P29:0101")
+    answers("prli", prli(0x01), prli_acc, "01P29 . . 08P29:0101")
+    answers("paired", test_unit(0x01), check("06/29/00"), "01P . . 08P29:0101")
+    answers("paired-again", test_unit(0x01), good(), "01P . . 08P29:0101")
+    opens(0x01, 0x0101, "01P:0101 . . 08P29:0101")
+    answers("prlo", prlo(0x01), prlo_acc, "01p . . 08P29:0101")
+    answers("after-prlo", test_unit(0x01), logout, ". . . 08P29:0101")
+
+
+def response_codes():
+    """"RSP_CODE 02 for a size other than 32, both data bits, a task flag of 01h, 08h, 10h, or two flags. 80h, 40h: 04"."""
+    paired("0102")
+    opens(0x01, 0x0101, "01P29:0101 02P29")
+    opens(0x02, 0x0102, "01P29:0101 02P29:0102")
+    same = "01P29:0101 02P29:0102"  # none of these changes anything, and "RSP_CODE .. answers give 0" whatever FCP_DL is
+    for size in (0, 4, 28, 36, 2112):
+        for ox_id in (0x0101, 0x0103):  # open, and not: the tests are "for the rest"
+            answers("cmnd-size-%d" % size, cmnd(0x01, ox_id, inquiry(), 36, size=size), code("02"), same)
+        for flag in (0x20, 0x80, 0x04):
+            answers("cmnd-size-%d-flag-%02X" % (size, flag), task(0x01, flag, dl=4096, size=size), code("02"), same)
+    for bits in (0x03, 0xFF):
+        for ox_id in (0x0101, 0x0103):
+            answers("both-bits-%02X" % bits, cmnd(0x01, ox_id, inquiry(), 36, bits=bits), code("02"), same)
+        for flag in (0x20, 0x80, 0x04):
+            answers("both-bits-%02X-flag-%02X" % (bits, flag), cmnd(0x01, 0x0103, "", 4096, bits=bits, task=flag), code("02"), same)
+    for ox_id in (0x0101, 0x0103):
+        for lun in (ZERO_UNIT, OTHER_UNITS[1]):
+            for flag in (0x01, 0x08, 0x10):
+                answers("flag-%02X" % flag, cmnd(0x01, ox_id, "", 4096, lun=lun, task=flag), code("02"), same)
+            for flag in (0x80, 0x40):
+                answers("flag-%02X" % flag, cmnd(0x01, ox_id, "", 4096, lun=lun, task=flag), code("04"), same)
+    flags = (0x80, 0x40, 0x20, 0x10, 0x08, 0x04, 0x02, 0x01)
+    for n, one in enumerate(flags):
+        for two in flags[n + 1:]:
+            answers("flags-%02X-%02X" % (one, two), task(0x01, one + two, dl=4096), code("02"), same)
+    answers("flags-all", task(0x01, 0xFF), code("02"), same)
+    answers("flags-three", task(0x01, 0x26, lun=OTHER_UNITS[0]), code("02"), same)
+    for flag in (0x04, 0x02):  # "with a nonzero LUN 05"
+        for lun in OTHER_UNITS:
+            answers("flag-%02X-lun" % flag, task(0x01, flag, dl=4096, lun=lun), code("05"), same)
+        answers("flag-%02X-lun-open" % flag, cmnd(0x01, 0x0101, "", task=flag, lun=OTHER_UNITS[7]), code("05"), same)
+
+
+def target_reset():
+    """"20h target reset ends all exchanges and gives every login attention 29h"."""
+    ready("01020408" "0F10")
+    opens(0x01, 0x0101, "01P:0101 02P 04P 08P 0FP 10P")
+    opens(0x02, 0x0101, "01P:0101 02P:0101 04P 08P 0FP 10P")
+    opens(0x02, 0x0102, "01P:0101 02P:0101:0102 04P 08P 0FP 10P")
+    opens(0x0F, 0x0103, "01P:0101 02P:0101:0102 04P 08P 0FP:0103 10P")
+    answers("prlo", prlo(0x08), prlo_acc, "01P:0101 02P:0101:0102 04P 08p 0FP:0103 10P")
+    event("reset", "r", "01U:0101 02U:0101:0102 04U 08u 0FU:0103 10U")
+    answers("pdisc", pdisc(0x01), login_acc, "01P:0101 02U:0101:0102 04U 08u 0FU:0103 10U")
+    answers("adisc", adisc(0x02), adisc_acc, "01P:0101 02P:0101:0102 04U 08u 0FU:0103 10U")
+    answers("adisc", adisc(0x10), adisc_acc, "01P:0101 02P:0101:0102 04U 08u 0FU:0103 10P")
+    # the sender, one that is not paired, and those that are not proven too
+    answers("target-reset", task(0x01, 0x20), code("00"), "01P29 02P29 04U29 08u29 0FU29 10P29")
+    keeps("kept-unproven-reset", 3, "01" "00" "00" "29" "FF" "01" "0840" "00000008 2000525400120008 1000525400120008")
+    shows("open-after-reset", 1, "02P29", "")
+    answers("target-reset-told", test_unit(0x01), check("06/29/00"), "01P 02P29 04U29 08u29 0FU29 10P29")
+    answers("target-reset-told", test_unit(0x02), check("06/29/00"), "01P 02P 04U29 08u29 0FU29 10P29")
+    opens(0x02, 0x0104, "01P 02P:0104 04U29 08u29 0FU29 10P29")
+    # FCP_DL counts for nothing; a LUN makes a difference to 04h and 02h alone
+    answers("target-reset-lun", task(0x02, 0x20, dl=4096, lun=OTHER_UNITS[0]), code("00"), "01P29 02P29 04U29 08u29 0FU29 10P29")
+    answers("target-reset-again", task(0x10, 0x20), code("00"), "01P29 02P29 04U29 08u29 0FU29 10P29")
+    opens(0x01, 0x0105, "01P29:0105 02P29 04U29 08u29 0FU29 10P29")
+    answers("target-reset-open", cmnd(0x01, 0x0105, "", task=0x20), code("00"), "01P29 02P29 04U29 08u29 0FU29 10P29")
+
+
+def clear_task_set():
+    """"04h clear task set ends all .. after 04h each other login that lost one gets 2Fh unless 29h stands"."""
+    ready("01020408" "0F10")
+    opens(0x10, 0x0101, "01P 02P 04P 08P 0FP 10P:0101")
+    answers("clear-one", task(0x01, 0x04), code("00"), "01P 02P 04P 08P 0FP 10P2F")
+    answers("plogi", login(0x0F), login_acc, "01P 02P 04P 08P 0Fp29 10P2F")
+    answers("prli", prli(0x0F), prli_acc, "01P 02P 04P 08P 0FP29 10P2F")
+    opens(0x0F, 0x0101, "01P 02P 04P 08P 0FP29:0101 10P2F")
+    opens(0x01, 0x0101, "01P:0101 02P 04P 08P 0FP29:0101 10P2F")
+    opens(0x02, 0x0102, "01P:0101 02P:0102 04P 08P 0FP29:0101 10P2F")
+    opens(0x02, 0x0103, "01P:0101 02P:0102:0103 04P 08P 0FP29:0101 10P2F")
+    opens(0x08, 0x0104, "01P:0101 02P:0102:0103 04P 08P:0104 0FP29:0101 10P2F")
+    event("reset", "r", "01U:0101 02U:0102:0103 04U 08U:0104 0FU29:0101 10U2F")
+    answers("pdisc", pdisc(0x01), login_acc, "01P:0101 02U:0102:0103 04U 08U:0104 0FU29:0101 10U2F")
+    answers("pdisc", pdisc(0x02), login_acc, "01P:0101 02P:0102:0103 04U 08U:0104 0FU29:0101 10U2F")
+    answers("adisc", adisc(0x04), adisc_acc, "01P:0101 02P:0102:0103 04P 08U:0104 0FU29:0101 10U2F")
+    answers("adisc", adisc(0x0F), adisc_acc, "01P:0101 02P:0102:0103 04P 08U:0104 0FP29:0101 10U2F")
+    answers("adisc", adisc(0x10), adisc_acc, "01P:0101 02P:0102:0103 04P 08U:0104 0FP29:0101 10P2F")
+    # 01 sent it, 02 and the unproven 08 lost one, 04 lost none, at 0F 29h stands, 10 lost none and keeps what it had
+    answers("clear-task-set", task(0x01, 0x04), code("00"), "01P 02P2F 04P 08U2F 0FP29 10P2F")
+    shows("open-after-clear", 1, "02P2F", "")
+    opens(0x02, 0x0105, "01P 02P2F:0105 04P 08U2F 0FP29 10P2F")
+    opens(0x04, 0x0105, "01P 02P2F:0105 04P:0105 08U2F 0FP29 10P2F")
+    answers("clear-by-loser", task(0x02, 0x04), code("00"), "01P 02P2F 04P2F 08U2F 0FP29 10P2F")  # the sender's attention stands
+    opens(0x02, 0x0106, "01P 02P2F:0106 04P2F 08U2F 0FP29 10P2F")
+    answers("clear-once-more", task(0x01, 0x04, dl=4096), code("00"), "01P 02P2F 04P2F 08U2F 0FP29 10P2F")
+    opens(0x0F, 0x0106, "01P 02P2F 04P2F 08U2F 0FP29:0106 10P2F")
+    answers("clear-by-29", cmnd(0x0F, 0x0106, "", task=0x04), code("00"), "01P 02P2F 04P2F 08U2F 0FP29 10P2F")
+    answers("clear-told", test_unit(0x02), check("06/2F/00"), "01P 02P 04P2F 08U2F 0FP29 10P2F")
+    answers("clear-told-once", test_unit(0x02), good(), "01P 02P 04P2F 08U2F 0FP29 10P2F")
+    answers("clear-told", test_unit(0x0F), check("06/29/00"), "01P 02P 04P2F 08U2F 0FP 10P2F")
+    answers("reset-over-2F", task(0x01, 0x20), code("00"), "01P29 02P29 04P29 08U29 0FP29 10P29")
+
+
+def abort_task_set():
+    """"02h abort task set the sender's": no attention, and no other login's exchange."""
+    ready("0102")
+    opens(0x01, 0x0101, "01P:0101 02P")
+    opens(0x01, 0x0102, "01P:0101:0102 02P")
+    opens(0x02, 0x0101, "01P:0101:0102 02P:0101")
+    answers("abort-task-set", task(0x01, 0x02), code("00"), "01P 02P:0101")
+    answers("abort-none", task(0x01, 0x02, dl=4096), code("00"), "01P 02P:0101")
+    opens(0x01, 0x0103, "01P:0103 02P:0101")
+    answers("abort-open", cmnd(0x01, 0x0103, "", task=0x02), code("00"), "01P 02P:0101")
+    answers("target-reset", task(0x01, 0x20), code("00"), "01P29 02P29")
+    opens(0x02, 0x0101, "01P29 02P29:0101")
+    answers("abort-with-29", task(0x02, 0x02), code("00"), "01P29 02P29")
+
+
+def overlapped():
+    """"(1) OX_ID open at this login: that exchange ends, 0B/4E/00"."""
+    ready("0102")
+    opens(0x02, 0x0101, "01P 02P:0101")  # the other login's stays
+    for name, cdb in EACH + (("field", "120100002400"), ("outside", read(100, 1))):
+        for how, changes in (("", {}), ("-lun", {"lun": OTHER_UNITS[1]}), ("-no-read-bit", {"bits": 0x00})):
+            opens(0x01, 0x0101, "01P:0101 02P:0101")
+            answers("overlap-" + name + how, cmnd(0x01, 0x0101, cdb, 512, **changes), check("0B/4E/00", 512), "01P 02P:0101")
+    opens(0x01, 0x0101, "01P:0101 02P:0101")
+    opens(0x01, 0x0102, "01P:0101:0102 02P:0101")
+    opens(0x01, 0x0103, "01P:0101:0102:0103 02P:0101")
+    answers("overlap-just-that", cmnd(0x01, 0x0102, read(0, 1)), check("0B/4E/00"), "01P:0101:0103 02P:0101")
+    shows("overlap-freed", 0, "01P", exchange(0x0101, "INQUIRY", 36, 36) + " . " + exchange(0x0103, "INQUIRY", 36, 36))
+    opens(0x01, 0x0102, "01P:0101:0102:0103 02P:0101")  # "A freed place is used again"
+    answers("target-reset", task(0x02, 0x20), code("00"), "01P29 02P29")
+    for name, cdb in EACH:
+        opens(0x01, 0x0101, "01P29:0101 02P29")
+        # before test 3: the attention is not cleared
+        answers("overlap-attention-" + name, cmnd(0x01, 0x0101, cdb, 18), check("0B/4E/00", 18), "01P29 02P29")
+
+
+def other_units():
+    """"(2) LUN not 0, 05/25/00"; "INQUIRY and REQUEST SENSE skip 2 and 3"."""
+    paired("01")
+    for lun in OTHER_UNITS:
+        answers("lun-test-unit-ready", test_unit(0x01, lun=lun), check("05/25/00"), "01P29")  # before test 3: the attention stands
+        answers("lun-inquiry", cmnd(0x01, 0x0101, inquiry(), 36, lun=lun), nothing, "01P29:0101")
+        answers("lun-request-sense", cmnd(0x01, 0x0102, request_sense(), 18, lun=lun), nothing, "01P29:0101:0102")
+        # "7Fh first for another LUN"; "or 05/25/00 for another LUN"
+        shows("lun-open", 0, "01P29", exchange(0x0101, "INQUIRY-7F", 36, 36) + " " + exchange(0x0102, "SENSE-052500", 18, 18))
+        answers("abort-task-set", task(0x01, 0x02), code("00"), "01P29")
+    for name, cdb in THE_REST + (("field", "25000100000000000000"), ("outside", read(100, 1))):
+        answers("lun-" + name, cmnd(0x01, 0x0101, cdb, 512, lun=OTHER_UNITS[0]), check("05/25/00", 512), "01P29")
+        answers("lun-no-read-bit-" + name, cmnd(0x01, 0x0101, cdb, 512, bits=0x01, lun=OTHER_UNITS[1]), check("05/25/00", 512), "01P29")
+
+
+def attentions():
+    """"(3) attention, 06/29/00 or 06/2F/00, and cleared"; "the attention, cleared as its exchange opens"."""
+    paired("0102")
+    opens(0x01, 0x0101, "01P29:0101 02P29")  # INQUIRY skips the test, and leaves the attention
+    answers("inquiry-none", cmnd(0x01, 0x0102, inquiry(0)), good(), "01P29:0101 02P29")
+    for name, cdb in THE_REST + (("field", "280100000000000001"), ("outside", read(100, 1))):  # before tests 4 to 8
+        answers("target-reset", task(0x02, 0x20), code("00"), "01P29 02P29")
+        answers("attention-29-" + name, cmnd(0x01, 0x0101, cdb, 512), check("06/29/00", 512), "01P 02P29")
+        opens(0x01, 0x0101, "01P:0101 02P29")
+        answers("clear-task-set", task(0x02, 0x04), code("00"), "01P2F 02P29")
+        answers("attention-2F-" + name, cmnd(0x01, 0x0101, cdb, 512, bits=0x00), check("06/2F/00", 512), "01P 02P29")
+    for shown, sends in (("01P29", "SENSE-062900"), ("01P2F", "SENSE-062F00")):
+        if shown == "01P29":
+            answers("target-reset", task(0x02, 0x20), code("00"), "01P29 02P29")
+        else:
+            opens(0x01, 0x0101, "01P:0101 02P29")
+            answers("clear-task-set", task(0x02, 0x04), code("00"), "01P2F 02P29")
+        for name, f, reply in (("none", cmnd(0x01, 0x0101, request_sense(0)), good()),
+                               ("none-of-18", cmnd(0x01, 0x0101, request_sense(0), 18), under(18)),
+                               ("dl-0", cmnd(0x01, 0x0101, request_sense(), 0), over(18)),
+                               ("no-read-bit", cmnd(0x01, 0x0101, request_sense(), 18, bits=0x00), code("02")),
+                               ("write-bit", cmnd(0x01, 0x0101, request_sense(), 18, bits=0x01), code("02"))):
+            answers("sense-not-cleared-" + name, f, reply, shown + " 02P29")  # no exchange opens
+        answers("sense-not-cleared-lun", cmnd(0x01, 0x0101, request_sense(), 18, lun=OTHER_UNITS[1]), nothing, shown + ":0101 02P29")
+        answers("sense-cleared", cmnd(0x01, 0x0102, request_sense(), 18), nothing, "01P:0101:0102 02P29")
+        answers("sense-again", cmnd(0x01, 0x0103, request_sense(), 18), nothing, "01P:0101:0102:0103 02P29")
+        shows("sense-open", 0, "01P", " ".join((exchange(0x0101, "SENSE-052500", 18, 18), exchange(0x0102, sends, 18, 18),
+                                               exchange(0x0103, "SENSE-000000", 18, 18))))
+        answers("sense-then", test_unit(0x01), good(), "01P:0101:0102:0103 02P29")
+        answers("abort-task-set", task(0x01, 0x02), code("00"), "01P 02P29")
+    answers("first-of-the-other", test_unit(0x02), check("06/29/00"), "01P 02P")
+    answers("target-reset", task(0x01, 0x20), code("00"), "01P29 02P29")
+    answers("sense-of-one-byte", cmnd(0x01, 0x0101, request_sense(1), 1), nothing, "01P:0101 02P29")  # it is cleared however little is sent
+    shows("sense-of-one-byte-open", 0, "01P", exchange(0x0101, "SENSE-062900", 1, 1))
+
+
+def codes_and_writes():
+    """"(4) code not 00h, 03h, 12h, 25h, 28h, 2Ah, 05/20/00; (5) 2Ah, 07/27/00"."""
+    ready("01")
+    for number in (0x01, 0x02, 0x04, 0x08, 0x0A, 0x10, 0x11, 0x13, 0x15, 0x1A, 0x1B, 0x23, 0x24, 0x26, 0x27, 0x29, 0x2B, 0x2E, 0x2F, 0x34, 0x35,
+                   0x3B, 0x3C, 0x52, 0x80, 0x83, 0x88, 0x92, 0x9E, 0xA0, 0xA5, 0xA8, 0xAA, 0xFF):
+        answers("code-%02X-command" % number, cmnd(0x01, 0x0101, "%02X01FFFFFFFFFFFFFF" % number, 36), check("05/20/00", 36), "01P")
+        answers("code-%02X-no-data" % number, cmnd(0x01, 0x0101, "%02X" % number, bits=0x00), check("05/20/00"), "01P")
+    for name, cdb in (("", write(0, 1)), ("-nothing", write(0, 0)), ("-outside", write(100, 1)), ("-field", "2A0100000000000001")):
+        for bits in (0x00, 0x01, 0x02):
+            answers("write%s-%d" % (name, bits), cmnd(0x01, 0x0101, cdb, 512, bits=bits), check("07/27/00", 512), "01P")
+    answers("write-dl-0", cmnd(0x01, 0x0101, write(0, 1)), check("07/27/00"), "01P")
+
+
+def fields():
+    """"(6) INQUIRY byte 1 bit 0 or byte 2, READ CAPACITY bytes 2-5 or byte 8 bit 0, READ(10) byte 1 bit 0 set, 05/24/00"."""
+    ready("01")
+    for name, cdb in (("inquiry-byte-1", "120100002400"), ("inquiry-byte-1-all", "12FF00002400"),
+                      ("inquiry-byte-2-low", "120001002400"), ("inquiry-byte-2-high", "120080002400"), ("inquiry-both", "120183002400"),
+                      ("capacity-byte-2-low", "25000100000000000000"), ("capacity-byte-2-high", "25008000000000000000"),
+                      ("capacity-byte-3-low", "25000001000000000000"), ("capacity-byte-3-high", "25000080000000000000"),
+                      ("capacity-byte-4-low", "25000000010000000000"), ("capacity-byte-4-high", "25000000800000000000"),
+                      ("capacity-byte-5-low", "25000000000100000000"), ("capacity-byte-5-high", "25000000008000000000"),
+                      ("capacity-byte-8", "25000000000000000100"), ("capacity-byte-8-all", "2500000000000000FF00"),
+                      ("read-byte-1", "28010000000000000100"), ("read-byte-1-all", "28FF0000000000000100"),
+                      ("read-outside", "28010000006400000100"), ("read-nothing", "28010000000000000000")):
+        answers("field-" + name, cmnd(0x01, 0x0101, cdb, 512), check("05/24/00", 512), "01P")
+        answers("field-%s-dl-0" % name, cmnd(0x01, 0x0101, cdb, 0), check("05/24/00"), "01P")
+        # before test 8
+        answers("field-%s-no-read-bit" % name, cmnd(0x01, 0x0101, cdb, 512, bits=0x00), check("05/24/00", 512), "01P")
+    answers("field-inquiry-lun", cmnd(0x01, 0x0101, "120100002400", 36, lun=OTHER_UNITS[1]), check("05/24/00", 36), "01P")
+    answers("target-reset", task(0x01, 0x20), code("00"), "01P29")
+    answers("field-inquiry-attention", cmnd(0x01, 0x0101, "120100002400", 36), check("05/24/00", 36), "01P29")
+
+
+def edges():
+    """"(7) READ(10) address not below capacity, or address plus count above it, 05/21/00"; the slip: "adding address and count in 32 bits"."""
+    for capacity, inside, outside in (
+            (100, ((99, 1), (0, 100), (98, 2), (0, 1)),
+             ((99, 2), (100, 0), (100, 1), (0, 101), (1, 100), (98, 3), (355, 1), (2147483648, 1), (4294967295, 0), (4294967295, 1),
+              (4294967295, 101))),
+            (1, ((0, 1),), ((0, 2), (1, 0), (1, 1), (0, 65535), (4294967295, 1), (4294967295, 2))),
+            (8388609, ((8388608, 1), (8323074, 65535)), ((8388608, 2), (8388609, 0), (8323075, 65535))),
+            (4294967295, ((4294967294, 1), (4294901760, 65535), (0, 65535), (2147483648, 1)),
+             ((4294967294, 2), (4294967294, 3), (4294967294, 65535), (4294967295, 0), (4294967295, 1), (4294967295, 2), (4294967295, 65535),
+              (4294901761, 65535), (4294901762, 65535), (4294967280, 16), (4294967280, 17)))):
+        ready("01", capacity)
+        listed, after = [], "01P"
+        for n, (address, count) in enumerate(inside):
+            after += ":%04X" % (0x0101 + n)
+            answers("read-%d-%d" % (address, count), cmnd(0x01, 0x0101 + n, read(address, count), 512 * count), nothing, after)
+            listed.append(exchange(0x0101 + n, "READ", 512 * count, 512 * count, address, count))
+        shows("read-open", 0, "01P", " ".join(listed))
+        for address, count in outside:
+            answers("outside-%d-%d" % (address, count), cmnd(0x01, 0x0201, read(address, count), 512), check("05/21/00", 512), after)
+        address, count = outside[0]
+        # before test 8, and whatever there is to send
+        answers("outside-dl-0", cmnd(0x01, 0x0201, read(address, count)), check("05/21/00"), after)
+        answers("outside-no-read-bit", cmnd(0x01, 0x0201, read(address, count), 1024, bits=0x00), check("05/21/00", 1024), after)
+        for dl, reply in ((0, good()), (512, under(512))):  # count 0 below the capacity is no fault
+            answers("read-no-block", cmnd(0x01, 0x0201, read(capacity - 1, 0), dl, bits=0x00), reply, after)
+
+
+def no_read_bit():
+    """"(8) bytes to send without the read bit, RSP_CODE 02": FCP_DL 0, or nothing wanted, passes."""
+    ready("01")
+    for name, cdb, wants in SENDING:
+        for bits in (0x00, 0x01, 0xFC, 0xFD):
+            for dl in (1, wants, HIGHEST):
+                answers("no-read-bit-%s-%02X" % (name, bits), cmnd(0x01, 0x0101, cdb, dl, bits=bits), code("02"), "01P")
+            answers("no-read-bit-%s-%02X-dl-0" % (name, bits), cmnd(0x01, 0x0101, cdb, 0, bits=bits), over(wants), "01P")
+
+
+def room():
+    """"(9) bytes to send, eight open, status 28h"; "each with 8 places for open exchanges of its own. A freed place is used again"."""
+    ready("0102")
+    eight = "01P"
+    for ox_id in range(0x0101, 0x0109):
+        eight += ":%04X" % ox_id
+        opens(0x01, ox_id, eight + " 02P")
+    for name, cdb, wants in SENDING:
+        for dl in (1, wants, HIGHEST):
+            answers("eight-" + name, cmnd(0x01, 0x0109, cdb, dl), eight_open(dl), eight + " 02P")
+        answers("eight-%s-dl-0" % name, cmnd(0x01, 0x0109, cdb, 0), over(wants), eight + " 02P")  # nothing to send
+        answers("eight-%s-no-read-bit" % name, cmnd(0x01, 0x0109, cdb, wants, bits=0x00), code("02"), eight + " 02P")  # before test 9
+    for name, cdb, triple in (("code", "FF", "05/20/00"), ("write", write(0, 1), "07/27/00"), ("field", "280100000000000001", "05/24/00"),
+                              ("outside", read(100, 1), "05/21/00")):
+        answers("eight-" + name, cmnd(0x01, 0x0109, cdb, 512), check(triple, 512), eight + " 02P")
+    answers("eight-lun", cmnd(0x01, 0x0109, read(0, 1), 512, lun=OTHER_UNITS[1]), check("05/25/00", 512), eight + " 02P")
+    answers("eight-test-unit-ready", test_unit(0x01), good(), eight + " 02P")
+    answers("eight-read-no-block", cmnd(0x01, 0x0109, read(99, 0), 512), under(512), eight + " 02P")
+    opens(0x02, 0x0109, eight + " 02P:0109")  # each login has its own
+    # test 1 wins, and its place is the one that is free then
+    answers("eight-overlap", cmnd(0x01, 0x0103, read(0, 1), 512), check("0B/4E/00", 512), "01P:0101:0102:0104:0105:0106:0107:0108 02P:0109")
+    answers("eight-freed", cmnd(0x01, 0x0109, read(7, 2), 1024), nothing, "01P:0101:0102:0109:0104:0105:0106:0107:0108 02P:0109")
+    answers("eight-full-again", cmnd(0x01, 0x010A, read(0, 1), 512), eight_open(512), "01P:0101:0102:0109:0104:0105:0106:0107:0108 02P:0109")
+    answers("abts", abts(0x01, 0x0106), ba_acc, "01P:0101:0102:0109:0104:0105:0107:0108 02P:0109")
+    answers("abts", abts(0x01, 0x0101), ba_acc, "01P:0102:0109:0104:0105:0107:0108 02P:0109")
+    answers("lowest-free-first", cmnd(0x01, 0x010A, READ_CAPACITY, 8), nothing, "01P:010A:0102:0109:0104:0105:0107:0108 02P:0109")
+    answers("lowest-free-second", cmnd(0x01, 0x010B, request_sense(), 18), nothing, "01P:010A:0102:0109:0104:0105:010B:0107:0108 02P:0109")
+    shows("lowest-free-open", 0, "01P", " ".join((
+        exchange(0x010A, "CAPACITY", 8, 8), exchange(0x0102, "INQUIRY", 36, 36), exchange(0x0109, "READ", 1024, 1024, 7, 2),
+        exchange(0x0104, "INQUIRY", 36, 36), exchange(0x0105, "INQUIRY", 36, 36), exchange(0x010B, "SENSE-000000", 18, 18),
+        exchange(0x0107, "INQUIRY", 36, 36), exchange(0x0108, "INQUIRY", 36, 36))))
+    answers("abort-task-set", task(0x01, 0x02), code("00"), "01P 02P:0109")
+    opens(0x01, 0x0103, "01P:0103 02P:0109")
+    shows("lowest-free-of-all", 0, "01P", exchange(0x0103, "INQUIRY", 36, 36))
+    paired("01")
+    eight = "01P29"
+    for ox_id in range(0x0101, 0x0109):
+        eight += ":%04X" % ox_id
+        opens(0x01, ox_id, eight)
+    answers("eight-sense-attention", cmnd(0x01, 0x0109, request_sense(), 18), eight_open(18), eight)  # not cleared: no exchange opens
+    answers("eight-overlap-sense", cmnd(0x01, 0x0108, request_sense(), 18), check("0B/4E/00", 18), "01P29:0101:0102:0103:0104:0105:0106:0107")
+    answers("eight-sense-opens", cmnd(0x01, 0x0109, request_sense(), 18), nothing, "01P:0101:0102:0103:0104:0105:0106:0107:0109")
+    answers("target-reset", task(0x01, 0x20), code("00"), "01P29")
+    shows("none-open", 0, "01P29", "")
+
+
+def wanted():
+    """"Wanted: 0; 18 or byte 4 if smaller; 36 or byte 4 if smaller; 8; count × 512"; the residual where nothing is to be sent."""
+    ready("01")
+    commands = [(request_sense(most), "SENSE-000000", wants, 0, 0)
+                for most, wants in ((1, 1), (17, 17), (18, 18), (19, 18), (36, 18), (255, 18))]
+    commands += [(inquiry(most), "INQUIRY", wants, 0, 0)
+                 for most, wants in ((1, 1), (18, 18), (35, 35), (36, 36), (37, 36), (255, 36))]
+    commands += [(READ_CAPACITY, "CAPACITY", 8, 0, 0)]
+    commands += [(read(start, count), "READ", wants, start, count)
+                 for start, count, wants in ((3, 1, 512), (0, 2, 1024), (0, 100, 51200), (98, 2, 1024))]
+    for cdb, sends, wants, start, count in commands:
+        # less than wanted, as much, and more: 01's known numbers are 1,024 with FCP_DL 1,000 and 2,048, and FCP_DL 1,001
+        lengths = (1, wants, wants + 1, 1000, 1001, 2048, HIGHEST)
+        after = "01P"
+        for n, dl in enumerate(lengths):
+            after += ":%04X" % (0x0101 + n)
+            answers("wanted-%s-dl-%d" % (sends, dl), cmnd(0x01, 0x0101 + n, cdb, dl), nothing, after)
+        shows("wanted-%s-%d" % (sends, wants), 0, "01P",
+              " ".join(exchange(0x0101 + n, sends, wants, dl, start, count) for n, dl in enumerate(lengths)))
+        answers("abort-task-set", task(0x01, 0x02), code("00"), "01P")
+        answers("wanted-%s-dl-0" % sends, cmnd(0x01, 0x0101, cdb, 0), over(wants), "01P")
+    for name, cdb in (("test-unit-ready", TEST_UNIT_READY), ("request-sense-0", request_sense(0)), ("inquiry-0", inquiry(0)),
+                      ("read-0", read(0, 0))):
+        answers("wants-nothing-" + name, cmnd(0x01, 0x0101, cdb, 0), good(), "01P")
+        for dl in (1, 256, 1001, 65536, HIGHEST):
+            answers("wants-nothing-%s-dl-%d" % (name, dl), cmnd(0x01, 0x0101, cdb, dl), under(dl), "01P")
+    for dl in (1, 256, 1001, 65536, HIGHEST):  # "0 when refused"
+        answers("refused-dl-%d" % dl, cmnd(0x01, 0x0101, "FF", dl), check("05/20/00", dl), "01P")
+    ready("01", HIGHEST)
+    answers("wanted-most", cmnd(0x01, 0x0101, read(0, 65535), 1), nothing, "01P:0101")
+    shows("wanted-most-open", 0, "01P", exchange(0x0101, "READ", 33553920, 1, 0, 65535))
+    answers("wanted-most-dl-0", cmnd(0x01, 0x0102, read(0, 65535), 0), over(33553920), "01P:0101")
+
+
+def unnamed_of_commands():
+    """Bytes and bits of a command of which 01 says nothing, all ones; and every other field of the header, which no reply has."""
+    header = {"seq_id": 0xA7, "rx_id": 0x4567, "reserved": 0x5C, "offset": 0x89ABCDEF}
+    ones = {"byte_8": 0xFF, "attribute": 0xFF, **header}
+    paired("0102")
+    answers("unnamed-attention", cmnd(0x01, 0x8101, "00" + "FF" * 15, bits=0xFC, **ones), check("06/29/00"), "01P 02P29")
+    answers("unnamed-test-unit-ready", cmnd(0x01, 0x8101, "00" + "FF" * 15, 7, bits=0xFD, **ones), under(7), "01P 02P29")
+    after = "01P"
+    for n, cdb in enumerate(("03FFFFFF24" + "FF" * 11, "12FE00FF24" + "FF" * 11, "25FF00000000FFFFFE" + "FF" * 7,
+                             "28FE00000063FF0001" + "FF" * 7)):
+        after += ":%04X" % (0x8101 + n)
+        answers("unnamed-" + cdb[:2], cmnd(0x01, 0x8101 + n, cdb, 36, bits=0xFE, **ones), nothing, after + " 02P29")
+    shows("unnamed-open", 0, "01P", " ".join((exchange(0x8101, "SENSE-000000", 18, 36), exchange(0x8102, "INQUIRY", 36, 36),
+                                             exchange(0x8103, "CAPACITY", 8, 36), exchange(0x8104, "READ", 512, 36, 99, 1))))
+    answers("unnamed-2A", cmnd(0x01, 0x8105, "2A" + "FF" * 15, 36, bits=0xFE, **ones), check("07/27/00", 36), after + " 02P29")
+    answers("unnamed-overlap", cmnd(0x01, 0x8101, "FF" * 16, HIGHEST, bits=0xFE, **ones), check("0B/4E/00", HIGHEST), "01P:8102:8103:8104 02P29")
+    answers("unnamed-abort", cmnd(0x01, 0xFFFF, "FF" * 16, HIGHEST, bits=0xFE, task=0x02, **ones), code("00"), "01P 02P29")
+    answers("unnamed-clear-aca", cmnd(0x01, 0x0000, "FF" * 16, HIGHEST, bits=0xFC, task=0x40, **ones), code("04"), "01P 02P29")
+    answers("unnamed-reset", cmnd(0x01, 0x0000, "FF" * 16, HIGHEST, bits=0xFD, task=0x20, **ones), code("00"), "01P29 02P29")
+    answers("prlo", prlo(0x02), prlo_acc, "01P29 02p29")
+    answers("unnamed-logout", cmnd(0x02, 0x8106, "FF" * 16, **ones), logout, "01P29")
+    for attribute in (0x01, 0x02, 0x04, 0x05):  # "byte 9 attribute (ignored)"
+        answers("attribute-%d" % attribute, cmnd(0x01, 0x0101, inquiry(0), attribute=attribute), good(), "01P29")
 
 
 for part in (a_linux_host, other_codes_and_sizes, no_login, plogi_tests, places, verified, other_names, pairing, logo_and_rrq,
-             aborts, headers, unnamed):
+             aborts, headers, unnamed, no_paired_login, response_codes, target_reset, clear_task_set, abort_task_set, overlapped,
+             other_units, attentions, codes_and_writes, fields, edges, no_read_bit, room, wanted, unnamed_of_commands):
     part()
 
 STDIN, STDOUT = b"".join(records), "".join(text + "\n" for text in lines).encode()

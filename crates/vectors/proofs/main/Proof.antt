@@ -6,10 +6,10 @@ use Rattle.vectors.proofs.main.Statement.{statement}
 use Rattle.vectors.proofs.main.Tie as tie
 
 abbrev Inv-loop : tie.InvT-loop
-Inv-loop p₀ number₀ p number = Unit {0}
+Inv-loop d₀ number₀ d number = Unit {0}
 
 abbrev μ-loop : tie.MeasureT-loop
-μ-loop p₀ number₀ p number = 18446744073709551615 - number
+μ-loop d₀ number₀ d number = 18446744073709551615 - number
 
 pub main-spec : {M : Type 1} → statement M
 main-spec =

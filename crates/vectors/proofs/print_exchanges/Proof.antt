@@ -5,10 +5,10 @@ use Rattle.vectors.proofs.print_exchanges.Statement.{statement}
 use Rattle.vectors.proofs.print_exchanges.Tie as tie
 
 abbrev Inv-loop : tie.InvT-loop
-Inv-loop l j₀ j = Unit {0}
+Inv-loop l full j₀ j = Unit {0}
 
 abbrev μ-loop : tie.MeasureT-loop
-μ-loop l j₀ j = 8 - j
+μ-loop l full j₀ j = 8 - j
 
 pub print-exchanges-spec : {M : Type 1} → statement M
 print-exchanges-spec =
