@@ -13,11 +13,7 @@ use Rattle.tables.proofs.Bools.{and-left, and-right}
 use Rattle.state.specs.declared.Exchange.{Exchange}
 use Rattle.state.specs.Changes.{advanced}
 use Rattle.state.specs.Tables.{isClosed}
-use Rattle.formed.specs.Formed.{total, framesOf, readFits, wantedFits, openable, sentFits, exchangeFine}
-
--- "A frame carries the login's W18 size, 2,048 at most, or what is left"
-abbrev pub nextBytes : ℕ → Exchange → ℕ
-nextBytes full e = min full (total e - e .sent)
+use Rattle.formed.specs.Formed.{total, nextBytes, framesOf, readFits, wantedFits, openable, sentFits, exchangeFine}
 
 -- a whole number of full frames, and then one more of n bytes
 frames-at : (q full : ℕ) → 0 < full → framesOf (q * full) full ≡ q
