@@ -1,2 +1,5 @@
 pub mod Covers
+pub mod Steps
 pub mod Ways
+pub mod Keeping
+pub mod Moving

@@ -1,10 +1,8 @@
 -- A law over plain variables for each way through a function. Assumes nothing.
 use mathlib.Core.Path.{_≡_, refl, sym, ap, _∙_}
-use mathlib.Core.Bool.{Bool, true, false, cond, not}
 use mathlib.Core.List.{List, [], _∷_, _++_, append-nil}
 use Prim.Native.Nat.{ℕ, _+_, _≤_}
 use native.Mathlib.Omega.{arith}
-use lib.Dec.{ltb}
 use lib.ListN.{length, take, drop, replicate}
 use lib.Seq.{take-all}
 use borrow.Author.Tests.{eq-eqb, le-ltb}
@@ -21,12 +19,13 @@ use Rattle.state.specs.Tables.{lookupOf}
 use Rattle.formed.specs.Formed.{fullFrame}
 use Rattle.reply.specs.Reply.{bytesOf, sentOf, writtenOf}
 use Rattle.serve.specs.declared.Given.{Given}
-use Rattle.serve.specs.declared.Given.the-variants.{Sent, NoRoom, WrongWindow}
+use Rattle.serve.specs.declared.Given.the-variants.{Sent, WrongWindow}
 use Rattle.serve.specs.declared.Next.{Next}
 use Rattle.serve.specs.declared.Step.{Step}
 use Rattle.serve.specs.declared.Step.the-variants.{Refused, Frame}
 use Rattle.serve.specs.Made.{inquiryFirst, inquiryBytes}
-use Rattle.serve.specs.Next.{placeOf, nextReply, nextExchange, sourceOf, ownOf, askedBy, openStep, stepAt, stepOf, frameBytes, portAfter, nextOf, nextBuffer}
+use Rattle.serve.specs.Next.{placeOf, nextReply, nextExchange, sourceOf, ownOf, askedBy, openStep, stepOf, frameBytes, portAfter, nextOf, nextBuffer}
+use Rattle.serve.proofs.Steps.{passed}
 
 -- the first eight bytes laid over zeros, and then the identity from byte 8 on
 pub inquiry-is : (identity b₁ b₂ : List ℕ) (kind first : ℕ) → length identity ≡ 28 → first ≡ inquiryFirst kind
@@ -51,15 +50,6 @@ pub step-open : (p : Port) (a x start len room i j : ℕ) (l : Login) (r : Step)
 unfolding stepOf
 step-open p a x start len room i j l r h o el er = rw (le-ltb room 2136 h, o) (er ∙ ap (λ m. openStep m i j start len) el)
 
--- a frame is given only where there is room for it
-room-step : (b : Bool) (s : Step) (i j k : ℕ) → cond b (Refused NoRoom) s ≡ Frame i j k → b ≡ false
-room-step true s i j k e = let z : _≡_ {A = ℕ} 0 1 = cc in absurd (omega arith)
-room-step false s i j k e = refl
-
-pub step-room : (p : Port) (a x start len room i j k : ℕ) → stepOf p a x start len room ≡ Frame i j k → ltb room 2136 ≡ false
-unfolding stepOf
-step-room p a x start len room i j k e = room-step (ltb room 2136) (stepAt (lookupOf p a x) p start len) i j k e
-
 module _ (u : Unit) (p : Port) (a x start : ℕ) (W R : List ℕ) (s : Step) (es : s ≡ stepOf p a x start (length W) (length R)) where
   pub next-refused : (g : Given) → s ≡ Refused g → (_≡_ {A = Next} record { given = g; port = p } (nextOf u p a x start W (length R))) × (R ≡ nextBuffer u p a x start W R)
   unfolding nextOf nextBuffer
@@ -73,5 +63,5 @@ module _ (u : Unit) (p : Port) (a x start : ℕ) (W R : List ℕ) (s : Step) (es
   unfolding nextOf nextBuffer frameBytes portAfter sentOf writtenOf
   next-sent i j k l m e f n R₁ q h el ee en er ef em eq =
       let t = sym es ∙ h in
-      let room = step-room p a x start (length W) (length R) i j k t in
+      let room = le-ltb (length R) 2136 (passed p a x start (length W) (length R) i j k t .roomy) in
       (rw (t, en, room, eq, em, ef, ee, el), rw (t, er, room, ee, el))

@@ -111,19 +111,25 @@ stepAt (standing.Open i j) p start len = openStep (loginAt p i) i j start len
 unfoldable pub stepOf : Port → ℕ → ℕ → ℕ → ℕ → ℕ → Step
 stepOf p a x start len room = cond (ltb room 2136) (Refused NoRoom) (stepAt (lookupOf p a x) p start len)
 
--- every byte of the next frame of the exchange e at a login whose full frames have these bytes
-unfoldable pub frameBytes : Unit → Port → ℕ → ℕ → ℕ → Exchange → ℕ → List ℕ → List ℕ
-frameBytes u p a x full e k W = bytesOf (ownOf p) (askedBy (p .address) a x) (nextReply full e) (sourceOf u e k W)
+-- the exchange at place j of the login at place i, and the bytes of a full frame to that login
+abbrev pub exchangeOf : Port → ℕ → ℕ → Exchange
+exchangeOf p i j = exchangeAt (loginAt p i) j
+
+abbrev pub fullOf : Port → ℕ → ℕ
+fullOf p i = fullFrame (loginAt p i .size)
+
+-- every byte of its next frame
+unfoldable pub frameBytes : Unit → Port → ℕ → ℕ → ℕ → ℕ → ℕ → List ℕ → List ℕ
+frameBytes u p a x i j k W = bytesOf (ownOf p) (askedBy (p .address) a x) (nextReply (fullOf p i) (exchangeOf p i j)) (sourceOf u (exchangeOf p i j) k W)
 
 -- the port after it
 unfoldable pub portAfter : Port → ℕ → ℕ → Port
-portAfter p i j = withLogin p i (withExchange (loginAt p i) j (nextExchange (fullFrame (loginAt p i .size)) (exchangeAt (loginAt p i) j)))
+portAfter p i j = withLogin p i (withExchange (loginAt p i) j (nextExchange (fullOf p i) (exchangeOf p i j)))
 
 -- a refusal leaves "the state unchanged"; otherwise the frame's "length in the answer"
 abbrev pub nextAt : Step → Unit → Port → ℕ → ℕ → List ℕ → Next
 nextAt (Refused g) u p a x W = record { given = g; port = p }
-nextAt (Frame i j k) u p a x W =
-    record { given = Sent (length (frameBytes u p a x (fullFrame (loginAt p i .size)) (exchangeAt (loginAt p i) j) k W)); port = portAfter p i j }
+nextAt (Frame i j k) u p a x W = record { given = Sent (length (frameBytes u p a x i j k W)); port = portAfter p i j }
 
 unfoldable pub nextOf : Unit → Port → ℕ → ℕ → ℕ → List ℕ → ℕ → Next
 nextOf u p a x start W room = nextAt (stepOf p a x start (length W) room) u p a x W
@@ -131,7 +137,7 @@ nextOf u p a x start W room = nextAt (stepOf p a x start (length W) room) u p a 
 -- a refusal "changes no lent byte"; otherwise "the reply stands at the front of the buffer, .. later bytes unchanged"
 abbrev pub bufferAt : Step → Unit → Port → ℕ → ℕ → List ℕ → List ℕ → List ℕ
 bufferAt (Refused g) u p a x W buffer = buffer
-bufferAt (Frame i j k) u p a x W buffer = onto (frameBytes u p a x (fullFrame (loginAt p i .size)) (exchangeAt (loginAt p i) j) k W) buffer
+bufferAt (Frame i j k) u p a x W buffer = onto (frameBytes u p a x i j k W) buffer
 
 unfoldable pub nextBuffer : Unit → Port → ℕ → ℕ → ℕ → List ℕ → List ℕ → List ℕ
 nextBuffer u p a x start W buffer = bufferAt (stepOf p a x start (length W) (length buffer)) u p a x W buffer
