@@ -19,6 +19,10 @@ use Rattle.formed.specs.Formed.{total, nextBytes, framesOf, readFits, wa
 frames-at : (q full : ℕ) → 0 < full → framesOf (q * full) full ≡ q
 frames-at q full h = digits-div q {m = full} {r = full - 1} (omega arith)
 
+-- nothing takes no frame
+pub no-frames : (full : ℕ) → 0 < full → framesOf 0 full ≡ 0
+no-frames full h = let z : 0 ≡ 0 * full = omega arith in ap (λ (s : ℕ). framesOf s full) z ∙ frames-at 0 full h
+
 one-more : (q full : ℕ) → (q + 1) * full ≡ q * full + full
 one-more q full = add-mul q 1 full ∙ rw one-mul
 

@@ -97,3 +97,10 @@ pub record WholeRead (unit : List ℕ) (full : ℕ) (e : Exchange) (pieces : Lis
   pub order : InOrder 0 0 pieces
   pub frames : length pieces ≡ framesOf (total e) full
   pub response : r ≡ Status 0x00 (residualOf (e .wanted) (e .expected))
+
+-- there are windows with which the exchange of a and x is served to its end
+pub record Comes (u : Unit) (unit : List ℕ) (a x : ℕ) (p : Port) : Type 0 where
+  pub pieces : List Piece
+  pub response : Response
+  pub after : Port
+  pub run : Run u unit a x p pieces response after
