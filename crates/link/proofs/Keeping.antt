@@ -3,13 +3,12 @@ use mathlib.Core.Path.{_≡_, refl, sym, ap, _∙_, subst}
 use mathlib.Core.Bool.{Bool, true, false, cond, not, _&&_, _||_}
 use mathlib.Core.List.{List, map}
 use Prim.Native.Nat.{ℕ, _+_}
-use native.Mathlib.Omega.{arith}
 use lib.Dec.{eqb}
 use lib.ListN.{length, getD, replicate}
 use Rattle.tables.specs.declared.Found.{Found}
 use Rattle.tables.specs.declared.Found.the-variants.{At, Nothing}
 use Rattle.tables.specs.Lists.{all, first, onFound}
-use Rattle.tables.proofs.Bools.{and-left, and-right, and-both}
+use Rattle.tables.proofs.Bools.{and-right, and-both}
 use Rattle.tables.proofs.Keeping.{all-always, all-map}
 use Rattle.wire.specs.Bytes.{num, part}
 use Rattle.frame.specs.declared.Header.{Header}

@@ -1,20 +1,19 @@
 -- Numbers of document 01 that next frames meet, computed. Assumes nothing.
 use Prim.Native.Nat.{ℕ, _*_}
 use mathlib.Core.Path.{_≡_, refl}
-use mathlib.Core.Bool.{false}
 use mathlib.Core.List.{List, [], _∷_}
-use lib.ListN.{replicate, take, drop, length}
+use lib.ListN.{replicate, take}
 use Rattle.wire.specs.Bytes.{onto}
 use Rattle.frame.specs.Head.{headerBytes}
 use Rattle.state.specs.declared.Exchange.{Exchange}
 use Rattle.state.specs.declared.Port.{Port}
-use Rattle.state.specs.Changes.{emptyExchange, emptyLogin, hasAddress, loginAt, exchangeAt, withLogin, withExchange}
+use Rattle.state.specs.Changes.{emptyExchange, emptyLogin, hasAddress, loginAt, exchangeAt}
 use Rattle.state.specs.Tables.{hasId, findLogin, findExchange, lookupOf}
 use Rattle.formed.proofs.Clauses.{unitOf, portOf, words, name, login, reading}
 use Rattle.reply.specs.Reply.{answerHead, dataHead, filled, bytesOf}
 use Rattle.serve.specs.declared.Given.{Given}
 use Rattle.serve.specs.declared.Given.the-variants.{Sent, WrongWindow}
-use Rattle.serve.specs.Next.{hasMore, readsMore, fitsAt, coverOf, placeOf, frameOf, nextReply, nextExchange, sourceOf, ownOf, askedBy, openStep, stepOf, frameBytes, portAfter, nextOf, nextBuffer}
+use Rattle.serve.specs.Next.{hasMore, readsMore, coverOf, placeOf, frameOf, nextReply, sourceOf, ownOf, askedBy, openStep, stepOf, frameBytes, nextOf, nextBuffer}
 
 -- a port of address EFh whose one login, of address 01h and this size, has this exchange alone
 abbrev pub with : (size : ℕ) → Exchange → Port

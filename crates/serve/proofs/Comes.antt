@@ -1,11 +1,11 @@
 -- Every open exchange of a proven login is served to its end, with windows that there are. Assumes nothing.
-use mathlib.Core.Path.{_≡_, refl, sym, ap, _∙_}
-use mathlib.Core.Bool.{Bool, true, false, cond, _&&_, and-false}
-use mathlib.Core.List.{List, [], _∷_}
+use mathlib.Core.Path.{_≡_, refl, ap, _∙_}
+use mathlib.Core.Bool.{Bool, true, false, and-false}
+use mathlib.Core.List.{List, []}
 use Prim.Native.Nat.{ℕ, zero, suc, _+_, _-_, _*_, _/_, _%_, _≤_, _<_, min}
 use native.Mathlib.Nat.{le-refl}
 use native.Mathlib.Omega.{arith}
-use lib.Dec.{eqb, leb}
+use lib.Dec.{eqb}
 use lib.ListN.{length, take, drop, length-take, length-drop}
 use borrow.Author.Tests.{le-leb, eqb-true}
 use Rattle.tables.specs.declared.Found.the-variants.{At}
@@ -13,17 +13,16 @@ use Rattle.state.specs.declared.Exchange.{Exchange}
 use Rattle.state.specs.declared.Port.{Port}
 use Rattle.state.specs.declared.Unit.{Unit}
 use Rattle.state.specs.declared.Standing.the-variants.{Open}
-use Rattle.state.specs.Changes.{loginAt, exchangeAt, advanced}
+use Rattle.state.specs.Changes.{loginAt, advanced}
 use Rattle.state.specs.Tables.{lookupOf}
-use Rattle.formed.specs.Formed.{fullFrame, total, nextBytes, wellFormed}
+use Rattle.formed.specs.Formed.{total, nextBytes, wellFormed}
 use Rattle.formed.proofs.Advance.{Reads, is-read, then-sent}
 use Rattle.residual.specs.Residual.{residualOf}
-use Rattle.reply.specs.declared.Response.{Response}
 use Rattle.reply.specs.declared.Response.the-variants.{Status}
 use Rattle.reply.specs.declared.Reply.the-variants.{Respond, Data}
 use Rattle.serve.specs.declared.Step.the-variants.{Frame}
 use Rattle.serve.specs.Next.{hasMore, readsMore, position, coverOf, placeOf, frameOf, nextReply, exchangeOf, fullOf, stepOf, nextOf}
-use Rattle.serve.specs.Whole.{cut, Piece, Run, piece, ends, Comes}
+use Rattle.serve.specs.Whole.{cut, piece, ends, Comes}
 use Rattle.serve.proofs.Steps.{Passed, given}
 use Rattle.serve.proofs.Keeping.{next-kept}
 use Rattle.serve.proofs.Frames.{runs, full-pos, total-small, more-left, port-is}

@@ -4,36 +4,32 @@ use mathlib.Core.Bool.{Bool, true, false, cond, _&&_}
 use mathlib.Core.List.{List, [], _∷_}
 use Prim.Native.Nat.{ℕ, zero, suc, _+_, _-_, _*_, _%_, _≤_, _<_, min}
 use native.Mathlib.Omega.{arith}
-use lib.Dec.{eqb, leb, ltb}
+use lib.Dec.{eqb, leb}
 use lib.ListN.{length, take, drop, length-take}
-use lib.Seq.{take-take, take-nil, drop-nil, drop-drop}
-use borrow.Author.Tests.{ltb-true, ltb-false, leb-true, eq-eqb}
-use Rattle.tables.specs.declared.Found.{Found}
+use lib.Seq.{take-take, drop-drop}
+use borrow.Author.Tests.{ltb-true, ltb-false, leb-true}
 use Rattle.tables.specs.declared.Found.the-variants.{At, Nothing}
 use Rattle.tables.proofs.Keeping.{all-at}
 use Rattle.state.specs.declared.Exchange.{Exchange}
-use Rattle.state.specs.declared.Login.{Login}
 use Rattle.state.specs.declared.Port.{Port}
 use Rattle.state.specs.declared.Unit.{Unit}
 use Rattle.state.specs.declared.Standing.the-variants.{Open}
-use Rattle.state.specs.Changes.{emptyExchange, emptyLogin, loginAt, exchangeAt, withLogin, withExchange, endedAt, advanced}
-use Rattle.state.specs.Tables.{hasId, lookupOf}
-use Rattle.state.proofs.Places.{open-used, open-open, open-has, login-inside, exchange-inside, exchange-stored, login-stored, lookup-same, login-twice, exchange-twice}
-use Rattle.formed.specs.Formed.{fullFrame, total, nextBytes, framesOf, exchangeFine, loginFine, wellFormed}
+use Rattle.state.specs.Changes.{emptyExchange, emptyLogin, loginAt, exchangeAt}
+use Rattle.state.specs.Tables.{lookupOf}
+use Rattle.state.proofs.Places.{open-used, open-open, login-inside, exchange-inside}
+use Rattle.formed.specs.Formed.{total, nextBytes, framesOf, exchangeFine, loginFine, wellFormed}
 use Rattle.formed.proofs.Parts.{Used, fine-used, formed-parts}
 use Rattle.formed.proofs.Advance.{Running, running, wanted-small, sent-counted}
 use Rattle.residual.specs.Residual.{residualOf}
 use Rattle.reply.specs.declared.DataFrame.{DataFrame}
 use Rattle.reply.specs.declared.Response.{Response}
 use Rattle.reply.specs.declared.Response.the-variants.{Status}
-use Rattle.reply.specs.declared.Reply.{Reply}
 use Rattle.reply.specs.declared.Reply.the-variants.{Respond, Data}
 use Rattle.reply.specs.Payload.{payloadOf}
 use Rattle.serve.specs.declared.Step.the-variants.{Frame}
 use Rattle.serve.specs.Made.{madeBytes}
-use Rattle.serve.specs.Next.{hasMore, readsMore, position, coverOf, placeOf, frameOf, nextReply, nextExchange, sourceOf, ownOf, askedBy, exchangeOf, fullOf, stepOf, portAfter, nextAt, nextOf}
+use Rattle.serve.specs.Next.{hasMore, readsMore, position, coverOf, placeOf, frameOf, nextReply, sourceOf, ownOf, askedBy, exchangeOf, fullOf, stepOf, portAfter, nextAt, nextOf}
 use Rattle.serve.specs.Whole.{cut, dataOf, payloadAt}
-use Rattle.serve.proofs.Steps.{Passed, passed}
 use Rattle.serve.proofs.Keeping.{full-some}
 
 -- what a well-formed port asks of an open exchange and its login

@@ -1,18 +1,16 @@
 -- No next frame makes a state ill formed. Assumes nothing.
-use mathlib.Core.Path.{_≡_, refl, sym, ap, _∙_}
+use mathlib.Core.Path.{_≡_, refl}
 use mathlib.Core.Bool.{Bool, true, false, cond}
 use mathlib.Core.List.{List}
 use Prim.Native.Nat.{ℕ, _<_}
 use native.Mathlib.Omega.{arith}
-use lib.Dec.{ltb}
 use lib.ListN.{length}
 use borrow.Author.Tests.{ltb-true}
-use Rattle.state.specs.declared.Exchange.{Exchange}
 use Rattle.state.specs.declared.Login.{Login}
 use Rattle.state.specs.declared.Port.{Port}
 use Rattle.state.specs.declared.Unit.{Unit}
 use Rattle.state.specs.declared.Standing.the-variants.{Open}
-use Rattle.state.specs.Changes.{emptyExchange, isUsed, loginAt, exchangeAt, withLogin, withExchange, advanced}
+use Rattle.state.specs.Changes.{emptyExchange, loginAt, exchangeAt, withExchange, advanced}
 use Rattle.state.specs.Tables.{isClosed, lookupOf}
 use Rattle.state.proofs.Places.{open-used, open-open}
 use Rattle.formed.specs.Formed.{fullFrame, total, nextBytes, wellFormed}

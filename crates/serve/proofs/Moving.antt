@@ -19,7 +19,6 @@ use Rattle.state.specs.declared.Standing.the-variants as standing
 use Rattle.state.specs.Changes.{loginAt, exchangeAt, withLogin, withPlaces, withExchange}
 use Rattle.state.specs.Tables.{lookupOf}
 use Rattle.state.proofs.Places.{exchange-stored, login-stored, login-other, exchange-other}
-use Rattle.serve.specs.declared.Given.{Given}
 use Rattle.serve.specs.declared.Given.the-variants.{WrongWindow}
 use Rattle.serve.specs.declared.Step.{Step}
 use Rattle.serve.specs.declared.Step.the-variants.{Refused, Frame}

@@ -1,5 +1,5 @@
 -- What a frame that is given tells of the call: no refusal held. And a refusal is no frame. Assumes nothing.
-use mathlib.Core.Path.{_≡_, refl, sym, ap, _∙_}
+use mathlib.Core.Path.{_≡_, refl, ap}
 use mathlib.Core.Bool.{Bool, true, false, cond, not}
 use Prim.Native.Nat.{ℕ, _≤_}
 use native.Mathlib.Omega.{arith}
@@ -11,11 +11,10 @@ use Rattle.tables.specs.Lists.{onFound}
 use Rattle.state.specs.declared.Port.{Port}
 use Rattle.state.specs.declared.Standing.{Standing}
 use Rattle.state.specs.declared.Standing.the-variants as standing
-use Rattle.state.specs.Changes.{loginAt, exchangeAt}
+use Rattle.state.specs.Changes.{loginAt}
 use Rattle.state.specs.Tables.{lookupOf}
-use Rattle.formed.specs.Formed.{fullFrame}
 use Rattle.serve.specs.declared.Given.{Given}
-use Rattle.serve.specs.declared.Given.the-variants.{Sent, NoRoom, NoExchange, Unproven, WrongWindow}
+use Rattle.serve.specs.declared.Given.the-variants.{NoRoom, NoExchange, Unproven, WrongWindow}
 use Rattle.serve.specs.declared.Step.{Step}
 use Rattle.serve.specs.declared.Step.the-variants.{Refused, Frame}
 use Rattle.serve.specs.Next.{placeOf, exchangeOf, fullOf, openStep, stepAt, stepOf}

@@ -1,9 +1,9 @@
 -- A law over plain variables for each way through a function. Assumes nothing.
-use mathlib.Core.Path.{_≡_, refl, sym, ap, _∙_}
-use mathlib.Core.List.{List, [], _∷_, _++_, append-nil}
-use Prim.Native.Nat.{ℕ, _+_, _≤_}
+use mathlib.Core.Path.{_≡_, sym, ap, _∙_}
+use mathlib.Core.List.{List, [], _∷_, append-nil}
+use Prim.Native.Nat.{ℕ, _≤_}
 use native.Mathlib.Omega.{arith}
-use lib.ListN.{length, take, drop, replicate}
+use lib.ListN.{length, replicate}
 use lib.Seq.{take-all}
 use borrow.Author.Tests.{eq-eqb, le-ltb}
 use Rattle.tables.specs.declared.Found.{Found}
@@ -17,7 +17,7 @@ use Rattle.state.specs.declared.Standing.the-variants.{Open}
 use Rattle.state.specs.Changes.{loginAt, exchangeAt, withLogin, withExchange}
 use Rattle.state.specs.Tables.{lookupOf}
 use Rattle.formed.specs.Formed.{fullFrame}
-use Rattle.reply.specs.Reply.{bytesOf, sentOf, writtenOf}
+use Rattle.reply.specs.Reply.{sentOf, writtenOf}
 use Rattle.serve.specs.declared.Given.{Given}
 use Rattle.serve.specs.declared.Given.the-variants.{Sent, WrongWindow}
 use Rattle.serve.specs.declared.Next.{Next}

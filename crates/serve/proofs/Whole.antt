@@ -1,33 +1,35 @@
 -- All the frames of an exchange one after the other: the very bytes, each once and in order, and then the response. Assumes nothing.
 use mathlib.Core.Path.{_≡_, refl, sym, ap, _∙_, subst}
-use mathlib.Core.Bool.{Bool, true, false, cond}
+use mathlib.Core.Bool.{Bool, true, false, cond, _&&_}
 use mathlib.Core.List.{List, [], _∷_, _++_}
-use Prim.Native.Nat.{ℕ, suc, _+_, _-_, _*_, _%_, _≤_, _<_, min}
+use Prim.Native.Nat.{ℕ, suc, _+_, _-_, _*_, _%_, _≤_, _<_}
 use native.Mathlib.Nat.{zero-add}
 use native.Mathlib.Omega.{arith}
-use lib.Dec.{eqb}
+use lib.Dec.{eqb, leb}
 use lib.ListN.{length, take, drop, length-take, length-drop}
 use lib.Seq.{take-add, drop-drop}
-use borrow.Author.Tests.{eq-eqb}
+use borrow.Author.Tests.{leb-true, eqb-true, eq-eqb, ne-eqb}
+use Rattle.tables.proofs.Bools.{and-right}
 use Rattle.state.specs.declared.Exchange.{Exchange}
-use Rattle.state.specs.declared.Login.{Login}
 use Rattle.state.specs.declared.Port.{Port}
 use Rattle.state.specs.declared.Unit.{Unit}
 use Rattle.state.specs.declared.Standing.the-variants.{Open}
-use Rattle.state.specs.Changes.{emptyExchange, loginAt, exchangeAt, withLogin, withExchange, endedAt, advanced}
-use Rattle.state.specs.Tables.{isClosed, hasId, lookupOf}
+use Rattle.state.specs.Changes.{emptyExchange, loginAt, withLogin, withExchange, endedAt, advanced}
+use Rattle.state.specs.Tables.{hasId, lookupOf}
 use Rattle.state.proofs.Places.{open-has, exchange-stored, login-stored, lookup-same, login-twice, exchange-twice}
-use Rattle.formed.specs.Formed.{fullFrame, total, nextBytes, framesOf, wellFormed}
+use Rattle.formed.specs.Formed.{fullFrame, total, nextBytes, framesOf, wantedFits, wellFormed}
 use Rattle.formed.proofs.Advance.{Reads, is-read, sent-within, no-frames, frames-then, then-sent}
 use Rattle.residual.specs.Residual.{residualOf}
 use Rattle.reply.specs.declared.DataFrame.{DataFrame}
 use Rattle.reply.specs.declared.Response.{Response}
 use Rattle.reply.specs.declared.Response.the-variants.{Status}
 use Rattle.reply.specs.declared.Reply.the-variants.{Respond, Data}
+use Rattle.reply.specs.Payload.{senseBytes}
 use Rattle.serve.specs.declared.Step.the-variants.{Frame}
+use Rattle.serve.specs.Made.{inquiryBytes, capacityBytes, senseOf, madeBytes}
 use Rattle.serve.specs.Next.{hasMore, frameOf, nextReply, nextExchange, exchangeOf, fullOf, stepOf, portAfter, nextOf}
-use Rattle.serve.specs.Whole.{cut, Piece, payloadAt, Run, piece, ends, joined, InOrder, none, one, dataOf, Served, WholeRead}
-use Rattle.serve.proofs.Steps.{Passed, passed}
+use Rattle.serve.specs.Whole.{cut, Piece, payloadAt, Run, piece, ends, joined, InOrder, none, one, dataOf, Served, AllFrames}
+use Rattle.serve.proofs.Steps.{passed}
 use Rattle.serve.proofs.Keeping.{next-kept}
 use Rattle.serve.proofs.Frames.{runs, full-pos, total-small, is-data, is-response, more-left, none-left, next-counted, source-is, payload-is, port-is}
 
@@ -155,31 +157,60 @@ module _ (u : Unit) (unit : List ℕ) (a x i j : ℕ) where
         more .1 ∙ next-ended u p a x i j o p₁ (t .0) is,
       )
 
--- all data of a READ are on the unit
-read-enough : (u : Unit) (unit : List ℕ) (e : Exchange) → length unit ≡ 512 * u .capacity → e .kind ≡ 1 → Reads (u .capacity) e → total e ≤ length (dataOf u unit e)
-read-enough u unit e long kind reads =
-    let d = length-drop (512 * e .start) unit in
-    let w = reads .wanted in
-    let n = reads .inside in
-    rw (eq-eqb (e .kind) 1 kind) (omega arith)
-
--- a READ of which nothing was sent yet, whatever windows of the unit are lent: its frames are the bytes of its blocks, to its total, each once and in order; then comes its response, and its place is free
-pub whole-read : (u : Unit) (unit : List ℕ) (p q : Port) (a x i j : ℕ) (pieces : List Piece) (r : Response) → wellFormed u p ≡ true → length unit ≡ 512 * u .capacity
-    → lookupOf p a x ≡ Open i j → exchangeOf p i j .kind ≡ 1 → exchangeOf p i j .sent ≡ 0 → Run u unit a x p pieces r q
-    → (WholeRead unit (fullOf p i) (exchangeOf p i j) pieces r) × (q ≡ withLogin p i (endedAt (loginAt p i) j))
-whole-read u unit p q a x i j pieces r w long o kind zero run =
+-- from nothing sent on
+all-frames : (u : Unit) (unit : List ℕ) (p q : Port) (a x i j : ℕ) (pieces : List Piece) (r : Response) (from : List ℕ) → wellFormed u p ≡ true → lookupOf p a x ≡ Open i j
+    → dataOf u unit (exchangeOf p i j) ≡ from → total (exchangeOf p i j) ≤ length from → exchangeOf p i j .sent ≡ 0 → Run u unit a x p pieces r q
+    → (AllFrames from (fullOf p i) (exchangeOf p i j) pieces r) × (q ≡ withLogin p i (endedAt (loginAt p i) j))
+all-frames u unit p q a x i j pieces r from w o is enough fresh run =
     let e = exchangeOf p i j in
-    let full = fullOf p i in
-    let t = run-serves u unit a x i j w o (read-enough u unit e long kind (is-read (u .capacity) e kind (runs u p a x i j w o .wanted))) run in
+    let t = run-serves u unit a x i j w o (subst (λ (b : List ℕ). total e ≤ length b) (sym is) enough) run in
     let s = t .0 in
-    let pos = full-pos u p a x i j w o in
-    let first = no-frames full pos in
+    let first = no-frames (fullOf p i) (full-pos u p a x i j w o) in
     let all : total e - 0 ≡ total e = omega arith in (
       record {
-        bytes = rw (zero, all, eq-eqb (e .kind) 1 kind) at (s .bytes);
-        order = rw (zero, first) at (s .order);
-        frames = rw (zero, first, zero-add) at (s .frames);
+        bytes = rw (fresh, all) at (s .bytes) ∙ ap (take (total e)) is;
+        order = rw (fresh, first) at (s .order);
+        frames = rw (fresh, first, zero-add) at (s .frames);
         response = s .response;
       },
       t .1,
     )
+
+-- all data of a READ are on the unit
+read-enough : (capacity : ℕ) (unit : List ℕ) (e : Exchange) → length unit ≡ 512 * capacity → Reads capacity e → total e ≤ length (drop (512 * e .start) unit)
+read-enough capacity unit e long reads =
+    let d = length-drop (512 * e .start) unit in
+    let w = reads .wanted in
+    let n = reads .inside in
+    omega arith
+
+-- a READ of which nothing was sent yet, whatever windows of the unit are lent: its frames are the bytes of its blocks, to its total, each once and in order; then comes its response, and its place is free
+pub whole-read : (u : Unit) (unit : List ℕ) (p q : Port) (a x i j : ℕ) (pieces : List Piece) (r : Response) → wellFormed u p ≡ true → length unit ≡ 512 * u .capacity
+    → lookupOf p a x ≡ Open i j → exchangeOf p i j .kind ≡ 1 → exchangeOf p i j .sent ≡ 0 → Run u unit a x p pieces r q
+    → (AllFrames (drop (512 * exchangeOf p i j .start) unit) (fullOf p i) (exchangeOf p i j) pieces r) × (q ≡ withLogin p i (endedAt (loginAt p i) j))
+whole-read u unit p q a x i j pieces r w long o kind fresh run =
+    let e = exchangeOf p i j in
+    all-frames u unit p q a x i j pieces r (drop (512 * e .start) unit) w o (rw (eq-eqb (e .kind) 1 kind))
+    (read-enough (u .capacity) unit e long (is-read (u .capacity) e kind (runs u p a x i j w o .wanted))) fresh run
+
+-- made data are as many as any command wants of them
+made-case : (b c : Bool) (kind n : ℕ) (x y z : List ℕ) → length x ≡ 36 → length y ≡ 8 → length z ≡ 18
+    → cond b (leb 1 n && leb n 36) (cond c (eqb n 8) (leb kind 8 && leb 1 n && leb n 18)) ≡ true → n ≤ length (cond b x (cond c y z))
+made-case true c kind n x y z lx ly lz h = let m : n ≤ 36 = leb-true n 36 (and-right (leb 1 n) (leb n 36) h) in omega arith
+made-case false true kind n x y z lx ly lz h = let m : n ≡ 8 = eqb-true n 8 h in omega arith
+made-case false false kind n x y z lx ly lz h = let m : n ≤ 18 = leb-true n 18 (and-right (leb kind 8 && leb 1 n) (leb n 18) h) in omega arith
+
+made-enough : (u : Unit) (e : Exchange) → length (u .identity) ≡ 28 → eqb (e .kind) 1 ≡ false → wantedFits (u .capacity) e ≡ true → total e ≤ length (madeBytes u (e .kind))
+unfolding wantedFits madeBytes inquiryBytes capacityBytes senseBytes
+made-enough u e long other h =
+    let m = made-case (leb (e .kind) 3) (eqb (e .kind) 4) (e .kind) (e .wanted) (inquiryBytes (u .identity) (e .kind)) (capacityBytes (u .capacity)) (senseBytes (senseOf (e .kind))) (rw long) refl refl (rw other at h) in
+    omega arith
+
+-- the same of made data: all frames of an INQUIRY, a READ CAPACITY or a REQUEST SENSE
+pub whole-made : (u : Unit) (unit : List ℕ) (p q : Port) (a x i j : ℕ) (pieces : List Piece) (r : Response) → wellFormed u p ≡ true → length (u .identity) ≡ 28
+    → lookupOf p a x ≡ Open i j → (exchangeOf p i j .kind ≡ 1 → ⊥) → exchangeOf p i j .sent ≡ 0 → Run u unit a x p pieces r q
+    → (AllFrames (madeBytes u (exchangeOf p i j .kind)) (fullOf p i) (exchangeOf p i j) pieces r) × (q ≡ withLogin p i (endedAt (loginAt p i) j))
+whole-made u unit p q a x i j pieces r w long o kind fresh run =
+    let e = exchangeOf p i j in
+    let other = ne-eqb (e .kind) 1 kind in
+    all-frames u unit p q a x i j pieces r (madeBytes u (e .kind)) w o (rw other) (made-enough u e long other (runs u p a x i j w o .wanted)) fresh run

@@ -25,7 +25,6 @@ use Rattle.reply.specs.declared.Response.the-variants.{Status}
 use Rattle.reply.specs.declared.Reply.{Reply}
 use Rattle.reply.specs.declared.Reply.the-variants.{Respond, Data}
 use Rattle.reply.specs.Reply.{bytesOf}
-use Rattle.serve.specs.declared.Given.{Given}
 use Rattle.serve.specs.declared.Given.the-variants.{Sent, NoRoom, NoExchange, Unproven, WrongWindow}
 use Rattle.serve.specs.declared.Next.{Next}
 use Rattle.serve.specs.declared.Step.{Step}
@@ -44,7 +43,7 @@ readsMore e = eqb (e .kind) 1 && hasMore e
 abbrev pub position : Exchange → ℕ
 position e = 512 * e .start + e .sent
 
--- place k, if the n bytes from it on stand among len
+-- place k, if the n bytes from it on are among len
 unfoldable pub fitsAt : ℕ → ℕ → ℕ → Found
 fitsAt k n len = cond (leb (k + n) len) (At k) Nothing
 
@@ -107,7 +106,7 @@ stepAt standing.NoLogin p start len = Refused NoExchange
 stepAt (standing.NoExchange i) p start len = Refused NoExchange
 stepAt (standing.Open i j) p start len = openStep (loginAt p i) i j start len
 
--- "Next frame out: 1, 2, 9, 7, 10": "1 reply buffer under 2,136 bytes" first; 2, of the state, is told before
+-- "Next frame out: 1, 2, 9, 7, 10": "1 reply buffer under 2,136 bytes" first; 2, a state that is not well formed, is the caller's to tell
 unfoldable pub stepOf : Port → ℕ → ℕ → ℕ → ℕ → ℕ → Step
 stepOf p a x start len room = cond (ltb room 2136) (Refused NoRoom) (stepAt (lookupOf p a x) p start len)
 

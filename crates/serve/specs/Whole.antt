@@ -6,11 +6,10 @@ use mathlib.Core.List.{List, [], _∷_, _++_}
 use lib.Dec.{eqb}
 use lib.ListN.{length, take, drop}
 use Rattle.state.specs.declared.Exchange.{Exchange}
-use Rattle.state.specs.declared.Login.{Login}
 use Rattle.state.specs.declared.Port.{Port}
 use Rattle.state.specs.declared.Unit.{Unit}
 use Rattle.state.specs.declared.Standing.the-variants.{Open}
-use Rattle.state.specs.Changes.{loginAt, exchangeAt, withPlaces}
+use Rattle.state.specs.Changes.{loginAt, withPlaces}
 use Rattle.state.specs.Tables.{lookupOf}
 use Rattle.formed.specs.Formed.{total, framesOf}
 use Rattle.residual.specs.Residual.{residualOf}
@@ -91,9 +90,9 @@ pub record Served (u : Unit) (unit : List ℕ) (full : ℕ) (e : Exchange) (piec
   pub frames : framesOf (e .sent) full + length pieces ≡ framesOf (total e) full
   pub response : r ≡ Status 0x00 (residualOf (e .wanted) (e .expected))
 
--- these are all frames of a READ: the bytes of its blocks, to its total
-pub record WholeRead (unit : List ℕ) (full : ℕ) (e : Exchange) (pieces : List Piece) (r : Response) : Type 0 where
-  pub bytes : joined pieces ≡ take (total e) (drop (512 * e .start) unit)
+-- these are all frames of an exchange whose data are these: the first of them, to its total
+pub record AllFrames (from : List ℕ) (full : ℕ) (e : Exchange) (pieces : List Piece) (r : Response) : Type 0 where
+  pub bytes : joined pieces ≡ take (total e) from
   pub order : InOrder 0 0 pieces
   pub frames : length pieces ≡ framesOf (total e) full
   pub response : r ≡ Status 0x00 (residualOf (e .wanted) (e .expected))

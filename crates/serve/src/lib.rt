@@ -96,7 +96,7 @@ pub fn next_frame(
     }
 }
 
-// The refusals in their order: the room, the exchange, its login, the window.
+// What a call comes to, by the refusals in their order: the room, the exchange, its login, the window.
 fn step_of(p: Port, address: u32, ox_id: u16, start: u64, len: usize, room: usize) -> Step
     ensures { λ r. ⌜ r ≡ stepOf p address «ox_id» start len room ⌝ }
 {
@@ -111,6 +111,7 @@ fn step_of(p: Port, address: u32, ox_id: u16, start: u64, len: usize, room: usiz
     }
 }
 
+// The same of the exchange at place j of a login, which stands at place i: its login, and then the window.
 fn open_step(l: Login, i: usize, j: usize, start: u64, len: usize) -> Step
     ensures { λ r. ⌜ r ≡ openStep l i j start len ⌝ }
 {
@@ -305,6 +306,7 @@ fn next_reply(size: u16, e: Exchange) -> Reply
     Reply::Respond(x)
 }
 
+// The next data frame: where its bytes stand among those of the exchange, its number, how many they are, and whether they are the last.
 fn frame_of(size: u16, e: Exchange) -> DataFrame
     ensures { λ r. ⌜ r ≡ frameOf (fullFrame size) e ⌝ }
 {
@@ -367,6 +369,7 @@ fn capacity_bytes(capacity: u64) -> [u8; 8]
     ]
 }
 
+// The address of the last block.
 fn last_block(capacity: u64) -> u64
     ensures { λ r. ⌜ r ≡ capacity - 1 ⌝ }
 {
@@ -389,6 +392,7 @@ fn sense_of(kind: u8) -> Sense
     sense_with(0x00, 0x00)
 }
 
+// Sense of this key and code.
 fn sense_with(key: u8, code: u8) -> Sense
     ensures { λ r. ⌜ r ≡ senseWith key code ⌝ }
 {
@@ -401,6 +405,7 @@ fn sense_with(key: u8, code: u8) -> Sense
     }
 }
 
+// The 18 bytes of a sense.
 fn sense_bytes(s: Sense) -> [u8; 18]
     ensures { λ r. ⌜ r ≡ senseBytes s ⌝ }
 {

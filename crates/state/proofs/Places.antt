@@ -1,21 +1,20 @@
 -- What the places of an open exchange tell of the tables, and what a change at these places leaves. Assumes nothing.
 use Prim.Native.Nat.{ℕ, _<_}
 use mathlib.Core.Path.{_≡_, refl, sym, ap, _∙_}
-use mathlib.Core.Bool.{Bool, true, false, not, _&&_}
+use mathlib.Core.Bool.{true, false, not}
 use native.Mathlib.Omega.{arith}
 use lib.Dec.{eqb}
-use lib.ListN.{length, getD, set}
+use lib.ListN.{length, getD}
 use lib.Seq.{getD-set-same, getD-set-other, set-set}
-use borrow.Author.Tests.{eqb-true, not-true}
+use borrow.Author.Tests.{not-true}
 use Rattle.tables.specs.declared.Found.{Found}
 use Rattle.tables.specs.declared.Found.the-variants.{At, Nothing}
 use Rattle.tables.specs.Lists.{onFound}
-use Rattle.tables.proofs.Bools.{and-left, and-right}
+use Rattle.tables.proofs.Bools.{and-left}
 use Rattle.tables.proofs.Searches.{found-below, found-passes, same-found}
 use Rattle.state.specs.declared.Exchange.{Exchange}
 use Rattle.state.specs.declared.Login.{Login}
 use Rattle.state.specs.declared.Port.{Port}
-use Rattle.state.specs.declared.Standing.{Standing}
 use Rattle.state.specs.declared.Standing.the-variants.{Open, NoExchange, NoLogin}
 use Rattle.state.specs.Changes.{emptyExchange, emptyLogin, isUsed, hasAddress, loginAt, exchangeAt, withLogin, withExchange}
 use Rattle.state.specs.Tables.{isClosed, hasId, findLogin, findExchange, lookupOf}

@@ -1,6 +1,5 @@
 -- `serve::open_step` meets its contract. Assumes nothing.
-use mathlib.Core.Path.{sym, _∙_}
-use borrow.Author.Tests.{eq-eqb, ne-eqb, lt-ltb, le-ltb}
+use borrow.Author.Tests.{eq-eqb, ne-eqb, lt-ltb}
 use Rattle.serve.specs.Next.{openStep}
 use Rattle.serve.proofs.Ways.{open-placed, open-uncovered}
 use borrow.Author.Needs.{needs}
