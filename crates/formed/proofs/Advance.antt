@@ -23,18 +23,6 @@ frames-at q full h = digits-div q {m = full} {r = full - 1} (omega arith)
 pub no-frames : (full : ℕ) → 0 < full → framesOf 0 full ≡ 0
 no-frames full h = let z : 0 ≡ 0 * full = omega arith in ap (λ (s : ℕ). framesOf s full) z ∙ frames-at 0 full h
 
-one-more : (q full : ℕ) → (q + 1) * full ≡ q * full + full
-one-more q full = add-mul q 1 full ∙ rw one-mul
-
-frames-more : (q full n : ℕ) → 0 < n → n ≤ full → framesOf (q * full + n) full ≡ q + 1
-frames-more q full n h l =
-    let e : q * full + n + (full - 1) ≡ (q + 1) * full + (n - 1) = let d = one-more q full in omega arith in
-    ap (λ (m : ℕ). m / full) e ∙ digits-div (q + 1) {m = full} {r = n - 1} (omega arith)
-
-or-short : (a b : Bool) → (a || b) ≡ true → a ≡ false → b ≡ true
-or-short true b e f = let h : true ≡ false = f in cc
-or-short false b e f = e
-
 module _ (full : ℕ) (e : Exchange) (fits : sentFits full e ≡ true) where
   -- the count is the number of the data frames sent, modulo 65,536
   pub sent-counted : e .count ≡ framesOf (e .sent) full % 65536
@@ -50,6 +38,18 @@ module _ (full : ℕ) (e : Exchange) (fits : sentFits full e ≡ true) where
       leb-true (e .sent) (total e)
       (and-left (leb (e .sent) (total e)) (leb (total e) (e .sent) || eqb (e .sent % full) 0)
       (and-left (leb (e .sent) (total e) && (leb (total e) (e .sent) || eqb (e .sent % full) 0)) (eqb (e .count) (framesOf (e .sent) full % 65536)) fits))
+
+one-more : (q full : ℕ) → (q + 1) * full ≡ q * full + full
+one-more q full = add-mul q 1 full ∙ rw one-mul
+
+frames-more : (q full n : ℕ) → 0 < n → n ≤ full → framesOf (q * full + n) full ≡ q + 1
+frames-more q full n h l =
+    let e : q * full + n + (full - 1) ≡ (q + 1) * full + (n - 1) = let d = one-more q full in omega arith in
+    ap (λ (m : ℕ). m / full) e ∙ digits-div (q + 1) {m = full} {r = n - 1} (omega arith)
+
+or-short : (a b : Bool) → (a || b) ≡ true → a ≡ false → b ≡ true
+or-short true b e f = let h : true ≡ false = f in cc
+or-short false b e f = e
 
 module _ (full : ℕ) (e : Exchange) (pos : 0 < full) (fits : sentFits full e ≡ true) (short : e .sent < total e) (small : total e < 4294967296) where
   -- what was sent is a whole number of full frames
