@@ -25,7 +25,7 @@ use Rattle.link.specs.declared.Decided.{Decided}
 use Rattle.link.specs.declared.Served.{Served}
 use Rattle.link.specs.Link.{servedAt}
 use Rattle.link.specs.Record.{Record, out, held, recordAt, recordOf}
-use Rattle.link.proofs.Keeping.{found-has}
+use Rattle.state.proofs.Places.{found-has}
 use Rattle.link.proofs.Records.{found-record, missing-out, end-record, end-others, abort-record, target-record, clear-record}
 use Rattle.link.proofs.Services.{same-kept}
 use Rattle.command.specs.declared.Cmnd.{Cmnd}

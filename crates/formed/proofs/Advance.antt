@@ -12,15 +12,31 @@ use borrow.Author.Tests.{le-leb, lt-leb, leb-true, eqb-true, eq-eqb}
 use Rattle.tables.proofs.Bools.{and-left, and-right, or-short}
 use Rattle.state.specs.declared.Exchange.{Exchange}
 use Rattle.state.specs.Changes.{advanced, isClosed}
-use Rattle.formed.specs.Formed.{total, framesOf, readFits, wantedFits, openable, sentFits, exchangeFine}
-
--- "A frame carries the login's W18 size, 2,048 at most, or what is left"
-abbrev pub nextBytes : ℕ → Exchange → ℕ
-nextBytes full e = min full (total e - e .sent)
+use Rattle.formed.specs.Formed.{total, nextBytes, framesOf, readFits, wantedFits, openable, sentFits, exchangeFine}
 
 -- a whole number of full frames, and then one more of n bytes
 frames-at : (q full : ℕ) → 0 < full → framesOf (q * full) full ≡ q
 frames-at q full h = digits-div q {m = full} {r = full - 1} (omega arith)
+
+-- nothing takes no frame
+pub no-frames : (full : ℕ) → 0 < full → framesOf 0 full ≡ 0
+no-frames full h = let z : 0 ≡ 0 * full = omega arith in ap (λ (s : ℕ). framesOf s full) z ∙ frames-at 0 full h
+
+module _ (full : ℕ) (e : Exchange) (fits : sentFits full e ≡ true) where
+  -- the count is the number of the data frames sent, modulo 65,536
+  pub sent-counted : e .count ≡ framesOf (e .sent) full % 65536
+  unfolding sentFits
+  sent-counted =
+      eqb-true (e .count) (framesOf (e .sent) full % 65536)
+      (and-right (leb (e .sent) (total e) && (leb (total e) (e .sent) || eqb (e .sent % full) 0)) (eqb (e .count) (framesOf (e .sent) full % 65536)) fits)
+
+  -- no more was sent than there is to send
+  pub sent-within : e .sent ≤ total e
+  unfolding sentFits
+  sent-within =
+      leb-true (e .sent) (total e)
+      (and-left (leb (e .sent) (total e)) (leb (total e) (e .sent) || eqb (e .sent % full) 0)
+      (and-left (leb (e .sent) (total e) && (leb (total e) (e .sent) || eqb (e .sent % full) 0)) (eqb (e .count) (framesOf (e .sent) full % 65536)) fits))
 
 one-more : (q full : ℕ) → (q + 1) * full ≡ q * full + full
 one-more q full = add-mul q 1 full ∙ rw one-mul
@@ -41,12 +57,6 @@ module _ (full : ℕ) (e : Exchange) (pos : 0 < full) (fits : sentFits full e �
       (and-left (leb (e .sent) (total e) && (leb (total e) (e .sent) || eqb (e .sent % full) 0)) (eqb (e .count) (framesOf (e .sent) full % 65536)) fits))
       (lt-leb (total e) (e .sent) short))
 
-  counted : e .count ≡ framesOf (e .sent) full % 65536
-  unfolding sentFits
-  counted =
-      eqb-true (e .count) (framesOf (e .sent) full % 65536)
-      (and-right (leb (e .sent) (total e) && (leb (total e) (e .sent) || eqb (e .sent % full) 0)) (eqb (e .count) (framesOf (e .sent) full % 65536)) fits)
-
   -- the number of frames sent so far
   number : ℕ
   number = e .sent / full
@@ -59,7 +69,7 @@ module _ (full : ℕ) (e : Exchange) (pos : 0 < full) (fits : sentFits full e �
   next = nextBytes full e
 
   -- what is sent then, which does not wrap
-  then-sent : (e .sent + next) % 4294967296 ≡ e .sent + next
+  pub then-sent : (e .sent + nextBytes full e) % 4294967296 ≡ e .sent + nextBytes full e
   then-sent = mod-eq-of-lt (omega arith)
 
   then-within : leb (e .sent + next) (total e) ≡ true
@@ -74,13 +84,17 @@ module _ (full : ℕ) (e : Exchange) (pos : 0 < full) (fits : sentFits full e �
             rw (lt-leb (total e) (e .sent + next) (omega arith), s, digits-mod (number + 1) {m = full} {r = 0} pos))
       ]
 
+  frames-sent : framesOf (e .sent) full ≡ number
+  frames-sent = ap (λ (s : ℕ). framesOf s full) sent-is ∙ frames-at number full pos
+
+  -- the next data frame is one frame more
+  pub frames-then : framesOf (e .sent + nextBytes full e) full ≡ framesOf (e .sent) full + 1
+  frames-then =
+      ap (λ (s : ℕ). framesOf (s + next) full) sent-is ∙ frames-more number full next (omega arith) (omega arith) ∙ sym (ap (λ (n : ℕ). n + 1) frames-sent)
+
   -- the count goes on with the frames' number
   pub then-counted : (e .count + 1) % 65536 ≡ framesOf (e .sent + nextBytes full e) full % 65536
-  then-counted =
-      let a : framesOf (e .sent) full ≡ number = ap (λ (s : ℕ). framesOf s full) sent-is ∙ frames-at number full pos in
-      let b : framesOf (e .sent + next) full ≡ number + 1 = ap (λ (s : ℕ). framesOf (s + next) full) sent-is ∙ frames-more number full next (omega arith) (omega arith) in
-      let c : e .count ≡ number % 65536 = counted ∙ rw a in
-      ap (λ (n : ℕ). (n + 1) % 65536) c ∙ round number ∙ sym (ap (λ (n : ℕ). n % 65536) b)
+  then-counted = ap (λ (n : ℕ). (n + 1) % 65536) (sent-counted full e fits) ∙ round (framesOf (e .sent) full) ∙ sym (ap (λ (n : ℕ). n % 65536) frames-then)
     where
       round : (n : ℕ) → (n % 65536 + 1) % 65536 ≡ (n + 1) % 65536
       round n = omega arith
@@ -95,20 +109,35 @@ cond-small : (b : Bool) (x y : Bool) (n : ℕ) → (x ≡ true → n < 429496729
 cond-small true x y n p q e = p e
 cond-small false x y n p q e = q e
 
-read-small : (capacity : ℕ) (e : Exchange) → readFits capacity e ≡ true → e .wanted < 4294967296
+-- what is asked of a READ
+pub record Reads (capacity : ℕ) (e : Exchange) : Type 0 where
+  pub few : e .blocks ≤ 65535
+  pub wanted : e .wanted ≡ 512 * e .blocks
+  pub inside : e .start + e .blocks ≤ capacity
+
+pub read-parts : (capacity : ℕ) (e : Exchange) → readFits capacity e ≡ true → Reads capacity e
 unfolding readFits
-read-small capacity e h =
+read-parts capacity e h =
     let a = leb 1 (e .blocks) in
     let b = leb (e .blocks) 65535 in
     let c = eqb (e .wanted) (512 * e .blocks) in
     let d = ltb (e .start) capacity in
     let f = leb (e .start + e .blocks) capacity in
     let h₃ = and-left (a && b && c) d (and-left (a && b && c && d) f h) in
-    let few : e .blocks ≤ 65535 = leb-true (e .blocks) 65535 (and-right a b (and-left (a && b) c h₃)) in
-    let is : e .wanted ≡ 512 * e .blocks = eqb-true (e .wanted) (512 * e .blocks) (and-right (a && b) c h₃) in
-    omega arith
+    record {
+      few = leb-true (e .blocks) 65535 (and-right a b (and-left (a && b) c h₃));
+      wanted = eqb-true (e .wanted) (512 * e .blocks) (and-right (a && b) c h₃);
+      inside = leb-true (e .start + e .blocks) capacity (and-right (a && b && c && d) f h);
+    }
 
-wanted-small : (capacity : ℕ) (e : Exchange) → wantedFits capacity e ≡ true → e .wanted < 4294967296
+pub is-read : (capacity : ℕ) (e : Exchange) → e .kind ≡ 1 → wantedFits capacity e ≡ true → Reads capacity e
+unfolding wantedFits
+is-read capacity e k h = read-parts capacity e (rw (eq-eqb (e .kind) 1 k) at h)
+
+read-small : (capacity : ℕ) (e : Exchange) → readFits capacity e ≡ true → e .wanted < 4294967296
+read-small capacity e h = let r = read-parts capacity e h in omega arith
+
+pub wanted-small : (capacity : ℕ) (e : Exchange) → wantedFits capacity e ≡ true → e .wanted < 4294967296
 unfolding wantedFits
 wanted-small capacity e =
     cond-small (eqb (e .kind) 1) _ _ (e .wanted) (read-small capacity e)
@@ -119,14 +148,32 @@ wanted-small capacity e =
     most : (n : ℕ) → leb (e .wanted) n ≡ true → n < 4294967296 → e .wanted < 4294967296
     most n h l = let i : e .wanted ≤ n = leb-true (e .wanted) n h in omega arith
 
+-- what is asked of an open exchange
+pub record Running (capacity full paired : ℕ) (e : Exchange) : Type 0 where
+  pub pair : eqb paired 1 ≡ true
+  pub could : openable capacity e ≡ true
+  pub wanted : wantedFits capacity e ≡ true
+  pub fits : sentFits full e ≡ true
+
+pub running : (capacity full paired : ℕ) (e : Exchange) → isClosed e ≡ false → exchangeFine capacity full paired e ≡ true → Running capacity full paired e
+unfolding exchangeFine
+running capacity full paired e op fine =
+    let f = or-short (isClosed e) (eqb paired 1 && openable capacity e && sentFits full e) fine op in
+    let g = and-left (eqb paired 1 && openable capacity e) (sentFits full e) f in
+    let o = and-right (eqb paired 1) (openable capacity e) g in
+    record {
+      pair = and-left (eqb paired 1) (openable capacity e) g;
+      could = o;
+      wanted = and-right (leb 1 (e .expected)) (wantedFits capacity e) o;
+      fits = and-right (eqb paired 1 && openable capacity e) (sentFits full e) f;
+    }
+
 -- an open exchange that is fine is fine after its next data frame
 pub advance-fine : (capacity full paired : ℕ) (e : Exchange) → 0 < full → isClosed e ≡ false → e .sent < total e → exchangeFine capacity full paired e ≡ true
     → exchangeFine capacity full paired (advanced e (nextBytes full e)) ≡ true
 unfolding exchangeFine wantedFits readFits
 advance-fine capacity full paired e pos op short fine =
-    let f = or-short (isClosed e) (eqb paired 1 && openable capacity e && sentFits full e) fine op in
-    let g = and-left (eqb paired 1 && openable capacity e) (sentFits full e) f in
-    let o = and-right (eqb paired 1) (openable capacity e) g in
-    let w = wanted-small capacity e (and-right (leb 1 (e .expected)) (wantedFits capacity e) o) in
-    let s = advance-fits full e pos (and-right (eqb paired 1 && openable capacity e) (sentFits full e) f) short (omega arith) in
-    rw (op, and-left (eqb paired 1) (openable capacity e) g, o, s)
+    let r = running capacity full paired e op fine in
+    let w = wanted-small capacity e (r .wanted) in
+    let s = advance-fits full e pos (r .fits) short (omega arith) in
+    rw (op, r .pair, r .could, s)

@@ -25,6 +25,10 @@ fullFrame size = min size 2048
 abbrev pub total : Exchange → ℕ
 total e = min (e .wanted) (e .expected)
 
+-- "A frame carries the login's W18 size, 2,048 at most, or what is left"
+abbrev pub nextBytes : ℕ → Exchange → ℕ
+nextBytes full e = min full (total e - e .sent)
+
 -- READ(10): 1 to 65,535 blocks, all of them on the unit, and 512 bytes wanted for each
 unfoldable pub readFits : ℕ → Exchange → Bool
 readFits capacity e =

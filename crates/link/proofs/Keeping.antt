@@ -30,6 +30,7 @@ use Rattle.state.specs.declared.Standing.{Standing}
 use Rattle.state.specs.declared.Standing.the-variants.{Open, NoExchange, NoLogin}
 use Rattle.state.specs.Changes.{emptyExchange, emptyLogin, isUsed, hasAddress, loginAt, withLogin, withExchange, withoutExchanges, endedOf, endedAt, changedAll}
 use Rattle.state.specs.Tables.{findLogin, freeLogin, findExchange, lookupOf}
+use Rattle.state.proofs.Places.{found-used, open-place}
 use Rattle.formed.specs.Formed.{fullFrame, exchangeFine, apartId, paramsFine, flagsFine, addressFine, loginFine, wellFormed}
 use Rattle.formed.proofs.Parts.{Used, fine-used, used-fine}
 use Rattle.formed.proofs.Keeping.{none-fine, none-apart, proven-used, paired-used, unpaired-used, end-used, change-kept, store-kept, update-kept, end-kept}
@@ -103,15 +104,6 @@ pub port-cond : (u : Unit) (b : Bool) (d e : Decided) → wellFormed u (d .port)
 port-cond u true d e x y = x
 port-cond u false d e x y = y
 
--- the login that is found is used and has the address
-pub found-has : (p : Port) (a i : ℕ) → findLogin p a ≡ At i → hasAddress a (loginAt p i) ≡ true
-unfolding findLogin loginAt
-found-has p a i e = found-passes emptyLogin (hasAddress a) (p .logins) e
-
-pub found-used : (p : Port) (from i : ℕ) → findLogin p from ≡ At i → isUsed (loginAt p i) ≡ true
-unfolding hasAddress
-found-used p from i e = and-left (isUsed (loginAt p i)) (eqb (loginAt p i .address) from) (found-has p from i e)
-
 -- what stands where the login of an address stood
 module _ (u : Unit) (p : Port) (w : wellFormed u p ≡ true) (from : ℕ) where
   pub stored-kept : (i : ℕ) (m : Login) → findLogin p from ≡ At i → Keeps (u .capacity) (p .address) (loginAt p i) m → wellFormed u (withLogin p i m) ≡ true
@@ -160,19 +152,6 @@ link-kept u p h f valid other w =
     (c (eqb code 0x03) _ _ (plogi-kept u p w from valid other (paramsOf f 28))
     (c (eqb code 0x05) _ _ (logo-kept u p w from valid other (num 3 f 29))
     (served-kept u p w from valid other (findLogin p from) refl code f _ w))))
-
--- an open exchange stands at the login of its address
-inner-place : (k i j : ℕ) (g : Found) → onFound g (λ n. Open k n) (NoExchange k) ≡ Open i j → k ≡ i
-inner-place k i j (At n) e = cc
-inner-place k i j Nothing e = let z : _≡_ {A = ℕ} 0 1 = cc in absurd (omega arith)
-
-outer-place : (p : Port) (x i j : ℕ) (g : Found) → onFound g (λ k. onFound (findExchange (loginAt p k) x) (λ n. Open k n) (NoExchange k)) NoLogin ≡ Open i j → g ≡ At i
-outer-place p x i j (At k) e = ap At (inner-place k i j (findExchange (loginAt p k) x) e)
-outer-place p x i j Nothing e = let z : _≡_ {A = ℕ} 0 1 = cc in absurd (omega arith)
-
-pub open-place : (p : Port) (a x i j : ℕ) → lookupOf p a x ≡ Open i j → findLogin p a ≡ At i
-unfolding lookupOf
-open-place p a x i j e = outer-place p x i j (findLogin p a) e
 
 aborted-kept : (u : Unit) (p : Port) (from ox rx : ℕ) (s : Standing) → lookupOf p from ox ≡ s → wellFormed u p ≡ true → wellFormed u (abortedAt s rx p .port) ≡ true
 unfolding withExchange

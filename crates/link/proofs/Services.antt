@@ -19,6 +19,7 @@ use Rattle.state.specs.declared.Login.{Login}
 use Rattle.state.specs.declared.Port.{Port}
 use Rattle.state.specs.declared.Change.the-variants.{EndLogin}
 use Rattle.state.specs.Changes.{emptyLogin, hasAddress, loginAt, withLogin, withExchange, withoutExchanges, endedAt, changedAll}
+use Rattle.state.proofs.Places.{found-has}
 use Rattle.state.specs.Tables.{findLogin, freeLogin, findExchange}
 use Rattle.formed.specs.Formed.{apartAddress}
 use Rattle.reply.specs.declared.Reply.{Reply}
@@ -31,7 +32,6 @@ use Rattle.link.specs.declared.Outcome.the-variants.{Place, Rejected}
 use Rattle.link.specs.Link.{decidedAs, servedAs, newLogin, outcomeAfter, outcomeOf, outcomeReply, outcomePort, plogiOf, namesDiffer, provenBy, pdiscOf, adiscOf, logoOf, pairFine, pageFine, prliOf, prloOf, rrqOf, serviceOf, servedAt}
 use Rattle.link.specs.Record.{Record, out, held, keptFrom, recordAt, recordOf, proved, paired, unpaired}
 use Rattle.link.proofs.Seen.{has}
-use Rattle.link.proofs.Keeping.{found-has}
 use Rattle.link.proofs.Records.{found-record, end-record, end-others, store-record, drop-record, store-others, drop-others, place-record, place-others}
 
 -- after PLOGI: ACC, and the record is unpaired, proven and of the parameters sent; LS_RJT, and it is `out`; there is no other reply

@@ -89,6 +89,39 @@ pub fn write(o: Own, h: Header, r: Reply, source: &[u8], reply: &mut [u8]) -> us
     put_reply(o, h, r, source, reply)
 }
 
+// Writes the 18 sense bytes at the front of the buffer, as much of them as fits.
+pub fn put_sense(s: Sense, out: &mut [u8]) -> usize
+    ensures { λ n. ⌜ Wrote (senseBytes s) (now (out .entry)) (now (out .exit)) n 18 ⌝ }
+{
+    let i = s.information;
+    let a = (i / 256 / 256 / 256 % 256) as u8;
+    let b = (i / 256 / 256 % 256) as u8;
+    let c = (i / 256 % 256) as u8;
+    let d = (i % 256) as u8;
+    let all = [
+        s.first,
+        0,
+        s.key,
+        a,
+        b,
+        c,
+        d,
+        0x0a,
+        0,
+        0,
+        0,
+        0,
+        s.code,
+        s.qualifier,
+        0,
+        0,
+        0,
+        0,
+    ];
+    put_front(out, &all);
+    18
+}
+
 fn put_reply(o: Own, h: Header, r: Reply, source: &[u8], reply: &mut [u8]) -> usize
     requires { ⌜ 2136 ≤ length (now reply) ⌝ }
     ensures { λ n. ⌜ n ≡ length (bytesOf o h r (now (source .entry))) ⌝ }
@@ -471,38 +504,6 @@ fn put_status(flags: u8, status: u8, resid: u32, sense: u32, response: u32, out:
     ];
     put_front(out, &b);
     24
-}
-
-fn put_sense(s: Sense, out: &mut [u8]) -> usize
-    ensures { λ n. ⌜ Wrote (senseBytes s) (now (out .entry)) (now (out .exit)) n 18 ⌝ }
-{
-    let i = s.information;
-    let a = (i / 256 / 256 / 256 % 256) as u8;
-    let b = (i / 256 / 256 % 256) as u8;
-    let c = (i / 256 % 256) as u8;
-    let d = (i % 256) as u8;
-    let all = [
-        s.first,
-        0,
-        s.key,
-        a,
-        b,
-        c,
-        d,
-        0x0a,
-        0,
-        0,
-        0,
-        0,
-        s.code,
-        s.qualifier,
-        0,
-        0,
-        0,
-        0,
-    ];
-    put_front(out, &all);
-    18
 }
 
 fn flag_of(r: Residual) -> u8

@@ -7,7 +7,7 @@ use mathlib.Core.Bool.{Bool, true, false, cond, not}
 use native.Mathlib.Omega.{arith}
 use native.Mathlib.Nat.{add-zero, zero-add}
 use borrow.Author.Tests.{not-true}
-use lib.ListN.{length, getD}
+use lib.ListN.{length, getD, set}
 use Rattle.tables.specs.declared.Found.{Found}
 use Rattle.tables.specs.declared.Found.the-variants.{At, Nothing}
 use Rattle.tables.specs.Lists.{firstFrom, first, all, Within}
@@ -96,3 +96,12 @@ missing-from p (x ∷ xs) k e =
 -- where no element passes, none is found
 pub missing : {A : Type 0} (p : A → Bool) (xs : List A) → all (λ y. not (p y)) xs ≡ true → first p xs ≡ Nothing
 missing p xs e = missing-from p xs 0 e
+
+same-from : {A : Type 0} (z : A) (p : A → Bool) (xs : List A) (k i : ℕ) (y : A) → p y ≡ p (getD xs i z) → firstFrom p k (set xs i y) ≡ firstFrom p k xs
+same-from z p [] k i y e = refl
+same-from z p (x ∷ xs) k zero y e = rw e
+same-from z p (x ∷ xs) k (suc i) y e = ap (cond (p x) (At k)) (same-from z p xs (suc k) i y e)
+
+-- a change at one place of which the test says the same leaves what is found
+pub same-found : {A : Type 0} (z : A) (p : A → Bool) (xs : List A) (i : ℕ) (y : A) → p y ≡ p (getD xs i z) → first p (set xs i y) ≡ first p xs
+same-found z p xs i y e = same-from z p xs 0 i y e

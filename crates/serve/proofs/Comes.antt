@@ -1,0 +1,178 @@
+-- Every open exchange of a proven login is served to its end, with windows that there are. Assumes nothing.
+use mathlib.Core.Path.{_≡_, refl, ap, _∙_}
+use mathlib.Core.Bool.{Bool, true, false, and-false}
+use mathlib.Core.List.{List, []}
+use Prim.Native.Nat.{ℕ, zero, suc, _+_, _-_, _*_, _/_, _%_, _≤_, _<_, min}
+use native.Mathlib.Nat.{le-refl}
+use native.Mathlib.Omega.{arith}
+use lib.Dec.{eqb}
+use lib.ListN.{length, take, drop, length-take, length-drop}
+use borrow.Author.Tests.{le-leb, eqb-true}
+use Rattle.tables.specs.declared.Found.the-variants.{At}
+use Rattle.state.specs.declared.Exchange.{Exchange}
+use Rattle.state.specs.declared.Port.{Port}
+use Rattle.state.specs.declared.Unit.{Unit}
+use Rattle.state.specs.declared.Standing.the-variants.{Open}
+use Rattle.state.specs.Changes.{loginAt, advanced}
+use Rattle.state.specs.Tables.{lookupOf}
+use Rattle.formed.specs.Formed.{total, nextBytes, wellFormed}
+use Rattle.formed.proofs.Advance.{Reads, is-read, then-sent}
+use Rattle.residual.specs.Residual.{residualOf}
+use Rattle.reply.specs.declared.Response.the-variants.{Status}
+use Rattle.reply.specs.declared.Reply.the-variants.{Respond, Data}
+use Rattle.serve.specs.declared.Step.the-variants.{Frame}
+use Rattle.serve.specs.Next.{hasMore, readsMore, position, coverOf, placeOf, frameOf, nextReply, exchangeOf, fullOf, stepOf, nextOf}
+use Rattle.serve.specs.Whole.{cut, piece, ends, Comes}
+use Rattle.serve.proofs.Steps.{Passed, given}
+use Rattle.serve.proofs.Keeping.{next-kept}
+use Rattle.serve.proofs.Frames.{runs, full-pos, total-small, more-left, port-is}
+use Rattle.serve.proofs.Whole.{next-open, next-exchange, next-proven}
+
+-- the block in which the next READ data begin
+abbrev block : Exchange → ℕ
+block e = e .start + e .sent / 512
+
+-- a window of so many bytes from there on
+abbrev windowAt : List ℕ → ℕ → Exchange → List ℕ
+windowAt unit len e = cut unit (block e) len
+
+-- it starts at or before the frame's first byte, and holds the frame where the unit does
+starts : (start sent : ℕ) → 512 * (start + sent / 512) ≤ 512 * start + sent
+starts start sent = omega arith
+
+holds : (start sent n capacity len : ℕ) → n ≤ 2048 → 2560 ≤ len → 512 * start + sent + n ≤ 512 * capacity
+    → 512 * start + sent + n ≤ 512 * (start + sent / 512) + min len (512 * capacity - 512 * (start + sent / 512))
+holds start sent n capacity len few least inside = omega arith
+
+on-unit : (full : ℕ) (e : Exchange) (capacity : ℕ) → e .sent < total e → Reads capacity e → position e + nextBytes full e ≤ 512 * capacity
+on-unit full e capacity short reads = let w = reads .wanted in let c = reads .inside in omega arith
+
+-- where the frame's bytes begin in it
+record Placed (unit : List ℕ) (len full : ℕ) (e : Exchange) : Type 0 where
+  k : ℕ
+  is : placeOf full e (block e) (length (windowAt unit len e)) ≡ At k
+
+module _ (u : Unit) (unit : List ℕ) (long : length unit ≡ 512 * u .capacity) (len : ℕ) (least : 2560 ≤ len) (full : ℕ) (e : Exchange) (most : nextBytes full e ≤ 2048) (more : hasMore e ≡ true) where
+  long-is : length (windowAt unit len e) ≡ min len (512 * u .capacity - 512 * block e)
+  long-is = length-take len (drop (512 * block e) unit) ∙ ap (min len) (length-drop (512 * block e) unit ∙ ap (λ (n : ℕ). n - 512 * block e) long)
+
+  placed-case : (b : Bool) → eqb (e .kind) 1 ≡ b → (b ≡ true → Reads (u .capacity) e) → Placed unit len full e
+  unfolding placeOf readsMore coverOf
+  placed-case true h reads =
+      let n = nextBytes full e in
+      let inside = on-unit full e (u .capacity) (more-left full e more) (reads refl) in
+      let before = holds (e .start) (e .sent) n (u .capacity) len most least inside in
+      record {
+        k = position e - 512 * block e;
+        is = rw (h, more, long-is, le-leb (512 * block e) (position e) (starts (e .start) (e .sent)), le-leb (position e + n) (512 * block e + min len (512 * u .capacity - 512 * block e)) before);
+      }
+  placed-case false h reads = record { k = e .sent; is = rw h }
+
+-- with nothing left, any window will do
+none-placed : (full : ℕ) (e : Exchange) → hasMore e ≡ false → placeOf full e 0 0 ≡ At (e .sent)
+unfolding placeOf readsMore
+none-placed full e h = rw (h, and-false (eqb (e .kind) 1))
+
+more-reply : (full : ℕ) (e : Exchange) → hasMore e ≡ true → nextReply full e ≡ Data (frameOf full e)
+unfolding nextReply
+more-reply full e h = rw h
+
+last-reply : (full : ℕ) (e : Exchange) → hasMore e ≡ false → nextReply full e ≡ Respond (Status 0x00 (residualOf (e .wanted) (e .expected)))
+unfolding nextReply
+last-reply full e h = rw h
+
+-- the bytes that are left grow fewer
+abbrev left : Exchange → ℕ
+left e = total e - e .sent
+
+fewer : (full : ℕ) (e : Exchange) → 0 < full → e .sent < total e → (e .sent + nextBytes full e) % 4294967296 ≡ e .sent + nextBytes full e → left (advanced e (nextBytes full e)) < left e
+fewer full e pos short wrap = rw wrap (omega arith)
+
+-- with windows of so many bytes, or what the unit has of them
+module _ (u : Unit) (unit : List ℕ) (long : length unit ≡ 512 * u .capacity) (len : ℕ) (least : 2560 ≤ len) (most : len ≤ 65536) (a x i j : ℕ) where
+  -- what is known of the port before each frame
+  record Ready (p : Port) : Type 0 where
+    formed : wellFormed u p ≡ true
+    stands : lookupOf p a x ≡ Open i j
+    proven : loginAt p i .proven ≡ 1
+
+  -- nothing is left but the response
+  ends-here : (p : Port) → hasMore (exchangeOf p i j) ≡ false → Ready p → Comes u unit a x p
+  ends-here p more ready =
+      let e = exchangeOf p i j in
+      let step : Passed p a x 0 0 2136 i j (e .sent) = record { roomy = omega arith; stands = ready .stands; proven = ready .proven; short = omega arith; place = none-placed (fullOf p i) e more } in
+      record { pieces = []; response = _; after = _; run = ends 0 0 2136 i j (e .sent) (given step) (last-reply (fullOf p i) e more) }
+
+  -- the window of the next data frame
+  placed : (p : Port) → hasMore (exchangeOf p i j) ≡ true → Ready p → Placed unit len (fullOf p i) (exchangeOf p i j)
+  placed p more ready =
+      let e = exchangeOf p i j in
+      placed-case u unit long len least (fullOf p i) e (few (loginAt p i .size) (left e)) more (eqb (e .kind) 1) refl
+      (λ k. is-read (u .capacity) e (eqb-true (e .kind) 1 k) (runs u p a x i j (ready .formed) (ready .stands) .wanted))
+    where
+      few : (size m : ℕ) → min (min size 2048) m ≤ 2048
+      few size m = omega arith
+
+  step-given : (p : Port) (at : Placed unit len (fullOf p i) (exchangeOf p i j)) → Ready p → stepOf p a x (block (exchangeOf p i j)) (length (windowAt unit len (exchangeOf p i j))) 2136 ≡ Frame i j (at .k)
+  step-given p at ready = given record { roomy = omega arith; stands = ready .stands; proven = ready .proven; short = short-window (512 * block (exchangeOf p i j)); place = at .is }
+    where
+      short-window : (n : ℕ) → length (take len (drop n unit)) ≤ 65536
+      short-window n = let t = length-take len (drop n unit) in omega arith
+
+  -- a data frame, and what comes after it
+  module _ (p : Port) (start k : ℕ) (more : hasMore (exchangeOf p i j) ≡ true) (step : stepOf p a x start (length (cut unit start len)) 2136 ≡ Frame i j k) where
+    abbrev then : Port
+    then = nextOf u p a x start (cut unit start len) 2136 .port
+
+    then-ready : Ready p → Ready then
+    then-ready ready =
+        let is = port-is u p a x start (cut unit start len) 2136 i j k step in
+        record {
+          formed = next-kept u p a x start (cut unit start len) 2136 (ready .formed);
+          stands = next-open u p a x i j (ready .stands) then more is;
+          proven = next-proven u p a x i j (ready .stands) then more is ∙ ready .proven;
+        }
+
+    then-fewer : Ready p → left (exchangeOf then i j) < left (exchangeOf p i j)
+    then-fewer ready =
+        let e = exchangeOf p i j in
+        let w = ready .formed in
+        let o = ready .stands in
+        let pos = full-pos u p a x i j w o in
+        let short = more-left (fullOf p i) e more in
+        let wrap = then-sent (fullOf p i) e pos (runs u p a x i j w o .fits) short (total-small u p a x i j w o) in
+        rw (next-exchange u p a x i j o then more (port-is u p a x start (cut unit start len) 2136 i j k step)) (fewer (fullOf p i) e pos short wrap)
+
+    then-runs : Comes u unit a x then → Comes u unit a x p
+    then-runs rest =
+        record {
+          pieces = _;
+          response = rest .response;
+          after = rest .after;
+          run = piece start len 2136 i j k (frameOf (fullOf p i) (exchangeOf p i j)) step (more-reply (fullOf p i) (exchangeOf p i j) more) (rest .run);
+        }
+
+  comes-next : (p : Port) (b : Bool) → hasMore (exchangeOf p i j) ≡ b → Ready p → ((q : Port) → Ready q → left (exchangeOf q i j) < left (exchangeOf p i j) → Comes u unit a x q) → Comes u unit a x p
+  comes-next p false more ready rest = ends-here p more ready
+  comes-next p true more ready rest = with-place (placed p more ready)
+    where
+      with-place : Placed unit len (fullOf p i) (exchangeOf p i j) → Comes u unit a x p
+      with-place at =
+          let start = block (exchangeOf p i j) in
+          let step = step-given p at ready in
+          then-runs p start (at .k) more step (rest (then p start (at .k) more step) (then-ready p start (at .k) more step ready) (then-fewer p start (at .k) more step ready))
+
+  comes : (fuel : ℕ) (p : Port) → left (exchangeOf p i j) ≤ fuel → Ready p → Comes u unit a x p
+  comes zero p h ready = comes-next p (hasMore (exchangeOf p i j)) refl ready (λ q on l. absurd (no-fewer (left (exchangeOf q i j)) (left (exchangeOf p i j)) h l))
+    where
+      no-fewer : (m n : ℕ) → n ≤ 0 → m < n → ⊥
+      no-fewer m n h l = omega arith
+  comes (suc fuel) p h ready = comes-next p (hasMore (exchangeOf p i j)) refl ready (λ q on l. comes fuel q (one-fewer (left (exchangeOf q i j)) (left (exchangeOf p i j)) h l) on)
+    where
+      one-fewer : (m n : ℕ) → n ≤ suc fuel → m < n → m ≤ fuel
+      one-fewer m n h l = omega arith
+
+-- every open exchange of a proven login can be served to its end, of whatever kind it is and whatever was sent of it
+pub whole-comes : (u : Unit) (unit : List ℕ) (p : Port) (a x i j : ℕ) → wellFormed u p ≡ true → length unit ≡ 512 * u .capacity → lookupOf p a x ≡ Open i j → loginAt p i .proven ≡ 1 → Comes u unit a x p
+whole-comes u unit p a x i j w long o proven =
+    comes u unit long 65536 (omega arith) (omega arith) a x i j (left (exchangeOf p i j)) p (le-refl (left (exchangeOf p i j))) (record { formed = w; stands = o; proven = proven })

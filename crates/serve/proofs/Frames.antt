@@ -1,0 +1,145 @@
+-- One next frame: what it carries and what it leaves, from a port that is well formed. Assumes nothing.
+use mathlib.Core.Path.{_≡_, refl, sym, ap, _∙_}
+use mathlib.Core.Bool.{Bool, true, false, cond, _&&_}
+use mathlib.Core.List.{List, [], _∷_}
+use Prim.Native.Nat.{ℕ, zero, suc, _+_, _-_, _*_, _%_, _≤_, _<_, min}
+use native.Mathlib.Omega.{arith}
+use lib.Dec.{eqb, leb}
+use lib.ListN.{length, take, drop, length-take}
+use lib.Seq.{take-take, drop-drop}
+use borrow.Author.Tests.{ltb-true, ltb-false, leb-true}
+use Rattle.tables.specs.declared.Found.the-variants.{At, Nothing}
+use Rattle.tables.proofs.Keeping.{all-at}
+use Rattle.state.specs.declared.Exchange.{Exchange}
+use Rattle.state.specs.declared.Port.{Port}
+use Rattle.state.specs.declared.Unit.{Unit}
+use Rattle.state.specs.declared.Standing.the-variants.{Open}
+use Rattle.state.specs.Changes.{emptyExchange, emptyLogin, loginAt, exchangeAt}
+use Rattle.state.specs.Tables.{lookupOf}
+use Rattle.state.proofs.Places.{open-used, open-open, login-inside, exchange-inside}
+use Rattle.formed.specs.Formed.{total, nextBytes, framesOf, exchangeFine, loginFine, wellFormed}
+use Rattle.formed.proofs.Parts.{Used, fine-used, formed-parts}
+use Rattle.formed.proofs.Advance.{Running, running, wanted-small, sent-counted}
+use Rattle.residual.specs.Residual.{residualOf}
+use Rattle.reply.specs.declared.DataFrame.{DataFrame}
+use Rattle.reply.specs.declared.Response.{Response}
+use Rattle.reply.specs.declared.Response.the-variants.{Status}
+use Rattle.reply.specs.declared.Reply.the-variants.{Respond, Data}
+use Rattle.reply.specs.Payload.{payloadOf}
+use Rattle.serve.specs.declared.Step.the-variants.{Frame}
+use Rattle.serve.specs.Made.{madeBytes}
+use Rattle.serve.specs.Next.{hasMore, readsMore, position, coverOf, placeOf, frameOf, nextReply, sourceOf, ownOf, askedBy, exchangeOf, fullOf, stepOf, portAfter, nextAt, nextOf}
+use Rattle.serve.specs.Whole.{cut, dataOf, payloadAt}
+use Rattle.serve.proofs.Keeping.{full-some}
+
+-- what a well-formed port asks of an open exchange and its login
+module _ (u : Unit) (p : Port) (a x i j : ℕ) (w : wellFormed u p ≡ true) (o : lookupOf p a x ≡ Open i j) where
+  used : Used (u .capacity) (p .address) (loginAt p i)
+  unfolding loginAt
+  used = fine-used (open-used p a x i j o) (all-at (loginFine (u .capacity) (p .address)) emptyLogin (p .logins) i (login-inside p a x i j o) (formed-parts w .logins))
+
+  pub runs : Running (u .capacity) (fullOf p i) (loginAt p i .paired) (exchangeOf p i j)
+  unfolding exchangeAt
+  runs =
+      running (u .capacity) (fullOf p i) (loginAt p i .paired) (exchangeOf p i j) (open-open p a x i j o)
+      (all-at (exchangeFine (u .capacity) (fullOf p i) (loginAt p i .paired)) emptyExchange (loginAt p i .places) j (exchange-inside p a x i j o) (used .exchanges))
+
+  pub full-pos : 0 < fullOf p i
+  full-pos = full-some used
+
+  pub total-small : total (exchangeOf p i j) < 4294967296
+  total-small = let s = wanted-small (u .capacity) (exchangeOf p i j) (runs .wanted) in omega arith
+
+-- a data frame is sent while there are data
+data-case : (b : Bool) (f d : DataFrame) (r : Response) → cond b (Data f) (Respond r) ≡ Data d → (b ≡ true) × (d ≡ f)
+data-case true f d r e = (refl, (cc))
+data-case false f d r e = let z : _≡_ {A = ℕ} 0 1 = cc in absurd (omega arith)
+
+respond-case : (b : Bool) (f : DataFrame) (r s : Response) → cond b (Data f) (Respond r) ≡ Respond s → (b ≡ false) × (s ≡ r)
+respond-case true f r s e = let z : _≡_ {A = ℕ} 0 1 = cc in absurd (omega arith)
+respond-case false f r s e = (refl, (cc))
+
+module _ (full : ℕ) (e : Exchange) where
+  pub is-data : (d : DataFrame) → nextReply full e ≡ Data d → (hasMore e ≡ true) × (d ≡ frameOf full e)
+  unfolding nextReply
+  is-data d h = data-case (hasMore e) (frameOf full e) d (Status 0x00 (residualOf (e .wanted) (e .expected))) h
+
+  pub is-response : (r : Response) → nextReply full e ≡ Respond r → (hasMore e ≡ false) × (r ≡ Status 0x00 (residualOf (e .wanted) (e .expected)))
+  unfolding nextReply
+  is-response r h = respond-case (hasMore e) (frameOf full e) (Status 0x00 (residualOf (e .wanted) (e .expected))) r h
+
+  pub more-left : hasMore e ≡ true → e .sent < total e
+  unfolding hasMore
+  more-left h = ltb-true (e .sent) (total e) h
+
+  pub none-left : hasMore e ≡ false → total e ≤ e .sent
+  unfolding hasMore
+  none-left h = ltb-false (e .sent) (total e) h
+
+-- SEQ_CNT of a data frame is the number of the data frames sent before it, modulo 65,536
+pub next-counted : (u : Unit) (p : Port) (a x i j : ℕ) (d : DataFrame) → wellFormed u p ≡ true → lookupOf p a x ≡ Open i j → nextReply (fullOf p i) (exchangeOf p i j) ≡ Data d
+    → d .count ≡ framesOf (exchangeOf p i j .sent) (fullOf p i) % 65536
+unfolding frameOf
+next-counted u p a x i j d w o h =
+    ap (λ f. f .count) (is-data (fullOf p i) (exchangeOf p i j) d h .1) ∙ sent-counted (fullOf p i) (exchangeOf p i j) (runs u p a x i j w o .fits)
+
+-- a window that covers
+record Covers (at n start len k : ℕ) : Type 0 where
+  after : 512 * start ≤ at
+  before : at + n ≤ 512 * start + len
+  is : k ≡ at - 512 * start
+
+cover-case : (b c : Bool) (m k : ℕ) → cond (b && c) (At m) Nothing ≡ At k → (b ≡ true) × (c ≡ true) × (k ≡ m)
+cover-case true true m k e = (refl, refl, (cc))
+cover-case true false m k e = let z : _≡_ {A = ℕ} 0 1 = cc in absurd (omega arith)
+cover-case false c m k e = let z : _≡_ {A = ℕ} 0 1 = cc in absurd (omega arith)
+
+covers : (at n start len k : ℕ) → coverOf at n start len ≡ At k → Covers at n start len k
+unfolding coverOf
+covers at n start len k e =
+    let t = cover-case (leb (512 * start) at) (leb (at + n) (512 * start + len)) (at - 512 * start) k e in
+    record { after = leb-true (512 * start) at (t .0); before = leb-true (at + n) (512 * start + len) (t .1); is = t .2 }
+
+-- a part of a front is a part of the whole
+part-of : (k n len : ℕ) (l : List ℕ) → k + n ≤ len → take n (drop k (take len l)) ≡ take n (drop k l)
+part-of zero n len l h = take-take n len l (omega arith)
+part-of (suc k) n zero l h = absurd (omega arith)
+part-of (suc k) n (suc len) [] h = refl
+part-of (suc k) n (suc len) (y ∷ l) h = part-of k n len l (omega arith)
+
+-- the bytes of the frame are those of the exchange's data from what was sent on
+module _ (u : Unit) (unit : List ℕ) (full : ℕ) (e : Exchange) (start len k : ℕ) (more : hasMore e ≡ true) (place : placeOf full e start (length (cut unit start len)) ≡ At k) where
+  source-case : (b : Bool) → eqb (e .kind) 1 ≡ b
+      → take (nextBytes full e) (drop k (cond b (cut unit start len) (madeBytes u (e .kind)))) ≡ take (nextBytes full e) (drop (e .sent) (cond b (drop (512 * e .start) unit) (madeBytes u (e .kind))))
+  unfolding placeOf readsMore
+  source-case true r =
+      let c : coverOf (position e) (nextBytes full e) start (length (cut unit start len)) ≡ At k = rw (r, more) at place in
+      let v = covers (position e) (nextBytes full e) start (length (cut unit start len)) k c in
+      let m = length-take len (drop (512 * start) unit) in
+      let fit : k + nextBytes full e ≤ len = let x = v .after in let y = v .before in let z = v .is in omega arith in
+      let at : 512 * start + k ≡ 512 * e .start + e .sent = let x = v .after in let z = v .is in omega arith in
+      part-of k (nextBytes full e) len (drop (512 * start) unit) fit
+      ∙ ap (take (nextBytes full e)) (drop-drop k (512 * start) unit ∙ ap (λ (s : ℕ). drop s unit) at ∙ sym (drop-drop (e .sent) (512 * e .start) unit))
+  source-case false r =
+      let c : At (e .sent) ≡ At k = rw r at place in
+      let s : k ≡ e .sent = cc in
+      ap (λ (m : ℕ). take (nextBytes full e) (drop m (madeBytes u (e .kind)))) s
+
+  pub source-is : take (nextBytes full e) (sourceOf u e k (cut unit start len)) ≡ take (nextBytes full e) (drop (e .sent) (dataOf u unit e))
+  unfolding sourceOf
+  source-is = source-case (eqb (e .kind) 1) refl
+
+pub payload-is : (u : Unit) (p : Port) (a x i j k : ℕ) (W : List ℕ) (d : DataFrame) → nextReply (fullOf p i) (exchangeOf p i j) ≡ Data d
+    → payloadAt u p a x i j k W ≡ take (nextBytes (fullOf p i) (exchangeOf p i j)) (sourceOf u (exchangeOf p i j) k W)
+unfolding frameOf
+payload-is u p a x i j k W d h =
+    let f = is-data (fullOf p i) (exchangeOf p i j) d h .1 in
+    let n = nextBytes (fullOf p i) (exchangeOf p i j) in
+    let least : min n 2048 ≡ n = omega arith in
+    ap (λ r. payloadOf (ownOf p) (askedBy (p .address) a x) r (sourceOf u (exchangeOf p i j) k W)) (h ∙ ap Data f)
+    ∙ ap (λ (m : ℕ). take m (sourceOf u (exchangeOf p i j) k W)) least
+
+-- the port after a frame that is given
+pub port-is : (u : Unit) (p : Port) (a x start : ℕ) (W : List ℕ) (room i j k : ℕ) → stepOf p a x start (length W) room ≡ Frame i j k → nextOf u p a x start W room .port ≡ portAfter p i j
+unfolding nextOf
+port-is u p a x start W room i j k e = ap (λ s. nextAt s u p a x W .port) e

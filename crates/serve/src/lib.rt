@@ -1,0 +1,415 @@
+// The next frame of an open exchange: its data frames one after the other, and then its FCP_RSP.
+use formed::full_frame;
+use formed::total_of;
+use frame::Header;
+use reply::DataFrame;
+use reply::Own;
+use reply::Reply;
+use reply::Response;
+use reply::Sense;
+use reply::put_sense;
+use reply::write;
+use residual::residual_of;
+use state::Exchange;
+use state::Login;
+use state::Port;
+use state::Standing;
+use state::Unit;
+use state::advance;
+use state::empty_exchange;
+use state::exchange_at;
+use state::login_at;
+use state::lookup;
+use state::put_exchange;
+use state::put_login;
+use tables::Found;
+use wire::least;
+use wire::put_at;
+use wire::put_front;
+ghost use mathlib.Core.Path.{_≡_};
+ghost use mathlib.Core.Bool.{cond};
+ghost use Prim.Native.Nat.{_+_, _-_, _*_, _≤_};
+ghost use lib.Dec.{leb};
+ghost use lib.ListN.{length, drop};
+ghost use Rattle.tables.specs.declared.Found.the-variants.{At, Nothing};
+ghost use Rattle.reply.specs.Payload.{senseBytes};
+ghost use Rattle.reply.specs.Reply.{sentOf, writtenOf};
+ghost use Rattle.formed.specs.Formed.{fullFrame, nextBytes};
+ghost use Rattle.serve.specs.Made.{inquiryFirst, inquiryBytes, capacityBytes, senseWith, senseOf, madeBytes};
+ghost use Rattle.serve.specs.Next.{hasMore, readsMore, fitsAt, coverOf, placeOf, frameOf, nextReply, nextExchange, sourceOf, ownOf, askedBy, openStep, stepOf, nextOf, nextBuffer};
+
+// What became of the call: the length of the frame, or why it was refused.
+pub enum Given {
+    Sent(usize),
+    NoRoom,
+    NoExchange,
+    Unproven,
+    WrongWindow,
+}
+
+// What became of the call, and the port after it.
+pub struct Next {
+    pub given: Given,
+    pub port: Port,
+}
+
+impl Next {
+    pub const LEAST_ROOM: usize = 2136;
+
+    pub const MOST_WINDOW: usize = 65536;
+}
+
+// What a call comes to: refused, or the frame of the exchange at a login's place and its own, its data from a place of their source on.
+pub enum Step {
+    Refused(Given),
+    Frame(usize, usize, usize),
+}
+
+// The next frame of the exchange of an address and an OX_ID, from a window of the unit's bytes that starts at a block.
+pub fn next_frame(
+    u: Unit,
+    p: Port,
+    address: u32,
+    ox_id: u16,
+    start: u64,
+    window: &[u8],
+    reply: &mut [u8],
+) -> Next
+    ensures { λ r. ⌜ r ≡ nextOf u p address «ox_id» start (now (window .entry)) (length (now (reply .entry))) ⌝ }
+    ensures { λ _. ⌜ now (reply .exit) ≡ nextBuffer u p address «ox_id» start (now (window .entry)) (now (reply .entry)) ⌝ }
+{
+    let s = step_of(p, address, ox_id, start, window.len(), reply.len());
+    match s {
+        Step::Refused(g) => Next { given: g, port: p },
+        Step::Frame(i, j, k) => {
+            let l = login_at(p, i);
+            let e = exchange_at(l, j);
+            let n = put_frame(u, p, address, ox_id, l.size, e, k, window, reply);
+            let f = next_exchange(l.size, e);
+            let m = put_exchange(l, j, f);
+            let q = put_login(p, i, m);
+            Next {
+                given: Given::Sent(n),
+                port: q,
+            }
+        }
+    }
+}
+
+// What a call comes to, by the refusals in their order: the room, the exchange, its login, the window.
+fn step_of(p: Port, address: u32, ox_id: u16, start: u64, len: usize, room: usize) -> Step
+    ensures { λ r. ⌜ r ≡ stepOf p address «ox_id» start len room ⌝ }
+{
+    if room < Next::LEAST_ROOM {
+        return Step::Refused(Given::NoRoom);
+    }
+    let s = lookup(p, address, ox_id);
+    match s {
+        Standing::NoLogin => Step::Refused(Given::NoExchange),
+        Standing::NoExchange(_) => Step::Refused(Given::NoExchange),
+        Standing::Open(i, j) => open_step(login_at(p, i), i, j, start, len),
+    }
+}
+
+// The same of the exchange at place j of a login, which stands at place i: its login, and then the window.
+fn open_step(l: Login, i: usize, j: usize, start: u64, len: usize) -> Step
+    ensures { λ r. ⌜ r ≡ openStep l i j start len ⌝ }
+{
+    if l.proven != 1 {
+        return Step::Refused(Given::Unproven);
+    }
+    if Next::MOST_WINDOW < len {
+        return Step::Refused(Given::WrongWindow);
+    }
+    let e = exchange_at(l, j);
+    let f = place_of(l.size, e, start, len);
+    match f {
+        Found::At(k) => Step::Frame(i, j, k),
+        Found::Nothing => Step::Refused(Given::WrongWindow),
+    }
+}
+
+// Where the frame's first byte stands: of READ data in the window, if that holds all of the frame's bytes; of made data among these.
+fn place_of(size: u16, e: Exchange, start: u64, len: usize) -> Found
+    ensures { λ r. ⌜ r ≡ placeOf (fullFrame size) e start len ⌝ }
+{
+    if reads_more(e) {
+        return covered(e.start, e.sent, next_bytes(size, e), start, len);
+    }
+    Found::At(e.sent as usize)
+}
+
+// Whether the next frame carries READ data.
+fn reads_more(e: Exchange) -> bool
+    ensures { λ r. ⌜ r ≡ readsMore e ⌝ }
+{
+    if e.kind == Exchange::READ {
+        has_more(e)
+    } else {
+        false
+    }
+}
+
+// Whether an exchange has data left to send.
+fn has_more(e: Exchange) -> bool
+    ensures { λ r. ⌜ r ≡ hasMore e ⌝ }
+{
+    e.sent < total_of(e)
+}
+
+// The bytes of the next data frame.
+fn next_bytes(size: u16, e: Exchange) -> u32
+    ensures { λ r. ⌜ (r ≡ nextBytes (fullFrame size) e) × (r ≤ 2048) ⌝ }
+{
+    let full = full_frame(size);
+    let all = total_of(e);
+    if all <= e.sent {
+        return 0;
+    }
+    let left = all - e.sent;
+    if full < left { full } else { left }
+}
+
+// Where n bytes, from so many past the start of a block on, stand in a window of len bytes that starts at a block.
+fn covered(block: u64, sent: u32, n: u32, start: u64, len: usize) -> Found
+    ensures { λ r. ⌜ r ≡ coverOf (512 * block + sent) n start len ⌝ }
+{
+    if start <= block {
+        after_start(block - start, sent, n, len)
+    } else {
+        before_start(start - block, sent, n, len)
+    }
+}
+
+// The same where the block is so many blocks past the window's first.
+fn after_start(blocks: u64, sent: u32, n: u32, len: usize) -> Found
+    ensures { λ r. ⌜ r ≡ fitsAt (512 * blocks + sent) n len ⌝ }
+{
+    let most = len as u64;
+    if most / 512 < blocks {
+        return Found::Nothing;
+    }
+    let at = 512 * blocks;
+    if most - at < sent as u64 + n as u64 {
+        return Found::Nothing;
+    }
+    Found::At((at + sent as u64) as usize)
+}
+
+// The same where the window's first block is so many blocks past the block.
+fn before_start(blocks: u64, sent: u32, n: u32, len: usize) -> Found
+    ensures { λ r. ⌜ r ≡ cond (leb (512 * blocks) sent) (fitsAt (sent - 512 * blocks) n len) Nothing ⌝ }
+{
+    let most = len as u64;
+    let all = sent as u64;
+    if all / 512 < blocks {
+        return Found::Nothing;
+    }
+    let at = all - 512 * blocks;
+    if most < at + n as u64 {
+        return Found::Nothing;
+    }
+    Found::At(at as usize)
+}
+
+// Writes the next frame, its data from place k of their source on.
+fn put_frame(
+    u: Unit,
+    p: Port,
+    address: u32,
+    ox_id: u16,
+    size: u16,
+    e: Exchange,
+    k: usize,
+    window: &[u8],
+    reply: &mut [u8],
+) -> usize
+    ensures { λ n. ⌜ n ≡ sentOf (ownOf p) (askedBy (p .address) address «ox_id») (nextReply (fullFrame size) e) (sourceOf u e k (now (window .entry))) (length (now (reply .entry))) ⌝ }
+    ensures { λ _. ⌜ now (reply .exit) ≡ writtenOf (ownOf p) (askedBy (p .address) address «ox_id») (nextReply (fullFrame size) e) (sourceOf u e k (now (window .entry))) (now (reply .entry)) ⌝ }
+{
+    let o = own_of(p);
+    let h = asked_by(p.address, address, ox_id);
+    let r = next_reply(size, e);
+    if e.kind == Exchange::READ {
+        return put_from(o, h, r, window, k, reply);
+    }
+    put_made(u, o, h, r, e.kind, k, reply)
+}
+
+// Writes a reply whose data are the made data of a kind from place k on.
+fn put_made(u: Unit, o: Own, h: Header, r: Reply, kind: u8, k: usize, reply: &mut [u8]) -> usize
+    ensures { λ n. ⌜ n ≡ sentOf o h r (drop k (madeBytes u kind)) (length (now (reply .entry))) ⌝ }
+    ensures { λ _. ⌜ now (reply .exit) ≡ writtenOf o h r (drop k (madeBytes u kind)) (now (reply .entry)) ⌝ }
+{
+    if kind <= Exchange::INQUIRY_OTHER_UNIT {
+        let identity = u.identity;
+        let b = inquiry_bytes(identity, kind);
+        return put_from(o, h, r, &b, k, reply);
+    }
+    if kind == Exchange::READ_CAPACITY {
+        let b = capacity_bytes(u.capacity);
+        return put_from(o, h, r, &b, k, reply);
+    }
+    let s = sense_of(kind);
+    let b = sense_bytes(s);
+    put_from(o, h, r, &b, k, reply)
+}
+
+// Writes a reply whose data are the source from place k on.
+fn put_from(o: Own, h: Header, r: Reply, source: &[u8], k: usize, reply: &mut [u8]) -> usize
+    ensures { λ n. ⌜ n ≡ sentOf o h r (drop k (now (source .entry))) (length (now (reply .entry))) ⌝ }
+    ensures { λ _. ⌜ now (reply .exit) ≡ writtenOf o h r (drop k (now (source .entry))) (now (reply .entry)) ⌝ }
+{
+    let a = least(k, source.len());
+    write(o, h, r, &source[a..], reply)
+}
+
+// What a reply takes from the setup.
+fn own_of(p: Port) -> Own
+    ensures { λ r. ⌜ r ≡ ownOf p ⌝ }
+{
+    let accept = p.accept;
+    Own {
+        address: p.address,
+        accept: accept,
+    }
+}
+
+// The header of a frame from an address to ours, to which the next frame is a reply.
+fn asked_by(own: u32, address: u32, ox_id: u16) -> Header
+    ensures { λ r. ⌜ r ≡ askedBy own address «ox_id» ⌝ }
+{
+    Header {
+        r_ctl: 0,
+        d_id: own,
+        reserved: 0,
+        s_id: address,
+        kind: 0,
+        f_ctl: 0,
+        seq_id: 0,
+        df_ctl: 0,
+        seq_cnt: 0,
+        ox_id: ox_id,
+        rx_id: 0,
+        offset: 0,
+    }
+}
+
+// The next data frame, or FCP_RSP where all data are sent.
+fn next_reply(size: u16, e: Exchange) -> Reply
+    ensures { λ r. ⌜ r ≡ nextReply (fullFrame size) e ⌝ }
+{
+    if has_more(e) {
+        return Reply::Data(frame_of(size, e));
+    }
+    let x = Response::Status(0, residual_of(e.wanted, e.expected));
+    Reply::Respond(x)
+}
+
+// The next data frame: where its bytes stand among those of the exchange, its number, how many they are, and whether they are the last.
+fn frame_of(size: u16, e: Exchange) -> DataFrame
+    ensures { λ r. ⌜ r ≡ frameOf (fullFrame size) e ⌝ }
+{
+    let n = next_bytes(size, e);
+    DataFrame {
+        offset: e.sent,
+        count: e.count,
+        size: n as u16,
+        last: e.sent + n == total_of(e),
+    }
+}
+
+// The exchange after its next frame: one data frame on, or its place freed.
+fn next_exchange(size: u16, e: Exchange) -> Exchange
+    ensures { λ r. ⌜ r ≡ nextExchange (fullFrame size) e ⌝ }
+{
+    if has_more(e) {
+        return advance(e, next_bytes(size, e));
+    }
+    empty_exchange()
+}
+
+// INQUIRY data, of another unit than 0 with 7Fh first.
+fn inquiry_bytes(identity: [u8; 28], kind: u8) -> [u8; 36]
+    ensures { λ r. ⌜ r ≡ inquiryBytes identity kind ⌝ }
+{
+    let first = inquiry_first(kind);
+    let head = [first, 0x00, 0x02, 0x02, 0x1f, 0x00, 0x00, 0x02];
+    let mut b = [0u8; 36];
+    put_front(&mut b, &head);
+    put_at(&mut b, 8, &identity);
+    b
+}
+
+// The first byte of INQUIRY data.
+fn inquiry_first(kind: u8) -> u8
+    ensures { λ r. ⌜ r ≡ inquiryFirst kind ⌝ }
+{
+    if kind == Exchange::INQUIRY_OTHER_UNIT {
+        0x7f
+    } else {
+        0x00
+    }
+}
+
+// READ CAPACITY data: the last block's address, and the bytes of a block.
+fn capacity_bytes(capacity: u64) -> [u8; 8]
+    ensures { λ r. ⌜ r ≡ capacityBytes capacity ⌝ }
+{
+    let last = last_block(capacity);
+    [
+        (last / 256 / 256 / 256 % 256) as u8,
+        (last / 256 / 256 % 256) as u8,
+        (last / 256 % 256) as u8,
+        (last % 256) as u8,
+        0x00,
+        0x00,
+        0x02,
+        0x00,
+    ]
+}
+
+// The address of the last block.
+fn last_block(capacity: u64) -> u64
+    ensures { λ r. ⌜ r ≡ capacity - 1 ⌝ }
+{
+    if capacity < 1 { 0 } else { capacity - 1 }
+}
+
+// What REQUEST SENSE tells.
+fn sense_of(kind: u8) -> Sense
+    ensures { λ r. ⌜ r ≡ senseOf kind ⌝ }
+{
+    if kind == Exchange::SENSE_RESET {
+        return sense_with(0x06, 0x29);
+    }
+    if kind == Exchange::SENSE_CLEARED {
+        return sense_with(0x06, 0x2f);
+    }
+    if kind == Exchange::SENSE_OTHER_UNIT {
+        return sense_with(0x05, 0x25);
+    }
+    sense_with(0x00, 0x00)
+}
+
+// Sense of this key and code.
+fn sense_with(key: u8, code: u8) -> Sense
+    ensures { λ r. ⌜ r ≡ senseWith key code ⌝ }
+{
+    Sense {
+        first: 0x70,
+        key: key,
+        code: code,
+        qualifier: 0x00,
+        information: 0,
+    }
+}
+
+// The 18 bytes of a sense.
+fn sense_bytes(s: Sense) -> [u8; 18]
+    ensures { λ r. ⌜ r ≡ senseBytes s ⌝ }
+{
+    let mut b = [0u8; 18];
+    put_sense(s, &mut b);
+    b
+}
