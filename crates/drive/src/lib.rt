@@ -1,4 +1,4 @@
-// The drive: made from a setup, handed frames, told of events. Every entry answers what it said beside the drive, which a refusal leaves as it was.
+// The drive: made from a setup, handed frames, asked for the next ones, told of events. Every entry answers what it said beside the drive, which a refusal leaves as it was.
 use arrival::Judged;
 use arrival::Kind;
 use arrival::Refusal;
@@ -12,9 +12,11 @@ use link::Decided;
 use link::abts;
 use link::decide_as;
 use link::link;
-use reply::Own;
 use reply::Reply;
 use reply::write;
+use serve::Given;
+use serve::next_frame;
+use serve::own_of;
 use state::Change;
 use state::Port;
 use state::Setup;
@@ -25,7 +27,7 @@ use state::power_on;
 ghost use mathlib.Core.Path.{_≡_};
 ghost use lib.ListN.{length};
 ghost use Rattle.drive.specs.Drive.{refused, madeFrom, noDrive, newAnswer, eventAnswer};
-ghost use Rattle.drive.specs.Entry.{ownOf, decidedOf, frameIn, frameInBuffer};
+ghost use Rattle.drive.specs.Entry.{decidedOf, frameIn, frameInBuffer, saidOf, nextFrame, nextFrameBuffer};
 
 #[repr(C)]
 pub struct Drive {
@@ -92,6 +94,37 @@ impl Drive {
         }
     }
 
+    // The next frame out of the exchange of an address and an OX_ID, from a window that starts at a block: refused by the first of 1, 2, 9, 7, 10 that fits,
+    // or the frame at the front of the buffer and the drive after it.
+    pub fn next_frame(
+        self,
+        address: u32,
+        ox_id: u16,
+        start: u64,
+        window: &[u8],
+        reply: &mut [u8],
+    ) -> Answer
+        ensures { λ r. ⌜ r ≡ nextFrame self address «ox_id» start (now (window .entry)) (length (now (reply .entry))) ⌝ }
+        ensures { λ _. ⌜ now (reply .exit) ≡ nextFrameBuffer self address «ox_id» start (now (window .entry)) (now (reply .entry)) ⌝ }
+    {
+        let u = self.unit;
+        let p = self.port;
+        if reply.len() < 2136 {
+            return refuse(Refusal::ShortBuffer, self);
+        }
+        if well_formed(u, p) {
+            let n = next_frame(u, p, address, ox_id, start, window, reply);
+            let g = n.given;
+            let q = n.port;
+            Answer {
+                said: said_of(g),
+                drive: Drive { unit: u, port: q },
+            }
+        } else {
+            refuse(Refusal::IllFormed, self)
+        }
+    }
+
     // The drive after an event, or refusal 2 and the drive as it was.
     pub fn event(self, e: Event) -> Answer
         ensures { λ r. ⌜ r ≡ eventAnswer self e ⌝ }
@@ -124,6 +157,19 @@ fn refuse(x: Refusal, d: Drive) -> Answer
     }
 }
 
+// What became of a next frame, by the numbers of refusals.
+fn said_of(g: Given) -> Said
+    ensures { λ r. ⌜ r ≡ saidOf g ⌝ }
+{
+    match g {
+        Given::Sent(n) => Said::Sent(n),
+        Given::NoRoom => Said::Refused(Refusal::ShortBuffer),
+        Given::NoExchange => Said::Refused(Refusal::NoExchange),
+        Given::Unproven => Said::Refused(Refusal::Unproven),
+        Given::WrongWindow => Said::Refused(Refusal::BadWindow),
+    }
+}
+
 // What a frame that passed is answered, and the port after it.
 fn decide(capacity: u64, p: Port, h: Header, k: Kind, frame: &[u8]) -> Decided
     ensures { λ r. ⌜ r ≡ decidedOf capacity p h k (now (frame .entry)) ⌝ }
@@ -133,16 +179,6 @@ fn decide(capacity: u64, p: Port, h: Header, k: Kind, frame: &[u8]) -> Decided
         Kind::Done => decide_as(Reply::Nothing, p),
         Kind::Abort => abts(p, h.s_id, h.ox_id, h.rx_id),
         Kind::Command => command(capacity, p, h, frame),
-    }
-}
-
-fn own_of(p: Port) -> Own
-    ensures { λ r. ⌜ r ≡ ownOf p ⌝ }
-{
-    let accept = p.accept;
-    Own {
-        address: p.address,
-        accept: accept,
     }
 }
 

@@ -96,6 +96,17 @@ pub fn next_frame(
     }
 }
 
+// What a reply takes from the setup.
+pub fn own_of(p: Port) -> Own
+    ensures { λ r. ⌜ r ≡ ownOf p ⌝ }
+{
+    let accept = p.accept;
+    Own {
+        address: p.address,
+        accept: accept,
+    }
+}
+
 // What a call comes to, by the refusals in their order: the room, the exchange, its login, the window.
 fn step_of(p: Port, address: u32, ox_id: u16, start: u64, len: usize, room: usize) -> Step
     ensures { λ r. ⌜ r ≡ stepOf p address «ox_id» start len room ⌝ }
@@ -262,17 +273,6 @@ fn put_from(o: Own, h: Header, r: Reply, source: &[u8], k: usize, reply: &mut [u
 {
     let a = least(k, source.len());
     write(o, h, r, &source[a..], reply)
-}
-
-// What a reply takes from the setup.
-fn own_of(p: Port) -> Own
-    ensures { λ r. ⌜ r ≡ ownOf p ⌝ }
-{
-    let accept = p.accept;
-    Own {
-        address: p.address,
-        accept: accept,
-    }
 }
 
 // The header of a frame from an address to ours, to which the next frame is a reply.
