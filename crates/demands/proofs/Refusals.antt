@@ -1,0 +1,291 @@
+-- Each refusal is given exactly when it applies and none before it in the entry's order does; it hands back the drive unchanged and changes no byte of the buffer.
+-- Assumes nothing.
+use mathlib.Core.Path.{_≡_, refl, sym, ap, _∙_, subst}
+use mathlib.Core.Bool.{Bool, true, false, cond, not, _&&_, _||_}
+use mathlib.Core.List.{List}
+use Prim.Native.Nat.{ℕ, _+_, _*_, _<_}
+use native.Mathlib.Omega.{arith}
+use lib.Dec.{eqb, leb, ltb}
+use lib.ListN.{length}
+use borrow.Author.Tests.{not-true}
+use Rattle.tables.specs.declared.Found.{Found}
+use Rattle.tables.specs.declared.Found.the-variants.{At, Nothing}
+use Rattle.tables.specs.Lists.{onFound}
+use Rattle.tables.proofs.Bools.{apart}
+use Rattle.frame.specs.Head.{headerOf}
+use Rattle.state.specs.declared.Exchange.{Exchange}
+use Rattle.state.specs.declared.Port.{Port}
+use Rattle.state.specs.declared.Standing.{Standing}
+use Rattle.state.specs.declared.Standing.the-variants as standing
+use Rattle.state.specs.Changes.{loginAt, exchangeAt}
+use Rattle.state.specs.Tables.{lookupOf}
+use Rattle.formed.specs.Formed.{fullFrame, nextBytes, wellFormed}
+use Rattle.serve.specs.declared.Given.{Given}
+use Rattle.serve.specs.declared.Given.the-variants as given
+use Rattle.serve.specs.Whole.{isSent}
+use Rattle.serve.proofs.Moving.{next-stays, next-untouched}
+use Rattle.serve.specs.declared.Step.{Step}
+use Rattle.serve.specs.declared.Step.the-variants as step
+use Rattle.serve.specs.Next.{hasMore, readsMore, position, coverOf, placeOf, openStep, stepAt, stepOf, nextAt, nextOf, bufferAt, nextBuffer}
+use Rattle.arrival.specs.declared.Refusal.{Refusal}
+use Rattle.arrival.specs.declared.Refusal.the-variants.{ShortBuffer, IllFormed, BadSize, NotOurs, BadSource, UnknownForm, Unproven, BadSetup, NoExchange, BadWindow}
+use Rattle.arrival.specs.declared.Kind.{Kind}
+use Rattle.arrival.specs.declared.Judged.{Judged}
+use Rattle.arrival.specs.declared.Judged.the-variants as judged
+use Rattle.arrival.specs.Arrival.{shortBuffer, judgedOf}
+use Rattle.arrival.proofs.Exactly.{First, given-first, first-given}
+use Rattle.drive.specs.declared.Drive.{Drive}
+use Rattle.drive.specs.declared.Answer.{Answer}
+use Rattle.drive.specs.declared.Said.{Said}
+use Rattle.drive.specs.declared.Said.the-variants.{Sent, Refused}
+use Rattle.drive.specs.Drive.{refused}
+use Rattle.drive.specs.Entry.{decidedIn, answered, replyBytes, onJudged, frameIn, frameInBuffer, saidOf, served, nextFrame, nextFrameBuffer}
+
+same-refusal : (x y : Refusal) → Refused y ≡ Refused x → y ≡ x
+same-refusal x y e = cc
+
+-- a frame in: what is told of it, the drive after it and the buffer after it where it is refused
+module _ (d : Drive) (f l : List ℕ) where
+  abbrev judgement : Judged
+  judgement = judgedOf (d .unit) (d .port) (headerOf f) f (length l)
+
+  said-judged : (x : Refusal) → frameIn d f (length l) .said ≡ Refused x → judgement ≡ judged.Refused x
+  unfolding frameIn
+  said-judged x e = by judgement refl e
+    where
+      by : (j : Judged) → judgement ≡ j → onJudged j (λ y. refused y d) (λ k. answered d (headerOf f) (decidedIn d f k)) .said ≡ Refused x → judgement ≡ judged.Refused x
+      by (judged.Refused y) q s = q ∙ ap judged.Refused (same-refusal x y s)
+      by (judged.Passed k) q s = let z : _≡_ {A = ℕ} 0 1 = cc in absurd (omega arith)
+
+  -- refused: the number is the first that applies, of 1 to 7
+  pub frame-first : (x : Refusal) → frameIn d f (length l) .said ≡ Refused x → First (d .unit) (d .port) (headerOf f) f (length l) x
+  frame-first x e = given-first (d .unit) (d .port) (headerOf f) f (length l) x (said-judged x e)
+
+  -- where one is the first that applies: refused with it, the drive unchanged, and no byte of the buffer
+  pub frame-refuses : (x : Refusal) → First (d .unit) (d .port) (headerOf f) f (length l) x → (frameIn d f (length l) ≡ refused x d) × (frameInBuffer d f l ≡ l)
+  unfolding frameIn frameInBuffer
+  frame-refuses x z = rw (first-given (d .unit) (d .port) (headerOf f) f (length l) x z) (refl, refl)
+
+-- a next frame out, in the order 1, 2, 9, 7, 10
+module _ (d : Drive) (a x start : ℕ) (W l : List ℕ) where
+  abbrev exchange : ℕ → ℕ → Exchange
+  exchange i j = exchangeAt (loginAt (d .port) i) j
+
+  -- the window holds the next frame's bytes
+  abbrev pub covers : ℕ → ℕ → Bool
+  covers i j =
+      leb (512 * start) (position (exchange i j)) && leb (position (exchange i j) + nextBytes (fullFrame (loginAt (d .port) i .size)) (exchange i j)) (512 * start + length W)
+
+  abbrev pub noExchange : Standing → Bool
+  noExchange standing.NoLogin = true
+  noExchange (standing.NoExchange i) = true
+  noExchange (standing.Open i j) = false
+
+  abbrev pub unprovenThere : Standing → Bool
+  unprovenThere standing.NoLogin = false
+  unprovenThere (standing.NoExchange i) = false
+  unprovenThere (standing.Open i j) = not (eqb (loginAt (d .port) i .proven) 1)
+
+  abbrev pub badWindow : Standing → Bool
+  badWindow standing.NoLogin = false
+  badWindow (standing.NoExchange i) = false
+  badWindow (standing.Open i j) = ltb 65536 (length W) || readsMore (exchange i j) && not (covers i j)
+
+  -- "When", of each number; the others are not given to a next frame
+  abbrev pub applies : Refusal → Bool
+  applies ShortBuffer = shortBuffer (length l)
+  applies IllFormed = not (wellFormed (d .unit) (d .port))
+  applies BadSize = false
+  applies NotOurs = false
+  applies BadSource = false
+  applies UnknownForm = false
+  applies Unproven = unprovenThere (lookupOf (d .port) a x)
+  applies BadSetup = false
+  applies NoExchange = noExchange (lookupOf (d .port) a x)
+  applies BadWindow = badWindow (lookupOf (d .port) a x)
+
+  -- "Next frame out: 1, 2, 9, 7, 10"
+  abbrev pub turn : Refusal → ℕ
+  turn ShortBuffer = 1
+  turn IllFormed = 2
+  turn NoExchange = 3
+  turn Unproven = 4
+  turn BadWindow = 5
+  turn BadSize = 6
+  turn NotOurs = 6
+  turn BadSource = 6
+  turn UnknownForm = 6
+  turn BadSetup = 6
+
+  pub record FirstOut (r : Refusal) : Type 0 where
+    pub this : applies r ≡ true
+    pub before : (y : Refusal) → turn y < turn r → applies y ≡ false
+
+  -- what is said, by the five tests
+  data Told : Bool → Bool → Bool → Bool → Bool → Said → Type 0 where
+    short : {b c e g : Bool} → Told true b c e g (Refused ShortBuffer)
+    ill : {c e g : Bool} → Told false true c e g (Refused IllFormed)
+    none : {e g : Bool} → Told false false true e g (Refused NoExchange)
+    unproven : {g : Bool} → Told false false false true g (Refused Unproven)
+    window : Told false false false false true (Refused BadWindow)
+    sent : (n : ℕ) → Told false false false false false (Sent n)
+
+  next-shorts : shortBuffer (length l) ≡ true → nextFrame d a x start W (length l) ≡ refused ShortBuffer d
+  unfolding nextFrame
+  next-shorts s = rw s
+
+  next-ills : shortBuffer (length l) ≡ false → wellFormed (d .unit) (d .port) ≡ false → nextFrame d a x start W (length l) ≡ refused IllFormed d
+  unfolding nextFrame
+  next-ills s w = rw (s, w)
+
+  module _ (room : shortBuffer (length l) ≡ false) (fine : wellFormed (d .unit) (d .port) ≡ true) where
+    served-is : nextFrame d a x start W (length l) ≡ served d (nextAt (stepAt (lookupOf (d .port) a x) (d .port) start (length W)) (d .unit) (d .port) a x W)
+    unfolding nextFrame nextOf stepOf
+    served-is = rw (room, fine)
+
+    by-place : (i j : ℕ) (r c : Bool) → readsMore (exchange i j) ≡ r → covers i j ≡ c
+        → Told false false false false (r && not c) (saidOf (nextAt (onFound (placeOf (fullFrame (loginAt (d .port) i .size)) (exchange i j) start (length W)) (λ k. step.Frame i j k) (step.Refused given.WrongWindow)) (d .unit) (d .port) a x W .given))
+    unfolding placeOf coverOf
+    by-place i j true true er ec = rw (er, ec) (sent _)
+    by-place i j true false er ec = rw (er, ec) window
+    by-place i j false c er ec = rw er (sent _)
+
+    by-long : (i j : ℕ) (b : Bool) → ltb 65536 (length W) ≡ b
+        → Told false false false false (b || readsMore (exchange i j) && not (covers i j))
+        (saidOf (nextAt (cond b (step.Refused given.WrongWindow) (onFound (placeOf (fullFrame (loginAt (d .port) i .size)) (exchange i j) start (length W)) (λ k. step.Frame i j k) (step.Refused given.WrongWindow))) (d .unit) (d .port) a x W .given))
+    by-long i j true e = window
+    by-long i j false e = by-place i j (readsMore (exchange i j)) (covers i j) refl refl
+
+    by-proven : (i j : ℕ) (b : Bool) → eqb (loginAt (d .port) i .proven) 1 ≡ b
+        → Told false false false (not b) (badWindow (standing.Open i j)) (saidOf (nextAt (openStep (loginAt (d .port) i) i j start (length W)) (d .unit) (d .port) a x W .given))
+    unfolding openStep
+    by-proven i j true e = rw e (by-long i j (ltb 65536 (length W)) refl)
+    by-proven i j false e = rw e unproven
+
+    by-standing : (s : Standing) → Told false false (noExchange s) (unprovenThere s) (badWindow s) (saidOf (nextAt (stepAt s (d .port) start (length W)) (d .unit) (d .port) a x W .given))
+    by-standing standing.NoLogin = none
+    by-standing (standing.NoExchange i) = none
+    by-standing (standing.Open i j) = by-proven i j (eqb (loginAt (d .port) i .proven) 1) refl
+
+    told-served : Told false false (noExchange (lookupOf (d .port) a x)) (unprovenThere (lookupOf (d .port) a x)) (badWindow (lookupOf (d .port) a x)) (nextFrame d a x start W (length l) .said)
+    told-served = rw served-is (by-standing (lookupOf (d .port) a x))
+
+  told : Told (applies ShortBuffer) (applies IllFormed) (applies NoExchange) (applies Unproven) (applies BadWindow) (nextFrame d a x start W (length l) .said)
+  told = by-short (shortBuffer (length l)) refl
+    where
+      by-fine : shortBuffer (length l) ≡ false → (w : Bool) → wellFormed (d .unit) (d .port) ≡ w → Told false (not w) (applies NoExchange) (applies Unproven) (applies BadWindow) (nextFrame d a x start W (length l) .said)
+      by-fine s true e = told-served s e
+      by-fine s false e = rw (next-ills s e) ill
+
+      by-short : (b : Bool) → shortBuffer (length l) ≡ b → Told b (applies IllFormed) (applies NoExchange) (applies Unproven) (applies BadWindow) (nextFrame d a x start W (length l) .said)
+      by-short true e = rw (next-shorts e) short
+      by-short false e = by-fine e (wellFormed (d .unit) (d .port)) refl
+
+  -- the turns below n, each by its own fact
+  below : (n : ℕ) → (1 < n → applies ShortBuffer ≡ false) → (2 < n → applies IllFormed ≡ false) → (3 < n → applies NoExchange ≡ false) → (4 < n → applies Unproven ≡ false)
+      → (5 < n → applies BadWindow ≡ false) → n < 6 → (y : Refusal) → turn y < n → applies y ≡ false
+  below n a b c e g few ShortBuffer k = a k
+  below n a b c e g few IllFormed k = b k
+  below n a b c e g few BadSize k = absurd (omega arith)
+  below n a b c e g few NotOurs k = absurd (omega arith)
+  below n a b c e g few BadSource k = absurd (omega arith)
+  below n a b c e g few UnknownForm k = absurd (omega arith)
+  below n a b c e g few Unproven k = e k
+  below n a b c e g few BadSetup k = absurd (omega arith)
+  below n a b c e g few NoExchange k = c k
+  below n a b c e g few BadWindow k = g k
+
+  at : {r : Refusal} (y : Refusal) → Refused y ≡ Refused r → FirstOut y → FirstOut r
+  at {r} y e z = rw (sym (same-refusal r y e)) z
+
+  first-of : {b c e g v : Bool} {s : Said} → Told b c e g v s → applies ShortBuffer ≡ b → applies IllFormed ≡ c → applies NoExchange ≡ e → applies Unproven ≡ g → applies BadWindow ≡ v
+      → (r : Refusal) → s ≡ Refused r → FirstOut r
+  first-of short eb ec ee eg ev r is = at ShortBuffer is record { this = eb; before = below 1 (λ k. absurd (omega arith)) (λ k. absurd (omega arith)) (λ k. absurd (omega arith)) (λ k. absurd (omega arith)) (λ k. absurd (omega arith)) (omega arith) }
+  first-of ill eb ec ee eg ev r is = at IllFormed is record { this = ec; before = below 2 (λ _. eb) (λ k. absurd (omega arith)) (λ k. absurd (omega arith)) (λ k. absurd (omega arith)) (λ k. absurd (omega arith)) (omega arith) }
+  first-of none eb ec ee eg ev r is = at NoExchange is record { this = ee; before = below 3 (λ _. eb) (λ _. ec) (λ k. absurd (omega arith)) (λ k. absurd (omega arith)) (λ k. absurd (omega arith)) (omega arith) }
+  first-of unproven eb ec ee eg ev r is = at Unproven is record { this = eg; before = below 4 (λ _. eb) (λ _. ec) (λ _. ee) (λ k. absurd (omega arith)) (λ k. absurd (omega arith)) (omega arith) }
+  first-of window eb ec ee eg ev r is = at BadWindow is record { this = ev; before = below 5 (λ _. eb) (λ _. ec) (λ _. ee) (λ _. eg) (λ k. absurd (omega arith)) (omega arith) }
+  first-of (sent n) eb ec ee eg ev r is = let z : _≡_ {A = ℕ} 0 1 = cc in absurd (omega arith)
+
+  -- refused: the number is the first that applies, in the order 1, 2, 9, 7, 10
+  pub next-first : (r : Refusal) → nextFrame d a x start W (length l) .said ≡ Refused r → FirstOut r
+  next-first r e = first-of told refl refl refl refl refl r e
+
+  is-short : {b c e g v : Bool} {s : Said} → Told b c e g v s → b ≡ true → s ≡ Refused ShortBuffer
+  is-short short q = refl
+  is-short ill q = apart q refl
+  is-short none q = apart q refl
+  is-short unproven q = apart q refl
+  is-short window q = apart q refl
+  is-short (sent n) q = apart q refl
+
+  is-ill : {b c e g v : Bool} {s : Said} → Told b c e g v s → b ≡ false → c ≡ true → s ≡ Refused IllFormed
+  is-ill short p q = apart refl p
+  is-ill ill p q = refl
+  is-ill none p q = apart q refl
+  is-ill unproven p q = apart q refl
+  is-ill window p q = apart q refl
+  is-ill (sent n) p q = apart q refl
+
+  is-none : {b c e g v : Bool} {s : Said} → Told b c e g v s → b ≡ false → c ≡ false → e ≡ true → s ≡ Refused NoExchange
+  is-none short p q t = apart refl p
+  is-none ill p q t = apart refl q
+  is-none none p q t = refl
+  is-none unproven p q t = apart t refl
+  is-none window p q t = apart t refl
+  is-none (sent n) p q t = apart t refl
+
+  is-unproven : {b c e g v : Bool} {s : Said} → Told b c e g v s → b ≡ false → c ≡ false → e ≡ false → g ≡ true → s ≡ Refused Unproven
+  is-unproven short p q t k = apart refl p
+  is-unproven ill p q t k = apart refl q
+  is-unproven none p q t k = apart refl t
+  is-unproven unproven p q t k = refl
+  is-unproven window p q t k = apart k refl
+  is-unproven (sent n) p q t k = apart k refl
+
+  is-window : {b c e g v : Bool} {s : Said} → Told b c e g v s → b ≡ false → c ≡ false → e ≡ false → g ≡ false → v ≡ true → s ≡ Refused BadWindow
+  is-window short p q t k m = apart refl p
+  is-window ill p q t k m = apart refl q
+  is-window none p q t k m = apart refl t
+  is-window unproven p q t k m = apart refl k
+  is-window window p q t k m = refl
+  is-window (sent n) p q t k m = apart m refl
+
+  -- where one is the first that applies: refused with it
+  pub next-refuses : (r : Refusal) → FirstOut r → nextFrame d a x start W (length l) .said ≡ Refused r
+  next-refuses ShortBuffer z = is-short told (z .this)
+  next-refuses IllFormed z = is-ill told (z .before ShortBuffer (omega arith)) (z .this)
+  next-refuses NoExchange z = is-none told (z .before ShortBuffer (omega arith)) (z .before IllFormed (omega arith)) (z .this)
+  next-refuses Unproven z = is-unproven told (z .before ShortBuffer (omega arith)) (z .before IllFormed (omega arith)) (z .before NoExchange (omega arith)) (z .this)
+  next-refuses BadWindow z =
+      is-window told (z .before ShortBuffer (omega arith)) (z .before IllFormed (omega arith)) (z .before NoExchange (omega arith)) (z .before Unproven (omega arith)) (z .this)
+  next-refuses BadSize z = apart (z .this) refl
+  next-refuses NotOurs z = apart (z .this) refl
+  next-refuses BadSource z = apart (z .this) refl
+  next-refuses UnknownForm z = apart (z .this) refl
+  next-refuses BadSetup z = apart (z .this) refl
+
+  not-sent : (g : Given) (r : Refusal) → saidOf g ≡ Refused r → isSent g ≡ false
+  not-sent (given.Sent n) r e = let z : _≡_ {A = ℕ} 0 1 = cc in absurd (omega arith)
+  not-sent given.NoRoom r e = refl
+  not-sent given.NoExchange r e = refl
+  not-sent given.Unproven r e = refl
+  not-sent given.WrongWindow r e = refl
+
+  -- a refusal hands back the drive unchanged, and changes no byte of the buffer
+  pub next-unchanged : (r : Refusal) → nextFrame d a x start W (length l) .said ≡ Refused r → (nextFrame d a x start W (length l) .drive ≡ d) × (nextFrameBuffer d a x start W l ≡ l)
+  unfolding nextFrame nextFrameBuffer
+  next-unchanged r = by (shortBuffer (length l)) (wellFormed (d .unit) (d .port)) refl refl
+    where
+      answer : Bool → Bool → Answer
+      answer s w = cond s (refused ShortBuffer d) (cond (not w) (refused IllFormed d) (served d (nextOf (d .unit) (d .port) a x start W (length l))))
+
+      buffer : Bool → Bool → List ℕ
+      buffer s w = cond s l (cond (not w) l (nextBuffer (d .unit) (d .port) a x start W l))
+
+      by : (s w : Bool) → shortBuffer (length l) ≡ s → wellFormed (d .unit) (d .port) ≡ w → answer s w .said ≡ Refused r → (answer s w .drive ≡ d) × (buffer s w ≡ l)
+      by true w es ew e = (refl, refl)
+      by false false es ew e = (refl, refl)
+      by false true es ew e =
+          let g = not-sent (nextOf (d .unit) (d .port) a x start W (length l) .given) r e in
+          (ap (λ (q : Port). record { unit = d .unit; port = q }) (next-stays (d .unit) (d .port) a x start W (length l) g), next-untouched (d .unit) (d .port) a x start W l g)
