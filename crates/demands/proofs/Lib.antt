@@ -1,2 +1,3 @@
 pub mod Reach
 pub mod Refusals
+pub mod Judges

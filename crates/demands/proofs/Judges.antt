@@ -1,0 +1,163 @@
+-- What judges finds of a login record is what the drive answers to a PLOGI of that payload, where it has no logins. Assumes nothing.
+use mathlib.Core.Path.{_≡_, refl, sym, ap, _∙_}
+use mathlib.Core.Bool.{Bool, true, false, cond, not, _&&_}
+use mathlib.Core.List.{List, _++_}
+use Prim.Native.Nat.{ℕ, _+_, _≤_, _<_}
+use native.Mathlib.Omega.{arith}
+use native.Mathlib.Decide.{decLe}
+use lib.Dec.{eqb, leb, ltb}
+use lib.ListN.{length, getD}
+use borrow.Author.Tests.{le-ltb, lt-ltb, eq-eqb}
+use Rattle.tables.specs.declared.Found.the-variants.{At}
+use Rattle.frame.specs.declared.Header.{Header}
+use Rattle.frame.specs.Head.{Fits, headerOf, headerBytes}
+use Rattle.frame.proofs.Trips.{read-write}
+use Rattle.tables.proofs.Bools.{and-left, and-right, apart}
+use Rattle.address.specs.Address.{validAddress}
+use Rattle.address.proofs.Map.{none-above}
+use Rattle.params.specs.declared.Params.{Params}
+use Rattle.params.specs.declared.Verdict.{Verdict}
+use Rattle.params.specs.declared.Verdict.the-variants as verdict
+use Rattle.params.specs.Words.{paramsOf, verdictOf, reasonOf, setupPasses}
+use Rattle.state.specs.declared.Setup.{Setup}
+use Rattle.state.specs.declared.Port.{Port}
+use Rattle.state.specs.declared.Change.the-variants.{EndLogin}
+use Rattle.state.specs.Changes.{hasAddress, endedOf, changedAll}
+use Rattle.state.specs.Tables.{freeLogin}
+use Rattle.formed.specs.Formed.{setupRules, wellFormed}
+use Rattle.reply.specs.declared.Reply.{Reply}
+use Rattle.reply.specs.declared.Reply.the-variants as reply
+use Rattle.reply.specs.declared.Accepted.the-variants as accepted
+use Rattle.link.specs.declared.Decided.{Decided}
+use Rattle.link.specs.Link.{sizeOf, outcomeAfter, outcomeOf, outcomeReply, plogiOf, linkOf}
+use Rattle.arrival.specs.declared.Kind.the-variants.{Link}
+use Rattle.arrival.specs.declared.Judged.the-variants.{Passed}
+use Rattle.arrival.specs.Arrival.{badSize, badSource, knownPair, unknownForm, spared, unprovenLogin, unprovenCall, kindOf, judgedOf}
+use Rattle.arrival.proofs.Passes.{Passes, passes}
+use Rattle.judging.specs.declared.Judgement.{Judgement}
+use Rattle.judging.specs.declared.Judgement.the-variants as judgement
+use Rattle.judging.specs.Judgement.{judged, judgementOf}
+use Rattle.drive.specs.declared.Drive.{Drive}
+use Rattle.drive.specs.Drive.{madeFrom}
+use Rattle.drive.specs.Entry.{answered, frameIn}
+use Rattle.drive.proofs.Made.{made-formed}
+use Rattle.drive.proofs.Keeping.{source-valid}
+
+small-address : (n : ℕ) → validAddress n ≡ true → n < 256
+small-address n v =
+    elim (decLe 256 n) [
+      | yes l ↦ apart v (none-above n l)
+      | no l ↦ omega arith
+    ]
+
+-- the header of a PLOGI from an address to another
+abbrev pub plogiHeader : ℕ → ℕ → ℕ → Header
+plogiHeader from to ox =
+    record {
+      «r_ctl» = 0x22;
+      «d_id» = to;
+      reserved = 0;
+      «s_id» = from;
+      kind = 0x01;
+      «f_ctl» = 0x290000;
+      «seq_id» = 0;
+      «df_ctl» = 0;
+      «seq_cnt» = 0;
+      «ox_id» = ox;
+      «rx_id» = 0xffff;
+      offset = 0;
+    }
+
+-- a PLOGI with this payload
+abbrev pub plogiFrame : ℕ → ℕ → ℕ → List ℕ → List ℕ
+plogiFrame from to ox s = headerBytes (plogiHeader from to ox) ++ s
+
+-- what is sent for a judgement: "ACC", "LS_RJT" with reason and explanation
+abbrev pub replyFor : Judgement → Reply
+replyFor judgement.Accept = reply.Accept accepted.Login
+replyFor (judgement.Reject t) = reply.Reject (reasonOf t .reason) (reasonOf t .explanation)
+replyFor judgement.NotPlogi = reply.Nothing
+replyFor (judgement.Short n) = reply.Nothing
+
+same-reply : (v : Verdict) → outcomeReply (outcomeAfter v (At 0)) ≡ replyFor (judged v)
+same-reply verdict.Accept = refl
+same-reply (verdict.Reject t) = refl
+
+module _ (t : Setup) (rules : setupRules (t .capacity) (t .address) (t .accept) ≡ true) (from ox : ℕ) (other : badSource (t .address) from ≡ false) (small : ox < 65536) (s : List ℕ) (size : length s ≡ 116)
+    (plogi : getD s 0 0 ≡ 3) where
+  abbrev d : Drive
+  d = madeFrom t
+
+  abbrev h : Header
+  h = plogiHeader from (t .address) ox
+
+  abbrev f : List ℕ
+  f = plogiFrame from (t .address) ox s
+
+  long : length f ≡ 140
+  unfolding headerBytes
+  long = let q = size in omega arith
+
+  code : getD f 24 0 ≡ 3
+  unfolding headerBytes
+  code = plogi
+
+  same-words : paramsOf f 28 ≡ paramsOf s 4
+  unfolding headerBytes paramsOf
+  same-words = refl
+
+  -- an empty table has its lowest place free
+  first-free : freeLogin (changedAll (EndLogin from) (d .port)) ≡ At 0
+  unfolding madeFrom changedAll endedOf hasAddress freeLogin
+  first-free = refl
+
+  judged-is : judgementOf s ≡ judged (verdictOf (paramsOf s 4))
+  unfolding judgementOf
+  judged-is = rw (size, plogi)
+
+  linked : linkOf (d .port) h f ≡ plogiOf (d .port) from (paramsOf f 28)
+  unfolding linkOf sizeOf
+  linked = rw (code, long)
+
+  reply-is : linkOf (d .port) h f .reply ≡ replyFor (judgementOf s)
+  unfolding plogiOf outcomeOf
+  reply-is =
+      ap (λ (r : Decided). r .reply) linked ∙ rw (first-free, same-words) (same-reply (verdictOf (paramsOf s 4)) ∙ ap replyFor (sym judged-is))
+
+  own-small : t .address < 256
+  unfolding setupRules
+  own-small =
+      let a = leb 1 (t .capacity) in
+      let b = leb (t .capacity) 4294967295 in
+      let v = validAddress (t .address) in
+      small-address (t .address) (and-right (a && b) v (and-left (a && b && v) (setupPasses (paramsOf (t .accept) 0)) rules))
+
+  fits : Fits h
+  fits =
+      let a = own-small in
+      let b = small-address from (source-valid (t .address) from other) in
+      record { d = omega arith; s = omega arith; f = omega arith; n = omega arith; o = omega arith; r = omega arith; p = omega arith }
+
+  header-is : headerOf f ≡ h
+  header-is = read-write h s fits
+
+  -- the frame passes, whatever the buffer of 2,136 bytes or more
+  frame-passes : (room : ℕ) → 2136 ≤ room → judgedOf (d .unit) (d .port) h f room ≡ Passed Link
+  unfolding madeFrom badSize unknownForm knownPair unprovenCall spared kindOf
+  frame-passes room enough =
+      passes (d .unit) (d .port) h f room Link
+      record {
+        long = le-ltb room 2136 enough;
+        fine = made-formed t rules;
+        sized = rw long;
+        here = eq-eqb (t .address) (t .address) refl;
+        from = other;
+        known = rw long;
+        proven = rw code;
+        kind = refl;
+      }
+
+  -- the drive's answer to the record, sent as a PLOGI by any valid address other than its own, is the judgement's
+  pub judges-is : (room : ℕ) → 2136 ≤ room → frameIn d f room ≡ answered d h (record { reply = replyFor (judgementOf s); port = linkOf (d .port) h f .port })
+  unfolding frameIn
+  judges-is room enough = rw (header-is, frame-passes room enough, sym reply-is)
