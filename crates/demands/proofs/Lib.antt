@@ -1,3 +1,4 @@
 pub mod Reach
 pub mod Refusals
 pub mod Judges
+pub mod Numbers
