@@ -82,11 +82,98 @@ said d f = frameIn d f 2136 .said
 abbrev pub sent : Drive → List ℕ → ℕ → ℕ → List ℕ
 sent d f from count = take count (drop from (frameInBuffer d f (replicate 2136 0x5a)))
 
--- "frame 20, 24, 2,136, 2,140 bytes: 3, read, read, 3"
-pub sizes :
-    (said (made 100) (take 20 (frame 0x23 0x01 0x01 1 [])) ≡ Refused BadSize)
-    × (said (made 100) (frame 0x23 0x01 0x01 1 []) ≡ Sent 0)
-    × (said (made 100) (frame 0x23 0x01 0x01 1 (replicate 2112 0)) ≡ Sent 0)
-    × (said (made 100) (frame 0x23 0x01 0x01 1 (replicate 2116 0)) ≡ Refused BadSize)
-unfolding frameIn replyBytes judgedOf headerOf headerBytes badSize badSource knownPair unknownForm spared unprovenLogin unprovenCall kindOf validAddress madeFrom wellFormed setupRules setupPasses paramsOf sizeFails zeroName verdictOf loginFine apartAddress findLogin hasAddress bytesOf
-sizes = (refl, refl, refl, refl)
+-- the drive after a login with this size, a pairing, and a command that takes the attention
+abbrev pub paired : ℕ → ℕ → Drive
+paired capacity size = after (made capacity) (plogi 0x01 size ∷ prli 0x01 ∷ ready 0x01 ∷ [])
+
+-- the next frame out of exchange 0004h, with a window of bytes A5h
+abbrev pub nextSaid : Drive → ℕ → ℕ → Said
+nextSaid d start len = nextFrame d 0x01 0x0004 start (replicate len 0xa5) 2136 .said
+
+abbrev pub nextSent : Drive → ℕ → ℕ → ℕ → ℕ → List ℕ
+nextSent d start len from count = take count (drop from (nextFrameBuffer d 0x01 0x0004 start (replicate len 0xa5) (replicate 2136 0x5a)))
+
+abbrev pub nextAfter : Drive → ℕ → ℕ → Drive
+nextAfter d start len = nextFrame d 0x01 0x0004 start (replicate len 0xa5) 2136 .drive
+
+-- eight logins, at the first eight addresses
+abbrev pub eight : Drive
+eight = after (made 100) (plogi 0x01 256 ∷ plogi 0x02 256 ∷ plogi 0x04 256 ∷ plogi 0x08 256 ∷ plogi 0x0f 256 ∷ plogi 0x10 256 ∷ plogi 0x17 256 ∷ plogi 0x18 256 ∷ [])
+
+-- a drive with a READ of 65,535 blocks to a login of size 256, of which so many bytes were sent, in so many frames
+abbrev pub reading : ℕ → ℕ → Drive
+reading bytes frames =
+    let d = after (paired 65535 256) (read 0x01 0x0004 0 65535 33553920 ∷ []) in
+    let l = loginAt (d .port) 0 in
+    record {
+      unit = d .unit;
+      port = withLogin (d .port) 0 (withExchange l 0 record {
+        start = 0;
+        blocks = 65535;
+        wanted = 33553920;
+        expected = 33553920;
+        sent = bytes;
+        «ox_id» = 0x0004;
+        count = frames;
+        kind = 1;
+      });
+    }
+
+pub record KnownNumbers : Type 0 where
+  -- "frame 20, 24, 2,136, 2,140 bytes: 3, read, read, 3"
+  pub frame-20 : said (made 100) (take 20 (frame 0x23 0x01 0x01 1 [])) ≡ Refused BadSize
+  pub frame-24 : said (made 100) (frame 0x23 0x01 0x01 1 []) ≡ Sent 0
+  pub frame-2136 : said (made 100) (frame 0x23 0x01 0x01 1 (replicate 2112 0)) ≡ Sent 0
+  pub frame-2140 : said (made 100) (frame 0x23 0x01 0x01 1 (replicate 2116 0)) ≡ Refused BadSize
+  -- "W18 size 252, 256, 258, 2,112, 2,116: reject, accept, reject, accept, reject"
+  pub size-252 : sent (made 100) (plogi 0x01 252) 24 8 ≡ 0x01 ∷ 0x00 ∷ 0x00 ∷ 0x00 ∷ 0x00 ∷ 0x03 ∷ 0x07 ∷ 0x00 ∷ []
+  pub size-256 : sent (made 100) (plogi 0x01 256) 24 4 ≡ 0x02 ∷ 0x00 ∷ 0x00 ∷ 0x00 ∷ []
+  pub size-258 : sent (made 100) (plogi 0x01 258) 24 8 ≡ 0x01 ∷ 0x00 ∷ 0x00 ∷ 0x00 ∷ 0x00 ∷ 0x03 ∷ 0x07 ∷ 0x00 ∷ []
+  pub size-2112 : sent (made 100) (plogi 0x01 2112) 24 4 ≡ 0x02 ∷ 0x00 ∷ 0x00 ∷ 0x00 ∷ []
+  pub size-2116 : sent (made 100) (plogi 0x01 2116) 24 8 ≡ 0x01 ∷ 0x00 ∷ 0x00 ∷ 0x00 ∷ 0x00 ∷ 0x03 ∷ 0x07 ∷ 0x00 ∷ []
+  -- "ninth login 09,29"
+  pub ninth : sent eight (plogi 0x1b 256) 24 8 ≡ 0x01 ∷ 0x00 ∷ 0x00 ∷ 0x00 ∷ 0x00 ∷ 0x09 ∷ 0x29 ∷ 0x00 ∷ []
+  -- "capacity 100, address 99 count 1 read; 99 count 2, 100 count 0 refused": the one opens silently and is served, the others get 05/21/00
+  pub read-99-1 : said (paired 100 2048) (read 0x01 0x0004 99 1 512) ≡ Sent 0
+  pub served-99-1 : nextSaid (after (paired 100 2048) (read 0x01 0x0004 99 1 512 ∷ [])) 99 512 ≡ Sent 536
+  pub read-99-2 : sent (paired 100 2048) (read 0x01 0x0004 99 2 1024) 48 14 ≡ 0x70 ∷ 0x00 ∷ 0x05 ∷ 0x00 ∷ 0x00 ∷ 0x00 ∷ 0x00 ∷ 0x0a ∷ 0x00 ∷ 0x00 ∷ 0x00 ∷ 0x00 ∷ 0x21 ∷ 0x00 ∷ []
+  pub read-100-0 : sent (paired 100 2048) (read 0x01 0x0004 100 0 0) 48 14 ≡ 0x70 ∷ 0x00 ∷ 0x05 ∷ 0x00 ∷ 0x00 ∷ 0x00 ∷ 0x00 ∷ 0x0a ∷ 0x00 ∷ 0x00 ∷ 0x00 ∷ 0x00 ∷ 0x21 ∷ 0x00 ∷ []
+  -- "wanted 1,024 with FCP_DL 1,000, 2,048: flag 04h by 24, 08h by 1,024": flags, status and FCP_RESID of the FCP_RSP after the data
+  pub over : nextSent (nextAfter (after (paired 100 2048) (read 0x01 0x0004 0 2 1000 ∷ [])) 0 1024) 0 0 34 6 ≡ 0x04 ∷ 0x00 ∷ 0x00 ∷ 0x00 ∷ 0x00 ∷ 0x18 ∷ []
+  pub under : nextSent (nextAfter (after (paired 100 2048) (read 0x01 0x0004 0 2 2048 ∷ [])) 0 1024) 0 0 34 6 ≡ 0x08 ∷ 0x00 ∷ 0x00 ∷ 0x00 ∷ 0x04 ∷ 0x00 ∷ []
+  -- "block 8,388,608 is byte 4,294,967,296": it is served from a window that starts there, and not from one that starts at block 0
+  pub byte : _≡_ {A = ℕ} (512 * 8388608) 4294967296
+  pub block : nextSaid (after (paired 8388609 2048) (read 0x01 0x0004 8388608 1 512 ∷ [])) 8388608 512 ≡ Sent 536
+  -- "size 256, frame 65,537 has SEQ_CNT 0": OFFSET is 65,536 × 256; the frame before it has FFFFh
+  pub frame-65537 : nextSent (reading 16777216 0) 32768 512 12 12 ≡ 0x01 ∷ 0x00 ∷ 0x00 ∷ 0x00 ∷ 0x00 ∷ 0x04 ∷ 0xff ∷ 0xff ∷ 0x01 ∷ 0x00 ∷ 0x00 ∷ 0x00 ∷ []
+  pub frame-65536 : nextSent (reading 16776960 65535) 32767 512 12 12 ≡ 0x01 ∷ 0x00 ∷ 0xff ∷ 0xff ∷ 0x00 ∷ 0x04 ∷ 0xff ∷ 0xff ∷ 0x00 ∷ 0xff ∷ 0xff ∷ 0x00 ∷ []
+  pub goes-round : exchangeAt (loginAt (nextAfter (reading 16776960 65535) 32767 512 .port) 0) 0 .count ≡ 0
+  pub not-zero : nextSaid (after (paired 8388609 2048) (read 0x01 0x0004 8388608 1 512 ∷ [])) 0 512 ≡ Refused BadWindow
+
+pub known-numbers : KnownNumbers
+unfolding frameIn frameInBuffer replyBytes judgedOf headerOf headerBytes badSize badSource knownPair unknownForm spared unprovenLogin unprovenCall kindOf validAddress madeFrom wellFormed setupRules setupPasses paramsOf sizeFails zeroName verdictOf loginFine usedFine flagsFine addressFine paramsFine exchangeFine apartId apartAddress wantedFits readFits sentFits findLogin freeLogin findExchange freeExchange hasAddress hasId loginAt exchangeAt withLogin withExchange endedOf changedAll bytesOf filled onto answerHead dataHead shortBytes loginBytes pairBytes rejectBytes statusBytes codeBytes senseBytes residualOf linkOf sizeOf plogiOf outcomeOf newLogin serviceOf prliOf pairFine pageFine cmndOf malformed taskFor taskOf skips otherUnit attends unknownCode inquiryField capacityField fieldSet outside exchangeFor askedOf refusedWith toldOf answerOf executeOf commandedAt commandOf nextFrame nextFrameBuffer lookupOf hasMore readsMore coverOf placeOf frameOf nextReply nextExchange sourceOf ownOf askedBy openStep stepOf frameBytes portAfter nextOf nextBuffer
+known-numbers =
+    record {
+      frame-20 = refl;
+      frame-24 = refl;
+      frame-2136 = refl;
+      frame-2140 = refl;
+      size-252 = refl;
+      size-256 = refl;
+      size-258 = refl;
+      size-2112 = refl;
+      size-2116 = refl;
+      ninth = refl;
+      read-99-1 = refl;
+      served-99-1 = refl;
+      read-99-2 = refl;
+      read-100-0 = refl;
+      over = refl;
+      under = refl;
+      byte = refl;
+      block = refl;
+      frame-65537 = refl;
+      frame-65536 = refl;
+      goes-round = refl;
+      not-zero = refl;
+    }
