@@ -1,0 +1,87 @@
+-- Demands 1 and 2 over the four entries, each theorem stated where a reader finds it. `frameIn`, `nextFrame`, `eventAnswer` and `newAnswer` are the definitions of record:
+-- the entries' contracts say that their answers are these, for all input. Assumes nothing.
+use mathlib.Core.Path.{_≡_, refl, sym, _∙_}
+use mathlib.Core.Bool.{Bool, true, false}
+use mathlib.Core.List.{List, _++_}
+use Prim.Native.Nat.{ℕ, _≤_}
+use lib.ListN.{length, take}
+use borrow.Author.Tests.{not-true}
+use Rattle.tables.proofs.Bools.{apart}
+use Rattle.wire.specs.Layout.{AllBytes}
+use Rattle.frame.specs.declared.Header.{Header}
+use Rattle.frame.specs.Head.{Fits, headerOf, headerBytes}
+use Rattle.frame.proofs.Trips.{write-read, read-write}
+use Rattle.state.specs.declared.Setup.{Setup}
+use Rattle.formed.specs.Formed.{setupRules, wellFormed}
+use Rattle.arrival.specs.declared.Refusal.{Refusal}
+use Rattle.arrival.specs.declared.Refusal.the-variants.{IllFormed, BadSetup}
+use Rattle.arrival.proofs.Exactly.{First}
+use Rattle.drive.specs.declared.Drive.{Drive}
+use Rattle.drive.specs.declared.Event.{Event}
+use Rattle.drive.specs.declared.Answer.{Answer}
+use Rattle.drive.specs.declared.Said.the-variants.{Sent, Refused}
+use Rattle.drive.specs.Drive.{madeFrom, noDrive, silent, refused, newAnswer, afterEvent, eventAnswer}
+use Rattle.drive.specs.Entry.{frameIn, frameInBuffer, nextFrame, nextFrameBuffer}
+use Rattle.drive.proofs.Made.{new-refused, new-made, event-refused, event-answered}
+use Rattle.demands.proofs.Reach.{fine, Driven, driven-fine}
+use Rattle.demands.proofs.Refusals.{frame-first, frame-refuses, FirstOut, next-first, next-refuses, next-unchanged}
+use Rattle.demands.proofs.Numbers.{KnownNumbers, known-numbers}
+
+-- No input allows two replies: two answers that meet an entry's contract are the same, and so are two buffers.
+pub one-reply : (d : Drive) (f l : List ℕ) (r s : Answer) (m n : List ℕ)
+    → r ≡ frameIn d f (length l) → s ≡ frameIn d f (length l) → m ≡ frameInBuffer d f l → n ≡ frameInBuffer d f l → (r ≡ s) × (m ≡ n)
+one-reply d f l r s m n a b c e = (a ∙ sym b, c ∙ sym e)
+
+pub one-next : (d : Drive) (a x start : ℕ) (W l : List ℕ) (r s : Answer) (m n : List ℕ)
+    → r ≡ nextFrame d a x start W (length l) → s ≡ nextFrame d a x start W (length l) → m ≡ nextFrameBuffer d a x start W l → n ≡ nextFrameBuffer d a x start W l → (r ≡ s) × (m ≡ n)
+one-next d a x start W l r s m n b c e g = (b ∙ sym c, e ∙ sym g)
+
+-- Refusals of a frame in: a number is given exactly when it is the first of 1 to 7 that applies, with the drive unchanged and no byte of the buffer changed.
+pub frame-given : (d : Drive) (f l : List ℕ) (x : Refusal) → frameIn d f (length l) .said ≡ Refused x → First (d .unit) (d .port) (headerOf f) f (length l) x
+frame-given = frame-first
+
+pub frame-then : (d : Drive) (f l : List ℕ) (x : Refusal) → First (d .unit) (d .port) (headerOf f) f (length l) x → (frameIn d f (length l) ≡ refused x d) × (frameInBuffer d f l ≡ l)
+frame-then = frame-refuses
+
+-- Refusals of a next frame out: the same, in the order 1, 2, 9, 7, 10.
+pub next-given : (d : Drive) (a x start : ℕ) (W l : List ℕ) (r : Refusal) → nextFrame d a x start W (length l) .said ≡ Refused r → FirstOut d a x start W l r
+next-given = next-first
+
+pub next-then : (d : Drive) (a x start : ℕ) (W l : List ℕ) (r : Refusal) → FirstOut d a x start W l r → nextFrame d a x start W (length l) .said ≡ Refused r
+next-then = next-refuses
+
+pub next-same : (d : Drive) (a x start : ℕ) (W l : List ℕ) (r : Refusal) → nextFrame d a x start W (length l) .said ≡ Refused r
+    → (nextFrame d a x start W (length l) .drive ≡ d) × (nextFrameBuffer d a x start W l ≡ l)
+next-same = next-unchanged
+
+-- An event is refused, with 2, exactly when the state is not well formed; making a drive, with 8, exactly when a setup rule fails.
+pub event-given : (d : Drive) (e : Event) → (fine d ≡ false → eventAnswer d e ≡ refused IllFormed d) × (fine d ≡ true → eventAnswer d e ≡ silent (afterEvent e d))
+event-given d e = (event-refused d e, event-answered d e)
+
+pub new-given : (s : Setup) → (setupRules (s .capacity) (s .address) (s .accept) ≡ false → newAnswer s ≡ refused BadSetup noDrive)
+    × (setupRules (s .capacity) (s .address) (s .accept) ≡ true → newAnswer s ≡ silent (madeFrom s))
+new-given s = (new-refused s, new-made s)
+
+-- Well formed is kept: a drive that was made, and driven only by the entries, is well formed, and no call of it is refused with 2.
+pub driven-formed : {d : Drive} → Driven d → wellFormed (d .unit) (d .port) ≡ true
+driven-formed = driven-fine
+
+pub frame-never-2 : {d : Drive} → Driven d → (f l : List ℕ) → frameIn d f (length l) .said ≡ Refused IllFormed → ⊥
+frame-never-2 {d} r f l e = apart (driven-fine r) (not-true (fine d) (frame-first d f l IllFormed e .this))
+
+pub next-never-2 : {d : Drive} → Driven d → (a x start : ℕ) (W l : List ℕ) → nextFrame d a x start W (length l) .said ≡ Refused IllFormed → ⊥
+next-never-2 {d} r a x start W l e = apart (driven-fine r) (not-true (fine d) (next-first d a x start W l IllFormed e .this))
+
+pub event-never-2 : {d : Drive} → Driven d → (e : Event) → eventAnswer d e ≡ silent (afterEvent e d)
+event-never-2 {d} r e = event-answered d e (driven-fine r)
+
+-- Header round trip: writing the fields that were read gives the bytes back, and reading those that were written gives the fields.
+pub header-bytes : (f : List ℕ) → AllBytes f → 24 ≤ length f → headerBytes (headerOf f) ≡ take 24 f
+header-bytes = write-read
+
+pub header-fields : (h : Header) (rest : List ℕ) → Fits h → headerOf (headerBytes h ++ rest) ≡ h
+header-fields = read-write
+
+-- The known numbers marked P, as one table.
+pub p-cases : KnownNumbers
+p-cases = known-numbers

@@ -1,0 +1,45 @@
+-- A port login that is not refused is accepted or rejected at the entry exactly as document 01 says, with the stated reason. Assumes nothing.
+use mathlib.Core.Path.{_≡_, refl, sym, ap, _∙_}
+use mathlib.Core.List.{List}
+use Prim.Native.Nat.{ℕ}
+use lib.ListN.{length, getD}
+use Rattle.wire.specs.Bytes.{onto}
+use Rattle.frame.specs.Head.{headerOf}
+use Rattle.params.specs.Words.{paramsOf}
+use Rattle.state.specs.Changes.{withLogin}
+use Rattle.reply.specs.declared.Reply.{Reply}
+use Rattle.reply.specs.declared.Reply.the-variants as reply
+use Rattle.reply.specs.declared.Accepted.the-variants as accepted
+use Rattle.link.specs.Link.{decidedAs, newLogin, linkOf}
+use Rattle.link.proofs.Exactly.{ended, Accepts, Rejects, accepts, accepts-only, rejects, rejects-only}
+use Rattle.arrival.specs.declared.Kind.the-variants.{Link}
+use Rattle.arrival.specs.declared.Judged.the-variants.{Passed}
+use Rattle.arrival.specs.Arrival.{judgedOf}
+use Rattle.drive.specs.declared.Drive.{Drive}
+use Rattle.drive.specs.Entry.{answered, replyBytes, frameIn, frameInBuffer}
+
+-- a PLOGI that is not refused
+pub record LoginIn (d : Drive) (f l : List ℕ) : Type 0 where
+  pub passed : judgedOf (d .unit) (d .port) (headerOf f) f (length l) ≡ Passed Link
+  pub plogi : getD f 24 0 ≡ 3
+
+module _ (d : Drive) (f l : List ℕ) (p : LoginIn d f l) where
+  -- the answer and the buffer are those of the link services' reply
+  pub login-answered : (frameIn d f (length l) ≡ answered d (headerOf f) (linkOf (d .port) (headerOf f) f)) × (frameInBuffer d f l ≡ onto (replyBytes d (headerOf f) (linkOf (d .port) (headerOf f) f)) l)
+  unfolding frameIn frameInBuffer
+  login-answered = rw (p .passed) (refl, refl)
+
+  -- accepted, and stored at the lowest free place: where the size is right, every word test passes and a place is free once the sender's own login has ended
+  pub login-accepts : (a : Accepts (d .port) (headerOf f) f)
+      → frameIn d f (length l) ≡ answered d (headerOf f) (decidedAs (reply.Accept accepted.Login) (withLogin (ended (d .port) (headerOf f)) (a .place) (newLogin (headerOf f .«s_id») (paramsOf f 28))))
+  login-accepts a = login-answered .0 ∙ ap (answered d (headerOf f)) (accepts (d .port) (headerOf f) f (p .plogi) a)
+
+  pub login-accepts-only : linkOf (d .port) (headerOf f) f .reply ≡ reply.Accept accepted.Login → Accepts (d .port) (headerOf f) f
+  login-accepts-only = accepts-only (d .port) (headerOf f) f (p .plogi)
+
+  -- rejected with this reason: exactly where its size is wrong, a word test fails and none before it, or no place is free
+  pub login-rejects : (r x : ℕ) → Rejects (d .port) (headerOf f) f r x → linkOf (d .port) (headerOf f) f .reply ≡ reply.Reject r x
+  login-rejects = rejects (d .port) (headerOf f) f (p .plogi)
+
+  pub login-rejects-only : (r x : ℕ) → linkOf (d .port) (headerOf f) f .reply ≡ reply.Reject r x → Rejects (d .port) (headerOf f) f r x
+  login-rejects-only = rejects-only (d .port) (headerOf f) f (p .plogi)
