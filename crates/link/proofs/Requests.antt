@@ -33,9 +33,9 @@ on-cond P false h k = k
 
 module _ (p : Port) (a ox rx : ℕ) where
   -- ABTS leaves the record of every address as it was
-  pub abts-kept : (b : ℕ) → recordOf (abtsOf p a ox rx .port) b ≡ recordOf p b
+  pub abts-records : (b : ℕ) → recordOf (abtsOf p a ox rx .port) b ≡ recordOf p b
   unfolding abtsOf lookupOf
-  abts-kept b = outer (findLogin p a) refl
+  abts-records b = outer (findLogin p a) refl
     where
       inner : (i : ℕ) → findLogin p a ≡ At i → (y : Found) → recordOf (abortedAt (onFound y (λ j. Open i j) (NoExchange i)) rx p .port) b ≡ recordOf p b
       inner i e (At j) = on-cond (λ d. recordOf (d .port) b ≡ recordOf p b) (eqb rx 0xffff) (exchange-kept p a i e j b) refl
