@@ -18,13 +18,8 @@ use Rattle.state.specs.declared.Change.the-variants.{EndLogin, Unprove, EndUnpr
 use Rattle.state.specs.Changes.{emptyLogin, isUsed, hasAddress, loginAt, withLogin, withProven, withAttention, withoutExchanges, endedOf, unproven, verified, abortedOf, resetOf, losesTo, clearedBy, changedOf, changedAll, poweredOn}
 use Rattle.state.specs.Tables.{isFree, findLogin, freeLogin}
 use Rattle.formed.specs.Formed.{apartAddress}
-use Rattle.link.specs.Record.{Record, out, held, recordAt, recordOf}
+use Rattle.link.specs.Record.{Record, out, held, recordAt, recordOf, doubted}
 use Rattle.link.proofs.Seen.{shown, is-seen, free-has, empty-has, other-has, map-seen, set-seen, set-gone, set-other}
-
--- what "loop reset marks every login unproven" makes of a record
-abbrev pub doubted : Record → Record
-doubted out = out
-doubted (held p v k) = held p false k
 
 -- what "verification time over ends the unproven ones" makes of a record
 abbrev pub expired : Record → Record

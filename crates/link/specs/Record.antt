@@ -49,3 +49,8 @@ paired (held p v k) = held true v k
 abbrev pub unpaired : Record → Record
 unpaired out = out
 unpaired (held p v k) = held false v k
+
+-- what "loop reset marks every login unproven" makes of a record
+abbrev pub doubted : Record → Record
+doubted out = out
+doubted (held p v k) = held p false k

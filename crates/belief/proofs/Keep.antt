@@ -1,0 +1,321 @@
+-- Demand 3 for every drive that keeps the laws of `specs/Side`.
+-- Assumes nothing.
+use mathlib.Core.Path.{_≡_, refl, sym, _∙_, ap, subst}
+use mathlib.Core.Bool.{Bool, true, false, true≢false, false≢true}
+use mathlib.Core.List.{List, [], _∷_}
+use mathlib.Core.Logic.{_⊎_, inl, inr}
+use Rattle.link.specs.Record.{Kept, Record, out, held, proved, paired, unpaired, doubted}
+use Rattle.belief.specs.Host.{Belief, unsure, sure, Request, plogi, pdisc, logo, adisc, prli, prlo, rrq, command, abts}
+use Rattle.belief.specs.Host.{Answer, none, acc, rjt, dlogo, other, same, think, May, MayOut, hears, afterPlogi, afterLogo, afterLink, afterCommand}
+use Rattle.belief.specs.Side.{Side, Laws, Held, Paired, OnPlogi, OnLogo, OnLink, OnCommand, Meets}
+use Rattle.belief.specs.Demand3.{Fate, lost, mute, heard, Event, send, next, pass, reset, lapse, forget, World, sees, lands, step, run, Follows, Keeps, Free, Agrees, Fine, both, some, reaches, start, History, Demand3}
+
+-- The invariant. d: a loss of memory may have come since the last frame that reached the host.
+abbrev Fits : Bool → Belief → Record → Type 0
+Fits d unsure r = Unit {0}
+Fits d (sure x) r = (x ≡ r) ⊎ ((d ≡ true) × (r ≡ out))
+
+-- a frame that reaches the host clears d
+abbrev clear : Bool → Bool → Bool
+clear true d = false
+clear false d = d
+
+module _ where
+  no-login : (r : Record) → r ≡ out → Held r → ⊥
+  no-login r e h = subst Held e h
+
+  weaken : (d : Bool) (b : Belief) (r : Record) → Fits d b r → Fits true b r
+  weaken d unsure r t = tt
+  weaken d (sure x) r (inl e) = inl e
+  weaken d (sure x) r (inr e) = inr (refl, e .1)
+
+  agrees : (b : Belief) (r : Record) → Fits false b r → Agrees b r
+  agrees unsure r t = tt
+  agrees (sure x) r (inl e) = e
+  agrees (sure x) r (inr e) = absurd (false≢true (e .0))
+
+  -- the record is another of the same value
+  moved : (d : Bool) (b : Belief) (r r′ : Record) → r′ ≡ r → Fits d b r → Fits d b r′
+  moved d unsure r r′ e t = tt
+  moved d (sure x) r r′ e (inl p) = inl (p ∙ sym e)
+  moved d (sure x) r r′ e (inr p) = inr (p .0, e ∙ p .1)
+
+  -- where there is a login, a doubted is no doubted
+  firm : (t d : Bool) (b : Belief) (r : Record) → (t ≡ true → Held r) → Fits d b r → Fits (clear t d) b r
+  firm false d b r h p = p
+  firm true d unsure r h p = tt
+  firm true d (sure x) r h (inl p) = inl p
+  firm true d (sure x) r h (inr p) = absurd (no-login r (p .1) (h refl))
+
+  on-plogi : (l : Kept) (a : Answer) (d : Bool) (b : Belief) (r r′ : Record) → OnPlogi l a r′ → Fits (clear (some a) d) (afterPlogi l a b) r′
+  on-plogi l none d b r r′ h = tt
+  on-plogi l acc d b r r′ h = inl (sym h)
+  on-plogi l rjt d b r r′ h = inl (sym h)
+  on-plogi l dlogo d b r r′ h = absurd h
+  on-plogi l other d b r r′ h = absurd h
+
+  on-logo : (a : Answer) (d : Bool) (b : Belief) (r r′ : Record) → OnLogo a r′ → Fits (clear (some a) d) (afterLogo a b) r′
+  on-logo none d b r r′ h = tt
+  on-logo acc d b r r′ h = inl (sym h)
+  on-logo rjt d b r r′ h = absurd h
+  on-logo dlogo d b r r′ h = absurd h
+  on-logo other d b r r′ h = absurd h
+
+  thought : (f : Record → Record) (d : Bool) (b : Belief) (r r′ : Record) → Held r → r′ ≡ f r → Fits d b r → Fits false (think f b) r′
+  thought f d unsure r r′ k e p = tt
+  thought f d (sure x) r r′ k e (inl p) = inl (ap f p ∙ sym e)
+  thought f d (sure x) r r′ k e (inr p) = absurd (no-login r (p .1) k)
+
+  on-link : (f : Record → Record) (a : Answer) (d : Bool) (b : Belief) (r r′ : Record) → OnLink f r a r′ → Fits d b r → Fits (clear (some a) d) (afterLink f a b) r′
+  on-link f none d b r r′ h p = tt
+  on-link f acc d b r r′ h p = thought f d b r r′ (h .0) (h .1) p
+  on-link f rjt d b r r′ h p = moved false b r r′ (h .1) (firm true d b r (λ t. h .0) p)
+  on-link f dlogo d b r r′ h p = inl (sym h)
+  on-link f other d b r r′ h p = absurd h
+
+  -- a host that is sure of a pairing
+  on-command : (a : Answer) (d : Bool) (x r r′ : Record) → Paired x → OnCommand r a r′ → Fits d (sure x) r → Fits (clear (some a) d) (afterCommand a (sure x)) r′
+  on-command none d x r r′ k h p = moved d (sure x) r r′ h p
+  on-command acc d x r r′ k h p = absurd h
+  on-command rjt d x r r′ k h p = absurd h
+  on-command dlogo d x r r′ k h p = inl (sym (h .1))
+  on-command other d x r r′ k h p = moved false (sure x) r r′ (h .1) (firm true d (sure x) r (λ t. h .0) p)
+
+  -- the same, and the host gets to see no answer
+  on-command-mute : (a : Answer) (d : Bool) (x r r′ : Record) → Paired x → OnCommand r a r′ → Fits d (sure x) r → Fits d (sure x) r′
+  on-command-mute none d x r r′ k h p = moved d (sure x) r r′ h p
+  on-command-mute acc d x r r′ k h p = absurd h
+  on-command-mute rjt d x r r′ k h p = absurd h
+  on-command-mute dlogo d x r r′ k h (inl p) = absurd (h .0 (subst Paired p k))
+  on-command-mute dlogo d x r r′ k h (inr p) = inr (p .0, h .1)
+  on-command-mute other d x r r′ k h p = moved d (sure x) r r′ (h .1) p
+
+  -- who may send a command is sure of a pairing
+  pairing : (x : Record) → May (sure x) command → Paired x
+  pairing out m = m
+  pairing (held p false l) m = absurd m
+  pairing (held false true l) m = m
+  pairing (held true true l) m = tt
+
+  abort : (b : Belief) → May b abts → May b command
+  abort unsure m = m
+  abort (sure out) m = m
+  abort (sure (held p false l)) m = m
+  abort (sure (held false true l)) m = m
+  abort (sure (held true true l)) m = m
+
+  commanded : (a : Answer) (d : Bool) (b : Belief) (r r′ : Record) → May b command → OnCommand r a r′ → Fits d b r → Fits (clear (some a) d) (afterCommand a b) r′
+  commanded a d unsure r r′ m h p = absurd m
+  commanded a d (sure x) r r′ m h p = on-command a d x r r′ (pairing x m) h p
+
+  muted : (a : Answer) (d : Bool) (b : Belief) (r r′ : Record) → May b command → OnCommand r a r′ → Fits d b r → Fits d b r′
+  muted a d unsure r r′ m h p = absurd m
+  muted a d (sure x) r r′ m h p = on-command-mute a d x r r′ (pairing x m) h p
+
+  -- request and answer arrive
+  both-arrive : (q : Request) (a : Answer) (d : Bool) (b : Belief) (r r′ : Record) → May b q → Meets r q a r′ → Fits d b r → Fits (clear (some a) d) (hears q a b) r′
+  both-arrive (plogi l) a d b r r′ m h p = on-plogi l a d b r r′ h
+  both-arrive (pdisc l) a d b r r′ m h p = on-link proved a d b r r′ h p
+  both-arrive logo a d b r r′ m h p = on-logo a d b r r′ h
+  both-arrive adisc a d b r r′ m h p = on-link proved a d b r r′ h p
+  both-arrive prli a d b r r′ m h p = on-link paired a d b r r′ h p
+  both-arrive prlo a d b r r′ m h p = on-link unpaired a d b r r′ h p
+  both-arrive rrq a d b r r′ m h p = on-link same a d b r r′ h p
+  both-arrive command a d b r r′ m h p = commanded a d b r r′ m h p
+  both-arrive abts a d b r r′ m h p = commanded a d b r r′ (abort b m) h p
+
+  -- the request arrives, and its answer is lost
+  answer-lost : (q : Request) (a : Answer) (d : Bool) (b : Belief) (r r′ : Record) → May b q → Meets r q a r′ → Fits d b r → Fits d (hears q none b) r′
+  answer-lost (plogi l) a d b r r′ m h p = tt
+  answer-lost (pdisc l) a d b r r′ m h p = tt
+  answer-lost logo a d b r r′ m h p = tt
+  answer-lost adisc a d b r r′ m h p = tt
+  answer-lost prli a d b r r′ m h p = tt
+  answer-lost prlo a d b r r′ m h p = tt
+  answer-lost rrq a d b r r′ m h p = tt
+  answer-lost command a d b r r′ m h p = muted a d b r r′ m h p
+  answer-lost abts a d b r r′ m h p = muted a d b r r′ (abort b m) h p
+
+  -- the request is lost
+  request-lost : (q : Request) (d : Bool) (b : Belief) (r : Record) → Fits d b r → Fits d (hears q none b) r
+  request-lost (plogi l) d b r p = tt
+  request-lost (pdisc l) d b r p = tt
+  request-lost logo d b r p = tt
+  request-lost adisc d b r p = tt
+  request-lost prli d b r p = tt
+  request-lost prlo d b r p = tt
+  request-lost rrq d b r p = tt
+  request-lost command d b r p = p
+  request-lost abts d b r p = p
+
+  -- both sides see a loop reset
+  after-reset : (d : Bool) (b : Belief) (r r′ : Record) → r′ ≡ doubted r → Fits d b r → Fits d (think doubted b) r′
+  after-reset d unsure r r′ e p = tt
+  after-reset d (sure x) r r′ e (inl p) = inl (ap doubted p ∙ sym e)
+  after-reset d (sure x) r r′ e (inr p) = inr (p .0, e ∙ ap doubted (p .1))
+
+  after-lapse : (d : Bool) (b : Belief) (r r′ : Record) → (r′ ≡ r) ⊎ (r′ ≡ out) → Fits d b r → Fits true b r′
+  after-lapse d b r r′ (inl e) p = moved true b r r′ e (weaken d b r p)
+  after-lapse d unsure r r′ (inr e) p = tt
+  after-lapse d (sure x) r r′ (inr e) p = inr (refl, e)
+
+  -- who becomes sure has heard something
+  silence : (q : Request) → hears q none unsure ≡ unsure
+  silence (plogi l) = refl
+  silence (pdisc l) = refl
+  silence logo = refl
+  silence adisc = refl
+  silence prli = refl
+  silence prlo = refl
+  silence rrq = refl
+  silence command = refl
+  silence abts = refl
+
+  Known : Belief → Type 0
+  Known unsure = ⊥
+  Known (sure x) = Unit {0}
+
+  awake : (b : Belief) (x : Record) → b ≡ unsure → b ≡ sure x → ⊥
+  unfolding Known
+  awake b x e h = subst Known (sym h ∙ e) tt
+
+  wakes : (q : Request) (a : Answer) (b : Belief) (x : Record) → b ≡ unsure → hears q a b ≡ sure x → some a ≡ true
+  wakes q none b x e h = absurd (awake (hears q none b) x (ap (hears q none) e ∙ silence q) h)
+  wakes q acc b x e h = refl
+  wakes q rjt b x e h = refl
+  wakes q dlogo b x e h = refl
+  wakes q other b x e h = refl
+
+  -- an answered PLOGI or LOGO
+  settles : (q : Request) (a : Answer) (b : Belief) (r r′ : Record) → MayOut q → some a ≡ true → Meets r q a r′ → hears q a b ≡ sure r′
+  settles (plogi l) none b r r′ m t h = absurd (false≢true t)
+  settles (plogi l) acc b r r′ m t h = ap sure (sym h)
+  settles (plogi l) rjt b r r′ m t h = ap sure (sym h)
+  settles (plogi l) dlogo b r r′ m t h = absurd h
+  settles (plogi l) other b r r′ m t h = absurd h
+  settles (pdisc l) a b r r′ m t h = absurd m
+  settles logo none b r r′ m t h = absurd (false≢true t)
+  settles logo acc b r r′ m t h = ap sure (sym h)
+  settles logo rjt b r r′ m t h = absurd h
+  settles logo dlogo b r r′ m t h = absurd h
+  settles logo other b r r′ m t h = absurd h
+  settles adisc a b r r′ m t h = absurd m
+  settles prli a b r r′ m t h = absurd m
+  settles prlo a b r r′ m t h = absurd m
+  settles rrq a b r r′ m t h = absurd m
+  settles command a b r r′ m t h = absurd m
+  settles abts a b r r′ m t h = absurd m
+
+both-right : (b t : Bool) → both b t ≡ true → t ≡ true
+both-right true t e = e
+both-right false t e = absurd (false≢true e)
+
+module _ (D : Side) (laws : Laws D) where
+  record Good (d : Bool) (w : World D) : Type 0 where
+    formed : D .Wf (w .drive)
+    fits : Fits d (w .belief) (D .login (w .drive))
+
+  -- d after an event
+  abbrev later : World D → Bool → Event D → Bool
+  later w d (send f x) = clear (reaches D w (send f x)) d
+  later w d (next c b) = clear (reaches D w (next c b)) d
+  later w d (pass x) = d
+  later w d reset = d
+  later w d (lapse x) = true
+  later w d forget = d
+
+  sent : (f : D .Sent) (x : Fate) (d : Bool) (w : World D) → May (w .belief) (D .asks f) → Good d w → Good (later w d (send f x)) (step D w (send f x))
+  sent f lost d w m g = record { formed = g .formed; fits = request-lost (D .asks f) d (w .belief) (D .login (w .drive)) (g .fits) }
+  sent f mute d w m g = record {
+    formed = laws .take-wf (w .drive) f (g .formed);
+    fits = answer-lost (D .asks f) (D .answer (w .drive) f) d (w .belief) (D .login (w .drive)) (D .login (D .take (w .drive) f)) m (laws .takes (w .drive) f (g .formed)) (g .fits);
+  }
+  sent f heard d w m g = record {
+    formed = laws .take-wf (w .drive) f (g .formed);
+    fits = both-arrive (D .asks f) (D .answer (w .drive) f) d (w .belief) (D .login (w .drive)) (D .login (D .take (w .drive) f)) m (laws .takes (w .drive) f (g .formed)) (g .fits);
+  }
+
+  stepped : (e : Event D) (d : Bool) (w : World D) → Follows D w e → Good d w → Good (later w d e) (step D w e)
+  stepped (send f x) d w m g = sent f x d w m g
+  stepped (next c b) d w m g = record {
+    formed = laws .call-wf (w .drive) c (g .formed);
+    fits = moved (later w d (next c b)) (w .belief) (D .login (w .drive)) (D .login (D .call (w .drive) c)) (laws .calls (w .drive) c (g .formed))
+        (firm (reaches D w (next c b)) d (w .belief) (D .login (w .drive)) (λ t. laws .speaks-held (w .drive) c (g .formed) (both-right b (D .speaks (w .drive) c) t)) (g .fits));
+  }
+  stepped (pass x) d w m g = record {
+    formed = laws .pass-wf (w .drive) x (g .formed);
+    fits = moved d (w .belief) (D .login (w .drive)) (D .login (D .pass (w .drive) x)) (laws .passes (w .drive) x (g .formed)) (g .fits);
+  }
+  stepped reset d w m g = record {
+    formed = laws .reset-wf (w .drive) (g .formed);
+    fits = after-reset d (w .belief) (D .login (w .drive)) (D .login (D .reset (w .drive))) (laws .resets (w .drive) (g .formed)) (g .fits);
+  }
+  stepped (lapse x) d w m g = record {
+    formed = laws .lapse-wf (w .drive) x (g .formed);
+    fits = after-lapse d (w .belief) (D .login (w .drive)) (D .login (D .lapse (w .drive) x)) (laws .lapses (w .drive) x (g .formed)) (g .fits);
+  }
+  stepped forget d w m g = record { formed = g .formed; fits = tt }
+
+  weak : (d : Bool) (w : World D) → Good d w → Good true w
+  weak d w g = record { formed = g .formed; fits = weaken d (w .belief) (D .login (w .drive)) (g .fits) }
+
+  -- over every history
+  always : (h : List (Event D)) (w : World D) → Keeps D w h → Good true w → Good true (run D w h)
+  always [] w k g = g
+  always (e ∷ h) w k g = always h (step D w e) (k .1) (weak (later w true e) (step D w e) (stepped e true w (k .0) g))
+
+  calm : (t : Bool) → clear t false ≡ false
+  calm true = refl
+  calm false = refl
+
+  clean : (d : Bool) (w : World D) → d ≡ false → Good d w → Good false w
+  clean d w e g = subst (λ (x : Bool). Good x w) e g
+
+  -- over every history without a loss of memory
+  between : (h : List (Event D)) (w : World D) → Keeps D w h → Free D h → Good false w → Good false (run D w h)
+  between [] w k q g = g
+  between (send f x ∷ h) w k q g = between h (step D w (send f x)) (k .1) q (clean (later w false (send f x)) (step D w (send f x)) (calm (reaches D w (send f x))) (stepped (send f x) false w (k .0) g))
+  between (next c b ∷ h) w k q g = between h (step D w (next c b)) (k .1) q (clean (later w false (next c b)) (step D w (next c b)) (calm (reaches D w (next c b))) (stepped (next c b) false w (k .0) g))
+  between (pass x ∷ h) w k q g = between h (step D w (pass x)) (k .1) q (stepped (pass x) false w (k .0) g)
+  between (reset ∷ h) w k q g = between h (step D w reset) (k .1) q (stepped reset false w (k .0) g)
+  between (lapse x ∷ h) w k q g = absurd q
+  between (forget ∷ h) w k q g = between h (step D w forget) (k .1) q (stepped forget false w (k .0) g)
+
+  -- a frame that reaches the host
+  cleared : (e : Event D) (d : Bool) (w : World D) → reaches D w e ≡ true → later w d e ≡ false
+  cleared (send f x) d w t = ap (λ (u : Bool). clear u d) t
+  cleared (next c b) d w t = ap (λ (u : Bool). clear u d) t
+  cleared (pass x) d w t = absurd (false≢true t)
+  cleared reset d w t = absurd (false≢true t)
+  cleared (lapse x) d w t = absurd (false≢true t)
+  cleared forget d w t = absurd (false≢true t)
+
+  begun : (s : D .State) → D .Wf s → Good true (start D s)
+  begun s k = record { formed = k; fits = tt }
+
+  again : (s : D .State) (h₁ : List (Event D)) (e : Event D) (h₂ : List (Event D)) → History D s h₁ e h₂ → reaches D (run D (start D s) h₁) e ≡ true →
+      Free D h₂ → Fine D (run D (step D (run D (start D s) h₁) e) h₂)
+  again s h₁ e h₂ k t q =
+      let w : World D = run D (start D s) h₁ in
+      let g : Good true w = always h₁ (start D s) (k .first) (begun s (k .formed)) in
+      let g₂ : Good false (step D w e) = clean (later w true e) (step D w e) (cleared e true w t) (stepped e true w (k .then) g) in
+      let g₃ : Good false (run D (step D w e) h₂) = between h₂ (step D w e) (k .last) q g₂ in
+      agrees ((run D (step D w e) h₂) .belief) (D .login ((run D (step D w e) h₂) .drive)) (g₃ .fits)
+
+  wake : (e : Event D) (w : World D) (x : Record) → w .belief ≡ unsure → (step D w e) .belief ≡ sure x → reaches D w e ≡ true
+  wake (send f y) w x u v = wakes (D .asks f) (sees y (D .answer (w .drive) f)) (w .belief) x u v
+  wake (next c b) w x u v = absurd (awake (w .belief) x u v)
+  wake (pass y) w x u v = absurd (awake (w .belief) x u v)
+  wake reset w x u v = absurd (awake (think doubted (w .belief)) x (ap (think doubted) u) v)
+  wake (lapse y) w x u v = absurd (awake (w .belief) x u v)
+  wake forget w x u v = absurd (awake unsure x refl v)
+
+  pub demand3 : Demand3 D
+  demand3 = record {
+    sure-until = λ s h₁ e h₂ x k u v q. again s h₁ e h₂ k (wake e (run D (start D s) h₁) x u v) q;
+    right-again = again;
+    ends-doubt = λ s h₁ f k m t.
+        let w : World D = run D (start D s) h₁ in
+        let g : Good true w = always h₁ (start D s) (k .first) (begun s (k .formed)) in
+        settles (D .asks f) (D .answer (w .drive) f) (w .belief) (D .login (w .drive)) (D .login (D .take (w .drive) f)) m t (laws .takes (w .drive) f (g .formed));
+  }

@@ -1,0 +1,126 @@
+-- Demand 3: histories, and the three things that it says of them.
+-- Assumes nothing.
+use mathlib.Core.Path.{_≡_}
+use mathlib.Core.Bool.{Bool, true, false}
+use mathlib.Core.List.{List, [], _∷_}
+use Rattle.link.specs.Record.{Record, doubted}
+use Rattle.belief.specs.Host.{Belief, unsure, sure, Request, Answer, none, acc, rjt, dlogo, other, think, May, MayOut, hears}
+use Rattle.belief.specs.Side.{Side}
+
+-- The loop's choice: the request is lost; it arrives and its answer is lost; both arrive.
+pub data Fate : Type 0 where
+  lost mute heard : Fate
+
+pub data Event (D : Side) : Type 0 where
+  send : D .Sent → Fate → Event D
+  -- a next frame for this host is called for, and the loop delivers it (true) or loses it (false)
+  next : D .Call → Bool → Event D
+  pass : D .Else → Event D
+  reset : Event D
+  lapse : D .Lapse → Event D
+  -- the host grows unsure of itself
+  forget : Event D
+
+pub record World (D : Side) : Type 0 where
+  pub drive : D .State
+  pub belief : Belief
+
+-- what the host gets to see of an answer
+abbrev pub sees : Fate → Answer → Answer
+sees lost a = none
+sees mute a = none
+sees heard a = a
+
+-- the drive's next state
+abbrev pub lands : (D : Side) → Fate → D .State → D .Sent → D .State
+lands D lost s f = s
+lands D mute s f = D .take s f
+lands D heard s f = D .take s f
+
+abbrev pub step : (D : Side) → World D → Event D → World D
+step D w (send f x) = record { drive = lands D x (w .drive) f; belief = hears (D .asks f) (sees x (D .answer (w .drive) f)) (w .belief) }
+step D w (next c b) = record { drive = D .call (w .drive) c; belief = w .belief }
+step D w (pass x) = record { drive = D .pass (w .drive) x; belief = w .belief }
+step D w reset = record { drive = D .reset (w .drive); belief = think doubted (w .belief) }
+step D w (lapse x) = record { drive = D .lapse (w .drive) x; belief = w .belief }
+step D w forget = record { drive = w .drive; belief = unsure }
+
+abbrev pub run : (D : Side) → World D → List (Event D) → World D
+run D w [] = w
+run D w (e ∷ h) = run D (step D w e) h
+
+-- the host keeps its rules
+abbrev pub Follows : (D : Side) → World D → Event D → Type 0
+Follows D w (send f x) = May (w .belief) (D .asks f)
+Follows D w (next c b) = Unit {0}
+Follows D w (pass x) = Unit {0}
+Follows D w reset = Unit {0}
+Follows D w (lapse x) = Unit {0}
+Follows D w forget = Unit {0}
+
+abbrev pub Keeps : (D : Side) → World D → List (Event D) → Type 0
+Keeps D w [] = Unit {0}
+Keeps D w (e ∷ h) = Follows D w e × Keeps D (step D w e) h
+
+-- no loss of memory
+abbrev pub Free : (D : Side) → List (Event D) → Type 0
+Free D [] = Unit {0}
+Free D (send f x ∷ h) = Free D h
+Free D (next c b ∷ h) = Free D h
+Free D (pass x ∷ h) = Free D h
+Free D (reset ∷ h) = Free D h
+Free D (lapse x ∷ h) = ⊥
+Free D (forget ∷ h) = Free D h
+
+-- the host is unsure, or its belief equals the drive's record
+abbrev pub Agrees : Belief → Record → Type 0
+Agrees unsure r = Unit {0}
+Agrees (sure x) r = x ≡ r
+
+abbrev pub Fine : (D : Side) → World D → Type 0
+Fine D w = Agrees (w .belief) (D .login (w .drive))
+
+abbrev pub both : Bool → Bool → Bool
+both true b = b
+both false b = false
+
+abbrev pub some : Answer → Bool
+some none = false
+some acc = true
+some rjt = true
+some dlogo = true
+some other = true
+
+-- a frame from the drive reaches the host
+abbrev pub reaches : (D : Side) → World D → Event D → Bool
+reaches D w (send f x) = some (sees x (D .answer (w .drive) f))
+reaches D w (next c b) = both b (D .speaks (w .drive) c)
+reaches D w (pass x) = false
+reaches D w reset = false
+reaches D w (lapse x) = false
+reaches D w forget = false
+
+-- unsure at first, with any well-formed drive
+abbrev pub start : (D : Side) → D .State → World D
+start D s = record { drive = s; belief = unsure }
+
+-- A history h₁, then an event e, then h₂, in all of which the host keeps its rules.
+pub record History (D : Side) (s : D .State) (h₁ : List (Event D)) (e : Event D) (h₂ : List (Event D)) : Type 0 where
+  pub formed : D .Wf s
+  pub first : Keeps D (start D s) h₁
+  pub then : Follows D (run D (start D s) h₁) e
+  pub last : Keeps D (step D (run D (start D s) h₁) e) h₂
+
+pub record Demand3 (D : Side) : Type 0 where
+  -- from the moment that the host becomes sure (by e) until a loss of memory
+  pub sure-until : (s : D .State) (h₁ : List (Event D)) (e : Event D) (h₂ : List (Event D)) (x : Record) → History D s h₁ e h₂ →
+      (run D (start D s) h₁) .belief ≡ unsure → (step D (run D (start D s) h₁) e) .belief ≡ sure x →
+      Free D h₂ → Fine D (run D (step D (run D (start D s) h₁) e) h₂)
+  -- after any losses of memory, from the moment that a frame from the drive reaches the host (by e) until the next
+  pub right-again : (s : D .State) (h₁ : List (Event D)) (e : Event D) (h₂ : List (Event D)) → History D s h₁ e h₂ →
+      reaches D (run D (start D s) h₁) e ≡ true →
+      Free D h₂ → Fine D (run D (step D (run D (start D s) h₁) e) h₂)
+  -- an answered PLOGI or LOGO: sure, and right
+  pub ends-doubt : (s : D .State) (h₁ : List (Event D)) (f : D .Sent) → History D s h₁ (send f heard) [] →
+      MayOut (D .asks f) → reaches D (run D (start D s) h₁) (send f heard) ≡ true →
+      (step D (run D (start D s) h₁) (send f heard)) .belief ≡ sure (D .login ((step D (run D (start D s) h₁) (send f heard)) .drive))

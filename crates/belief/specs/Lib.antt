@@ -1,0 +1,3 @@
+pub mod Host
+pub mod Side
+pub mod Demand3

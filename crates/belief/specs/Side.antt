@@ -1,0 +1,95 @@
+-- A drive as demand 3 sees it, for one host's address: an interface, so that impostors can be spoken of too, and the laws that the proof needs of it.
+-- The drive itself, over bytes, is one: `specs/Wire.antt`.
+-- Assumes nothing.
+use mathlib.Core.Path.{_≡_}
+use mathlib.Core.Bool.{Bool, true, false}
+use mathlib.Core.Logic.{_⊎_}
+use Rattle.link.specs.Record.{Kept, Record, out, held, proved, paired, unpaired, doubted}
+use Rattle.belief.specs.Host.{Request, plogi, pdisc, logo, adisc, prli, prlo, rrq, command, abts, Answer, none, acc, rjt, dlogo, other, same}
+
+pub record Side : Type 1 where
+  pub State : Type 0
+  pub Wf : State → Type 0
+  -- the login record for the host's address
+  pub login : State → Record
+  -- a frame of this host as it arrives, with the buffer that the port lends; what it asks; the answer; the next state
+  pub Sent : Type 0
+  pub asks : Sent → Request
+  pub answer : State → Sent → Answer
+  pub take : State → Sent → State
+  -- a call for the next frame to this host: does one come out; the next state
+  pub Call : Type 0
+  pub speaks : State → Call → Bool
+  pub call : State → Call → State
+  -- all that else may happen: frames of other ports, next frames to other ports, calls of every kind that are refused
+  pub Else : Type 0
+  pub pass : State → Else → State
+  pub reset : State → State
+  -- losses of memory: power on, verification time over
+  pub Lapse : Type 0
+  pub lapse : State → Lapse → State
+
+abbrev pub Held : Record → Type 0
+Held out = ⊥
+Held (held p v l) = Unit {0}
+
+abbrev pub Paired : Record → Type 0
+Paired out = ⊥
+Paired (held false v l) = ⊥
+Paired (held true v l) = Unit {0}
+
+-- What each kind of request may be answered with, and the record r′ after it, from the record r before it.
+abbrev pub OnPlogi : Kept → Answer → Record → Type 0
+OnPlogi l none r′ = Unit {0}
+OnPlogi l acc r′ = r′ ≡ held false true l
+OnPlogi l rjt r′ = r′ ≡ out
+OnPlogi l dlogo r′ = ⊥
+OnPlogi l other r′ = ⊥
+
+abbrev pub OnLogo : Answer → Record → Type 0
+OnLogo none r′ = Unit {0}
+OnLogo acc r′ = r′ ≡ out
+OnLogo rjt r′ = ⊥
+OnLogo dlogo r′ = ⊥
+OnLogo other r′ = ⊥
+
+abbrev pub OnLink : (Record → Record) → Record → Answer → Record → Type 0
+OnLink f r none r′ = Unit {0}
+OnLink f r acc r′ = Held r × (r′ ≡ f r)
+OnLink f r rjt r′ = Held r × (r′ ≡ r)
+OnLink f r dlogo r′ = r′ ≡ out
+OnLink f r other r′ = ⊥
+
+abbrev pub OnCommand : Record → Answer → Record → Type 0
+OnCommand r none r′ = r′ ≡ r
+OnCommand r acc r′ = ⊥
+OnCommand r rjt r′ = ⊥
+OnCommand r dlogo r′ = (¬ (Paired r)) × (r′ ≡ out)
+OnCommand r other r′ = Held r × (r′ ≡ r)
+
+abbrev pub Meets : Record → Request → Answer → Record → Type 0
+Meets r (plogi l) a r′ = OnPlogi l a r′
+Meets r logo a r′ = OnLogo a r′
+Meets r (pdisc l) a r′ = OnLink proved r a r′
+Meets r adisc a r′ = OnLink proved r a r′
+Meets r prli a r′ = OnLink paired r a r′
+Meets r prlo a r′ = OnLink unpaired r a r′
+Meets r rrq a r′ = OnLink same r a r′
+Meets r command a r′ = OnCommand r a r′
+Meets r abts a r′ = OnCommand r a r′
+
+pub record Laws (D : Side) : Type 0 where
+  pub take-wf : (s : D .State) (f : D .Sent) → D .Wf s → D .Wf (D .take s f)
+  pub call-wf : (s : D .State) (c : D .Call) → D .Wf s → D .Wf (D .call s c)
+  pub pass-wf : (s : D .State) (x : D .Else) → D .Wf s → D .Wf (D .pass s x)
+  pub reset-wf : (s : D .State) → D .Wf s → D .Wf (D .reset s)
+  pub lapse-wf : (s : D .State) (x : D .Lapse) → D .Wf s → D .Wf (D .lapse s x)
+  -- a frame of the host
+  pub takes : (s : D .State) (f : D .Sent) → D .Wf s → Meets (D .login s) (D .asks f) (D .answer s f) (D .login (D .take s f))
+  -- a next frame changes no record, and comes out only where there is a login
+  pub calls : (s : D .State) (c : D .Call) → D .Wf s → D .login (D .call s c) ≡ D .login s
+  pub speaks-held : (s : D .State) (c : D .Call) → D .Wf s → D .speaks s c ≡ true → Held (D .login s)
+  -- nothing else touches this host's record
+  pub passes : (s : D .State) (x : D .Else) → D .Wf s → D .login (D .pass s x) ≡ D .login s
+  pub resets : (s : D .State) → D .Wf s → D .login (D .reset s) ≡ doubted (D .login s)
+  pub lapses : (s : D .State) (x : D .Lapse) → D .Wf s → (D .login (D .lapse s x) ≡ D .login s) ⊎ (D .login (D .lapse s x) ≡ out)
