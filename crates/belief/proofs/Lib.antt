@@ -1,2 +1,5 @@
 pub mod Keep
 pub mod Impostor
+pub mod Reading
+pub mod Takes
+pub mod Instance

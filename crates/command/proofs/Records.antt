@@ -73,7 +73,7 @@ moves-says capacity l ox c (opens true j e p n none) = (λ a. refl, refl)
 moves-says capacity l ox c (opens false j e p n none) = (λ a. refl, refl)
 
 -- a command is answered with nothing or FCP_RSP
-data Spoken : Reply → Type 0 where
+pub data Spoken : Reply → Type 0 where
   silent : Spoken reply.Nothing
   responds : (x : Response) → Spoken (reply.Respond x)
 
@@ -162,7 +162,7 @@ module _ (capacity : ℕ) (p : Port) (h : Header) (f : List ℕ) (d : pairs apar
   pub command-paired : isPaired (recordOf p from) ≡ true → (b : ℕ) → recordOf (commandOf capacity p h f .port) b ≡ recordOf p b
   command-paired r = paired-is r Same commanded-same
 
-  command-spoken : isPaired (recordOf p from) ≡ true → Spoken (commandOf capacity p h f .reply)
+  pub command-spoken : isPaired (recordOf p from) ≡ true → Spoken (commandOf capacity p h f .reply)
   command-spoken r = paired-is r (λ x. Spoken (x .reply)) (λ i e. commanded-spoken i)
 
   -- from any other sender: a drive LOGO, and its login ends

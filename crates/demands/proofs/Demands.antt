@@ -23,7 +23,8 @@ use Rattle.drive.specs.declared.Said.the-variants.{Sent, Refused}
 use Rattle.drive.specs.Drive.{madeFrom, noDrive, silent, refused, newAnswer, afterEvent, eventAnswer}
 use Rattle.drive.specs.Entry.{frameIn, frameInBuffer, nextFrame, nextFrameBuffer}
 use Rattle.drive.proofs.Made.{new-refused, new-made, event-refused, event-answered}
-use Rattle.demands.proofs.Reach.{fine, Driven, driven-fine}
+use Rattle.drive.proofs.Keeping.{fine}
+use Rattle.demands.proofs.Reach.{Driven, driven-fine}
 use Rattle.demands.proofs.Refusals.{frame-first, frame-refuses, FirstOut, next-first, next-refuses, next-unchanged}
 use Rattle.demands.proofs.Numbers.{KnownNumbers, known-numbers}
 

@@ -1,6 +1,6 @@
 -- No frame in makes a drive ill formed, so a made drive is never refused with 2. Assumes nothing.
 use mathlib.Core.Path.{_≡_, refl, sym, ap, _∙_}
-use mathlib.Core.Bool.{Bool, true, false, not, _||_}
+use mathlib.Core.Bool.{Bool, true, false, cond, not, _||_}
 use mathlib.Core.List.{List}
 use Prim.Native.Nat.{ℕ}
 use lib.Dec.{eqb}
@@ -16,16 +16,19 @@ use Rattle.state.specs.declared.Unit.{Unit}
 use Rattle.formed.specs.Formed.{wellFormed}
 use Rattle.link.proofs.Keeping.{link-kept, abts-kept}
 use Rattle.command.proofs.Keeping.{command-kept}
+use Rattle.serve.proofs.Keeping.{next-kept}
 use Rattle.arrival.specs.declared.Kind.{Kind}
 use Rattle.arrival.specs.declared.Kind.the-variants.{Link, Done, Abort, Command}
 use Rattle.arrival.specs.declared.Judged.{Judged}
 use Rattle.arrival.specs.declared.Judged.the-variants as judged
-use Rattle.arrival.specs.Arrival.{badSource, judgedOf}
+use Rattle.arrival.specs.Arrival.{shortBuffer, badSource, judgedOf}
 use Rattle.arrival.proofs.Passes.{Passes, passed}
 use Rattle.drive.specs.declared.Drive.{Drive}
 use Rattle.drive.specs.declared.Answer.{Answer}
-use Rattle.drive.specs.Drive.{refused}
-use Rattle.drive.specs.Entry.{decidedOf, decidedIn, answered, onJudged, frameIn}
+use Rattle.drive.specs.declared.Event.{Event}
+use Rattle.drive.specs.Drive.{refused, eventAnswer}
+use Rattle.drive.proofs.Made.{event-kept, event-answered}
+use Rattle.drive.specs.Entry.{decidedOf, decidedIn, answered, onJudged, frameIn, nextFrame}
 
 -- a sender that passes is a valid address and not ours
 pub source-valid : (own from : ℕ) → badSource own from ≡ false → validAddress from ≡ true
@@ -54,3 +57,21 @@ frame-kept d f room known w = step (judgedOf (d .unit) (d .port) (headerOf f) f 
     step : (j : Judged) → judgedOf (d .unit) (d .port) (headerOf f) f room ≡ j → fine (onJudged j (λ x. refused x d) (λ k. answered d (headerOf f) (decidedIn d f k)))
     step (judged.Refused x) e = w
     step (judged.Passed k) e = decided-kept (d .unit) (d .port) (headerOf f) k f known (passed (d .unit) (d .port) (headerOf f) f room k e .from) w
+
+-- a drive that is well formed
+abbrev pub fine : Drive → Bool
+fine d = wellFormed (d .unit) (d .port)
+
+either-fine : (b : Bool) (x y : Answer) → fine (x .drive) ≡ true → fine (y .drive) ≡ true → fine (cond b x y .drive) ≡ true
+either-fine true x y p q = p
+either-fine false x y p q = q
+
+-- every next frame out keeps a drive well formed, refused or given
+pub next-frame-kept : (d : Drive) (a x start : ℕ) (W : List ℕ) (room : ℕ) → fine d ≡ true → fine (nextFrame d a x start W room .drive) ≡ true
+unfolding nextFrame
+next-frame-kept d a x start W room w =
+    either-fine (shortBuffer room) _ _ w (either-fine (not (fine d)) _ _ w (next-kept (d .unit) (d .port) a x start W room w))
+
+-- and every event
+pub event-fine : (d : Drive) (e : Event) → fine d ≡ true → fine (eventAnswer d e .drive) ≡ true
+event-fine d e w = rw (event-answered d e w) (event-kept e d w)

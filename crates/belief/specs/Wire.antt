@@ -1,0 +1,113 @@
+-- The drive itself as demand 3 sees it: its entries' definitions of record over bytes, for the host of one address (document 01, "The host's rules").
+use Prim.Native.Nat.{ℕ, _+_}
+use mathlib.Core.Path.{_≡_}
+use mathlib.Core.Bool.{Bool, true, false, cond}
+use mathlib.Core.List.{List}
+use lib.Dec.{eqb}
+use lib.ListN.{length, getD}
+use Rattle.wire.specs.Bytes.{num}
+use Rattle.wire.specs.Layout.{AllBytes}
+use Rattle.frame.specs.Head.{headerOf}
+use Rattle.params.specs.Words.{paramsOf}
+use Rattle.formed.specs.Formed.{wellFormed}
+use Rattle.link.specs.Record.{Kept, Record, keptFrom, recordOf}
+use Rattle.drive.specs.declared.Drive.{Drive}
+use Rattle.drive.specs.declared.Said.{Said}
+use Rattle.drive.specs.declared.Said.the-variants.{Sent, Refused}
+use Rattle.drive.specs.declared.Event.the-variants.{LoopReset, TimeOver, PowerOn}
+use Rattle.drive.specs.Drive.{eventAnswer}
+use Rattle.drive.specs.Entry.{frameIn, frameInBuffer, nextFrame}
+use Rattle.belief.specs.Host.{Request, plogi, pdisc, logo, adisc, prli, prlo, rrq, command, abts, Answer, none, acc, rjt, dlogo, other}
+use Rattle.belief.specs.Side.{Side}
+
+-- a frame of the host of address a with this R_CTL; one whose other fields are wrong is refused, "and a frame the drive refuses counts as lost"
+pub record Framed (a : ℕ) (f : List ℕ) (rctl : ℕ) : Type 0 where
+  pub routing : headerOf f .«r_ctl» ≡ rctl
+  pub source : headerOf f .«s_id» ≡ a
+
+-- a link request "of right form, code and size"
+pub record Linked (a : ℕ) (f : List ℕ) (code size : ℕ) : Type 0 where
+  pub form : Framed a f 0x22
+  pub coded : getD f 24 0 ≡ code
+  pub sized : length f ≡ 24 + size
+
+-- the bytes f make the request; "a LOGO with its own address"; names and parameters are those that the drive stores
+abbrev pub Makes : ℕ → List ℕ → Request → Type 0
+Makes a f (plogi k) = Linked a f 0x03 116 × (k ≡ keptFrom (paramsOf f 28))
+Makes a f (pdisc k) = Linked a f 0x50 116 × (k ≡ keptFrom (paramsOf f 28))
+Makes a f logo = Linked a f 0x05 16 × (num 3 f 29 ≡ a)
+Makes a f adisc = Linked a f 0x52 28
+Makes a f prli = Linked a f 0x20 20
+Makes a f prlo = Linked a f 0x21 20
+Makes a f rrq = Linked a f 0x12 44
+Makes a f command = Framed a f 0x06
+Makes a f abts = Framed a f 0x81
+
+-- a frame of the host as it arrives, with the buffer that the port lends, of any size and contents
+pub record FromHost (a : ℕ) : Type 0 where
+  pub request : Request
+  pub bytes : List ℕ
+  pub buffer : List ℕ
+  pub known : AllBytes bytes
+  pub makes : Makes a bytes request
+
+-- what the n bytes of a reply at the front of the buffer say, by R_CTL and the first byte of the payload
+abbrev pub answerOf : ℕ → List ℕ → Answer
+answerOf n l = cond (eqb n 0) none (cond (eqb (getD l 0 0) 0x23) (cond (eqb (getD l 24 0) 0x02) acc rjt) (cond (eqb (getD l 0 0) 0x22) dlogo other))
+
+-- nothing comes back of a frame that is refused
+abbrev pub heardOf : Said → List ℕ → Answer
+heardOf (Sent n) l = answerOf n l
+heardOf (Refused x) l = none
+
+-- a call for the next frame to the host, with any window and buffer
+pub record ForHost : Type 0 where
+  pub ox : ℕ
+  pub start : ℕ
+  pub window : List ℕ
+  pub buffer : List ℕ
+
+-- a frame comes out
+abbrev pub isSent : Said → Bool
+isSent (Sent n) = true
+isSent (Refused x) = false
+
+-- what else happens: "other ports sending what they like" under other addresses, next frames to these, and answers (23h) of any port
+pub data Others (a : ℕ) : Type 0 where
+  frame : (f buffer : List ℕ) → AllBytes f → (headerOf f .«s_id» ≡ a → ⊥) → Others a
+  answer : (f buffer : List ℕ) → AllBytes f → headerOf f .«r_ctl» ≡ 0x23 → Others a
+  next : (b ox start : ℕ) (window buffer : List ℕ) → (b ≡ a → ⊥) → Others a
+
+abbrev pub others : {a : ℕ} → Drive → Others a → Drive
+others d (frame f l k n) = frameIn d f (length l) .drive
+others d (answer f l k r) = frameIn d f (length l) .drive
+others d (next b x start W l n) = nextFrame d b x start W (length l) .drive
+
+-- losses of memory: "until the drive powers on or its verification time runs out"
+pub data Loss : Type 0 where
+  power-on time-over : Loss
+
+abbrev pub afterLoss : Drive → Loss → Drive
+afterLoss d power-on = eventAnswer d PowerOn .drive
+afterLoss d time-over = eventAnswer d TimeOver .drive
+
+-- the drive, for the host of address a
+abbrev pub theDrive : ℕ → Side
+theDrive a =
+    record {
+      State = Drive;
+      Wf = λ d. wellFormed (d .unit) (d .port) ≡ true;
+      login = λ d. recordOf (d .port) a;
+      Sent = FromHost a;
+      asks = λ f. f .request;
+      answer = λ d f. heardOf (frameIn d (f .bytes) (length (f .buffer)) .said) (frameInBuffer d (f .bytes) (f .buffer));
+      take = λ d f. frameIn d (f .bytes) (length (f .buffer)) .drive;
+      Call = ForHost;
+      speaks = λ d c. isSent (nextFrame d a (c .ox) (c .start) (c .window) (length (c .buffer)) .said);
+      call = λ d c. nextFrame d a (c .ox) (c .start) (c .window) (length (c .buffer)) .drive;
+      Else = Others a;
+      pass = others;
+      reset = λ d. eventAnswer d LoopReset .drive;
+      Lapse = Loss;
+      lapse = afterLoss;
+    }
