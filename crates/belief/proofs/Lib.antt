@@ -3,3 +3,4 @@ pub mod Impostor
 pub mod Reading
 pub mod Takes
 pub mod Instance
+pub mod Histories

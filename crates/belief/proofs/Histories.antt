@@ -1,0 +1,124 @@
+-- Demand 3 is not empty: a host that keeps its rules logs in and pairs; after power on it is sure and wrong, until the next frame puts it right. Assumes nothing.
+use Prim.Native.Nat.{ℕ, _<_}
+use mathlib.Core.Path.{_≡_, refl, sym, ap, _∙_}
+use mathlib.Core.Bool.{Bool, true, false}
+use mathlib.Core.List.{List, [], _∷_}
+use native.Mathlib.Decide.{decLe}
+use native.Mathlib.Omega.{arith}
+use lib.Dec.{ltb}
+use lib.ListN.{length, getD, replicate, List·getD-eq-default}
+use borrow.Author.Tests.{ltb-true}
+use Rattle.tables.specs.Lists.{all}
+use Rattle.tables.proofs.Keeping.{all-at}
+use Rattle.wire.specs.Bytes.{onto}
+use Rattle.wire.specs.Layout.{AllBytes}
+use Rattle.frame.specs.Head.{headerOf, headerBytes}
+use Rattle.address.specs.Address.{validAddress}
+use Rattle.params.specs.Words.{paramsOf, sizeFails, zeroName, verdictOf, setupPasses}
+use Rattle.state.specs.Changes.{loginAt, exchangeAt, withLogin, withExchange, hasAddress, endedOf, changedAll, poweredOn}
+use Rattle.state.specs.Tables.{hasId, findLogin, freeLogin, findExchange, freeExchange, lookupOf}
+use Rattle.formed.specs.Formed.{setupRules, readFits, wantedFits, sentFits, exchangeFine, apartId, paramsFine, flagsFine, addressFine, usedFine, loginFine, apartAddress, wellFormed}
+use Rattle.reply.specs.Payload.{shortBytes, loginBytes, pairBytes, rejectBytes, logoutBytes, statusBytes, codeBytes, senseBytes}
+use Rattle.reply.specs.Reply.{answerHead, logoutHead, dataHead, filled, bytesOf}
+use Rattle.residual.specs.Residual.{residualOf}
+use Rattle.link.specs.Link.{sizeOf, newLogin, outcomeOf, plogiOf, pageFine, pairFine, prliOf, serviceOf, linkOf}
+use Rattle.link.specs.Record.{Kept, Record, out, held, keptFrom, recordOf}
+use Rattle.command.specs.Cmnd.{cmndOf, malformed, taskFor, taskOf}
+use Rattle.command.specs.Tests.{skips, otherUnit, attends, unknownCode, inquiryField, capacityField, fieldSet, outside, exchangeFor, askedOf}
+use Rattle.command.specs.Command.{refusedWith, toldOf, answerOf, executeOf, commandedAt, loggedOut, commandOf}
+use Rattle.serve.specs.Next.{ownOf}
+use Rattle.arrival.specs.Arrival.{badSize, badSource, knownPair, unknownForm, spared, unprovenLogin, unprovenCall, kindOf, judgedOf}
+use Rattle.drive.specs.declared.Drive.{Drive}
+use Rattle.drive.specs.Drive.{madeFrom, afterEvent, eventAnswer}
+use Rattle.drive.specs.Entry.{replyBytes, frameIn, frameInBuffer}
+use Rattle.demands.proofs.Numbers.{words, made, plogi, prli, ready}
+use Rattle.belief.specs.Host as host
+use Rattle.belief.specs.Host.{Belief, unsure, sure, Request}
+use Rattle.belief.specs.Demand3.{Event, send, heard, lapse, World, run, start, Keeps}
+use Rattle.belief.specs.Wire.{FromHost, Linked, Framed, Makes, power-on, theDrive}
+
+-- elements that are bytes, by one test
+pub bytes-known : (s : List ℕ) → all (λ b. ltb b 256) s ≡ true → AllBytes s
+bytes-known s t j =
+    elim (decLe (length s) j) [
+      | yes l ↦ (let e = List·getD-eq-default s 0 l in omega arith)
+      | no l ↦ ltb-true (getD s j 0) 256 (all-at (λ b. ltb b 256) 0 s j (omega arith) t)
+    ]
+
+-- the names and parameters that the host of address 01h sends
+abbrev pub sentKept : Kept
+sentKept = keptFrom (paramsOf (plogi 0x01 2048) 28)
+
+abbrev pub buffer : List ℕ
+buffer = replicate 2136 0x5a
+
+pub logs-in : FromHost 0x01
+unfolding headerOf headerBytes
+logs-in =
+    record {
+      request = host.plogi sentKept;
+      bytes = plogi 0x01 2048;
+      buffer = buffer;
+      known = bytes-known (plogi 0x01 2048) refl;
+      makes = (record { form = record { routing = refl; source = refl }; coded = refl; sized = refl }, refl);
+    }
+
+pub pairs : FromHost 0x01
+unfolding headerOf headerBytes
+pairs =
+    record {
+      request = host.prli;
+      bytes = prli 0x01;
+      buffer = buffer;
+      known = bytes-known (prli 0x01) refl;
+      makes = record { form = record { routing = refl; source = refl }; coded = refl; sized = refl };
+    }
+
+-- TEST UNIT READY
+pub asks : FromHost 0x01
+unfolding headerOf headerBytes
+asks =
+    record {
+      request = host.command;
+      bytes = ready 0x01;
+      buffer = buffer;
+      known = bytes-known (ready 0x01) refl;
+      makes = record { routing = refl; source = refl };
+    }
+
+abbrev pub world : List (Event (theDrive 0x01)) → World (theDrive 0x01)
+world h = run (theDrive 0x01) (start (theDrive 0x01) (made 100)) h
+
+abbrev pub pairing : List (Event (theDrive 0x01))
+pairing = send logs-in heard ∷ send pairs heard ∷ []
+
+abbrev pub forgotten : List (Event (theDrive 0x01))
+forgotten = send logs-in heard ∷ send pairs heard ∷ lapse power-on ∷ []
+
+abbrev pub corrected : List (Event (theDrive 0x01))
+corrected = send logs-in heard ∷ send pairs heard ∷ lapse power-on ∷ send asks heard ∷ []
+
+pub record NotEmpty : Type 0 where
+  -- a host that keeps its rules becomes sure of a pairing, and the drive's record is that
+  pub keeps : Keeps (theDrive 0x01) (start (theDrive 0x01) (made 100)) corrected
+  pub sure-paired : world pairing .belief ≡ sure (held true true sentKept)
+  pub right : recordOf (world pairing .drive .port) 0x01 ≡ held true true sentKept
+  -- after power on it is sure, and wrong
+  pub still-sure : world forgotten .belief ≡ sure (held true true sentKept)
+  pub wrong : recordOf (world forgotten .drive .port) 0x01 ≡ out
+  -- and the LOGO that answers its next command puts it right
+  pub again : world corrected .belief ≡ sure out
+  pub so : recordOf (world corrected .drive .port) 0x01 ≡ out
+
+pub not-empty : NotEmpty
+unfolding frameIn frameInBuffer replyBytes judgedOf headerOf headerBytes badSize badSource knownPair unknownForm spared unprovenLogin unprovenCall kindOf validAddress madeFrom wellFormed setupRules setupPasses paramsOf sizeFails zeroName verdictOf loginFine usedFine flagsFine addressFine paramsFine exchangeFine apartId apartAddress findLogin freeLogin findExchange hasAddress hasId loginAt withLogin endedOf changedAll bytesOf filled onto answerHead logoutHead shortBytes loginBytes pairBytes logoutBytes linkOf sizeOf plogiOf outcomeOf newLogin serviceOf prliOf pairFine pageFine commandOf loggedOut recordOf ownOf eventAnswer afterEvent poweredOn logs-in pairs asks
+not-empty =
+    record {
+      keeps = (tt, (tt, (tt, (tt, tt))));
+      sure-paired = refl;
+      right = refl;
+      still-sure = refl;
+      wrong = refl;
+      again = refl;
+      so = refl;
+    }
