@@ -3,7 +3,7 @@
 use mathlib.Core.Path.{_≡_, refl, sym, _∙_}
 use mathlib.Core.Bool.{Bool, true, false}
 use mathlib.Core.List.{List, _++_}
-use Prim.Native.Nat.{ℕ, _≤_}
+use Prim.Native.Nat.{ℕ, _*_, _≤_}
 use lib.ListN.{length, take}
 use borrow.Author.Tests.{not-true}
 use Rattle.tables.proofs.Bools.{apart}
@@ -26,6 +26,12 @@ use Rattle.drive.proofs.Made.{new-refused, new-made, event-refused, event-answe
 use Rattle.drive.proofs.Keeping.{fine}
 use Rattle.demands.proofs.Reach.{Driven, driven-fine}
 use Rattle.demands.proofs.Refusals.{frame-first, frame-refuses, FirstOut, next-first, next-refuses, next-unchanged}
+use Rattle.state.specs.declared.Standing.the-variants.{Open}
+use Rattle.state.specs.Changes.{loginAt}
+use Rattle.state.specs.Tables.{lookupOf}
+use Rattle.serve.specs.Next.{exchangeOf, fullOf}
+use Rattle.serve.specs.Whole.{Piece}
+use Rattle.demands.proofs.Reading.{Reads, OpenRead, Delivered, freed, Comes, reads-whole, reads-come}
 use Rattle.demands.proofs.Numbers.{KnownNumbers, known-numbers}
 
 -- No input allows two replies: two answers that meet an entry's contract are the same, and so are two buffers.
@@ -82,6 +88,17 @@ header-bytes = write-read
 
 pub header-fields : (h : Header) (rest : List ℕ) → Fits h → headerOf (headerBytes h ++ rest) ≡ h
 header-fields = read-write
+
+-- A whole READ, read off the lent buffers: the unit's bytes from its first block on, to the smaller of wanted and FCP_DL, each once and in order, each frame at its OFFSET
+-- with its number modulo 65,536 as SEQ_CNT, then FCP_RSP with status 00h and the residual, and the place freed. Whatever windows are cut from the unit, and whatever the buffers hold.
+pub whole-read : (d e : Drive) (unit : List ℕ) (a x i j : ℕ) (pieces : List Piece) (last : List ℕ) → wellFormed (d .unit) (d .port) ≡ true → length unit ≡ 512 * d .unit .capacity
+    → OpenRead d a x i j → Reads unit a x d pieces last e → (Delivered unit (fullOf (d .port) i) (exchangeOf (d .port) i j) pieces last) × (e ≡ freed d i j)
+whole-read = reads-whole
+
+-- And such a run there is, for every open exchange of a proven login.
+pub whole-comes : (d : Drive) (unit : List ℕ) (a x i j : ℕ) → wellFormed (d .unit) (d .port) ≡ true → length unit ≡ 512 * d .unit .capacity → lookupOf (d .port) a x ≡ Open i j
+    → loginAt (d .port) i .proven ≡ 1 → Comes unit a x d
+whole-comes = reads-come
 
 -- The known numbers marked P, as one table.
 pub p-cases : KnownNumbers

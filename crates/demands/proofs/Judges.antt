@@ -43,7 +43,7 @@ use Rattle.drive.specs.Entry.{answered, frameIn}
 use Rattle.drive.proofs.Made.{made-formed}
 use Rattle.drive.proofs.Keeping.{source-valid}
 
-small-address : (n : ℕ) → validAddress n ≡ true → n < 256
+pub small-address : (n : ℕ) → validAddress n ≡ true → n < 256
 small-address n v =
     elim (decLe 256 n) [
       | yes l ↦ apart v (none-above n l)

@@ -3,4 +3,7 @@ pub mod Refusals
 pub mod Login
 pub mod Judges
 pub mod Numbers
+pub mod Decoding
+pub mod Calls
+pub mod Reading
 pub mod Demands

@@ -1,0 +1,240 @@
+-- What a next frame is to one who reads its bytes: the fields of its header, its payload without the fill, and the flags, the status and FCP_RESID of an FCP_RSP.
+-- Assumes nothing.
+use mathlib.Core.Path.{_≡_, refl, ap, _∙_}
+use mathlib.Core.Bool.{Bool, true, false, cond, not, _&&_}
+use mathlib.Core.List.{List, _++_}
+use Prim.Native.Nat.{ℕ, _+_, _-_, _%_, _^_, _≤_, _<_, min}
+use native.Mathlib.Omega.{arith}
+use lib.Dec.{eqb, leb}
+use lib.ListN.{length, take, drop, getD, replicate, length-append, length-take, length-replicate}
+use lib.Seq.{take-append-seam, drop-at}
+use borrow.Author.Tests.{eqb-true}
+use Rattle.tables.proofs.Bools.{and-left, and-right}
+use Rattle.tables.proofs.Keeping.{all-at}
+use Rattle.wire.specs.Bytes.{num, fillCount, fillOf}
+use Rattle.wire.proofs.Digits.{num-bytes}
+use Rattle.frame.specs.declared.Header.{Header}
+use Rattle.frame.specs.Head.{headerOf, headerBytes, Fits}
+use Rattle.frame.proofs.Trips.{length-header, read-write}
+use Rattle.address.specs.Address.{validAddress}
+use Rattle.params.specs.Words.{paramsOf, setupPasses}
+use Rattle.state.specs.declared.Port.{Port}
+use Rattle.state.specs.declared.Unit.{Unit}
+use Rattle.state.specs.declared.Standing.the-variants.{Open}
+use Rattle.state.specs.Changes.{emptyLogin, isUsed, hasAddress, loginAt}
+use Rattle.state.specs.Tables.{lookupOf}
+use Rattle.state.proofs.Places.{open-place, open-used, found-has, login-inside}
+use Rattle.formed.specs.Formed.{setupRules, addressFine, loginFine, wellFormed}
+use Rattle.formed.proofs.Parts.{fine-used, formed-parts}
+use Rattle.formed.proofs.Advance.{sent-within}
+use Rattle.residual.specs.Residual.{residualOf}
+use Rattle.reply.specs.declared.DataFrame.{DataFrame}
+use Rattle.reply.specs.declared.Residual.{Residual}
+use Rattle.reply.specs.declared.Response.the-variants.{Status}
+use Rattle.reply.specs.declared.Reply.the-variants.{Respond, Data}
+use Rattle.reply.specs.Payload.{residualFlag, residualSize, statusBytes, payloadOf}
+use Rattle.reply.specs.Reply.{answerHead, dataHead, filled, bytesOf}
+use Rattle.serve.specs.Next.{hasMore, frameOf, nextReply, sourceOf, ownOf, askedBy, exchangeOf, fullOf, frameBytes}
+use Rattle.serve.specs.Whole.{payloadAt}
+use Rattle.serve.proofs.Frames.{runs, total-small, is-data, next-counted}
+use Rattle.demands.proofs.Judges.{small-address}
+
+-- a header, a payload and its fill
+module _ (h : Header) (P : List ℕ) where
+  pub framed-long : length (headerBytes h ++ filled P) ≡ 24 + length P + fillCount (length P)
+  unfolding filled
+  framed-long =
+      let a = length-append (headerBytes h) (filled P) in
+      let b = length-append P (fillOf (length P)) in
+      let c = length-header h in
+      let z = length-replicate {A = ℕ} (fillCount (length P)) 0 in
+      omega arith
+
+  -- the payload is what stands after byte 24, without the fill
+  pub framed-payload : (fill : ℕ) → fill ≡ fillCount (length P) → take (length (headerBytes h ++ filled P) - 24 - fill) (drop 24 (headerBytes h ++ filled P)) ≡ P
+  unfolding filled
+  framed-payload fill e =
+      let n : length (headerBytes h ++ filled P) - 24 - fill ≡ length P = let l = framed-long in omega arith in
+      ap (λ (m : ℕ). take m (drop 24 (headerBytes h ++ filled P))) n ∙ ap (take (length P)) (drop-at (headerBytes h) (filled P) 24 (length-header h)) ∙ take-append-seam P (fillOf (length P))
+
+-- F_CTL of a data frame: its low two bits are the fill count
+control-small : (b : Bool) (n : ℕ) → n < 4 → cond b 0x880008 0x800008 + n < 256 ^ 3
+control-small true n h = omega arith
+control-small false n h = omega arith
+
+control-fill : (b : Bool) (n : ℕ) → n < 4 → (cond b 0x880008 0x800008 + n) % 4 ≡ n
+control-fill true n h = omega arith
+control-fill false n h = omega arith
+
+few-fill : (n : ℕ) → fillCount n < 4
+few-fill n = omega arith
+
+round-small : (m n : ℕ) → m ≡ n % 65536 → m < 65536
+round-small m n h = omega arith
+
+-- the next frame of the exchange at places i and j
+module _ (u : Unit) (p : Port) (a x i j k : ℕ) (W : List ℕ) where
+  abbrev asked : Header
+  asked = askedBy (p .address) a x
+
+  abbrev reply-payload : List ℕ
+  reply-payload = payloadAt u p a x i j k W
+
+  -- a data frame while there are data, and then the response
+  pub more-reply : hasMore (exchangeOf p i j) ≡ true → nextReply (fullOf p i) (exchangeOf p i j) ≡ Data (frameOf (fullOf p i) (exchangeOf p i j))
+  unfolding nextReply
+  more-reply h = rw h
+
+  pub last-reply : hasMore (exchangeOf p i j) ≡ false → nextReply (fullOf p i) (exchangeOf p i j) ≡ Respond (Status 0x00 (residualOf (exchangeOf p i j .wanted) (exchangeOf p i j .expected)))
+  unfolding nextReply
+  last-reply h = rw h
+
+  data-head : DataFrame → Header
+  data-head f = dataHead asked f (fillCount (length reply-payload))
+
+  response-head : Header
+  response-head = answerHead asked 0x07 0x08 0x990000 0x00
+
+  data-bytes : (f : DataFrame) → nextReply (fullOf p i) (exchangeOf p i j) ≡ Data f → frameBytes u p a x i j k W ≡ headerBytes (data-head f) ++ filled reply-payload
+  unfolding frameBytes bytesOf data-head
+  data-bytes f e = rw e
+
+  response-bytes : (r : Residual) → nextReply (fullOf p i) (exchangeOf p i j) ≡ Respond (Status 0x00 r)
+      → frameBytes u p a x i j k W ≡ headerBytes response-head ++ statusBytes (residualFlag r) 0x00 (residualSize r) 0 0
+  unfolding frameBytes bytesOf filled statusBytes response-head
+  response-bytes r e = rw e
+
+  -- R_CTL and TYPE tell the two apart
+  pub data-kind : (f : DataFrame) → nextReply (fullOf p i) (exchangeOf p i j) ≡ Data f → (headerOf (frameBytes u p a x i j k W) .«r_ctl» ≡ 0x01) × (headerOf (frameBytes u p a x i j k W) .kind ≡ 0x08)
+  unfolding headerOf headerBytes data-head dataHead
+  data-kind f e = rw (data-bytes f e) (refl, refl)
+
+  pub response-kind : (r : Residual) → nextReply (fullOf p i) (exchangeOf p i j) ≡ Respond (Status 0x00 r)
+      → (headerOf (frameBytes u p a x i j k W) .«r_ctl» ≡ 0x07) × (headerOf (frameBytes u p a x i j k W) .kind ≡ 0x08)
+  unfolding headerOf headerBytes response-head answerHead
+  response-kind r e = rw (response-bytes r e) (refl, refl)
+
+  -- "bytes 10 flags, 11 status, 12 FCP_RESID" of the payload, which begins at byte 24
+  pub response-status : (r : Residual) → nextReply (fullOf p i) (exchangeOf p i j) ≡ Respond (Status 0x00 r)
+      → (getD (frameBytes u p a x i j k W) 34 0 ≡ residualFlag r) × (getD (frameBytes u p a x i j k W) 35 0 ≡ 0x00)
+  unfolding headerBytes statusBytes
+  response-status r e = rw (response-bytes r e) (refl, refl)
+
+  -- "16 sense length, 20 response length": both 0, and nothing follows
+  pub response-rest : (r : Residual) → nextReply (fullOf p i) (exchangeOf p i j) ≡ Respond (Status 0x00 r) → drop 40 (frameBytes u p a x i j k W) ≡ replicate 8 0
+  unfolding headerBytes statusBytes
+  response-rest r e = ap (drop 40) (response-bytes r e)
+
+  pub response-resid : (r : Residual) → nextReply (fullOf p i) (exchangeOf p i j) ≡ Respond (Status 0x00 r) → residualSize r < 4294967296 → num 4 (frameBytes u p a x i j k W) 36 ≡ residualSize r
+  unfolding headerBytes statusBytes
+  response-resid r e small = ap (λ (b : List ℕ). num 4 b 36) (response-bytes r e) ∙ num-bytes 4 (residualSize r) (omega arith)
+
+  response-long : (r : Residual) → length (headerBytes response-head ++ statusBytes (residualFlag r) 0x00 (residualSize r) 0 0) ≡ 48
+  unfolding headerBytes statusBytes
+  response-long r = refl
+
+  payload-few : (f : DataFrame) → nextReply (fullOf p i) (exchangeOf p i j) ≡ Data f → length reply-payload ≤ 2048
+  payload-few f e =
+      let source = sourceOf u (exchangeOf p i j) k W in
+      let t : reply-payload ≡ take (min (f .size) 2048) source = ap (λ r. payloadOf (ownOf p) asked r source) e in
+      let n = ap length t ∙ length-take (min (f .size) 2048) source in
+      omega arith
+
+  -- no next frame is longer than 2,075 bytes
+  pub few-bytes : length (frameBytes u p a x i j k W) ≤ 2075
+  few-bytes = by (hasMore (exchangeOf p i j)) refl
+    where
+      by : (b : Bool) → hasMore (exchangeOf p i j) ≡ b → length (frameBytes u p a x i j k W) ≤ 2075
+      by true h =
+          let e = more-reply h in
+          let n = ap length (data-bytes _ e) ∙ framed-long (data-head _) reply-payload in
+          let m = payload-few _ e in
+          omega arith
+      by false h =
+          let r = residualOf (exchangeOf p i j .wanted) (exchangeOf p i j .expected) in
+          let n = ap length (response-bytes r (last-reply h)) ∙ response-long r in
+          omega arith
+
+  -- from a well-formed port
+  module _ (w : wellFormed u p ≡ true) (o : lookupOf p a x ≡ Open i j) (small : x < 65536) where
+    own-small : p .address < 256
+    unfolding setupRules
+    own-small =
+        let c = leb 1 (u .capacity) in
+        let d = leb (u .capacity) 4294967295 in
+        let v = validAddress (p .address) in
+        small-address (p .address) (and-right (c && d) v (and-left (c && d && v) (setupPasses (paramsOf (p .accept) 0)) (formed-parts w .setup)))
+
+    -- the login's address is the one that is named, and valid
+    login-address : loginAt p i .address ≡ a
+    unfolding hasAddress
+    login-address = eqb-true (loginAt p i .address) a (and-right (isUsed (loginAt p i)) (eqb (loginAt p i .address) a) (found-has p a i (open-place p a x i j o)))
+
+    login-small : loginAt p i .address < 256
+    unfolding loginAt addressFine
+    login-small =
+        let l = loginAt p i in
+        let f = fine-used (open-used p a x i j o) (all-at (loginFine (u .capacity) (p .address)) emptyLogin (p .logins) i (login-inside p a x i j o) (formed-parts w .logins)) in
+        small-address (l .address) (and-left (validAddress (l .address)) (not (eqb (l .address) (p .address))) (f .address))
+
+    named-small : a < 256
+    named-small = let e = login-address in let s = login-small in omega arith
+
+    data-fits : (f : DataFrame) → nextReply (fullOf p i) (exchangeOf p i j) ≡ Data f → Fits (data-head f)
+    unfolding data-head dataHead askedBy frameOf
+    data-fits f e =
+        let own = own-small in
+        let to = named-small in
+        let count = round-small (f .count) _ (next-counted u p a x i j f w o e) in
+        let at = ap (λ g. g .offset) (is-data (fullOf p i) (exchangeOf p i j) f e .1) in
+        let within = sent-within (fullOf p i) (exchangeOf p i j) (runs u p a x i j w o .fits) in
+        let total = total-small u p a x i j w o in
+        record {
+          d = omega arith;
+          s = omega arith;
+          f = control-small (f .last) (fillCount (length reply-payload)) (few-fill (length reply-payload));
+          n = omega arith;
+          o = omega arith;
+          r = omega arith;
+          p = omega arith;
+        }
+
+    data-header : (f : DataFrame) → nextReply (fullOf p i) (exchangeOf p i j) ≡ Data f → headerOf (frameBytes u p a x i j k W) ≡ data-head f
+    data-header f e = ap headerOf (data-bytes f e) ∙ read-write (data-head f) (filled reply-payload) (data-fits f e)
+
+    response-fits : Fits response-head
+    unfolding response-head answerHead askedBy
+    response-fits = let own = own-small in let to = named-small in record { d = omega arith; s = omega arith; f = omega arith; n = omega arith; o = omega arith; r = omega arith; p = omega arith }
+
+    response-header : (r : Residual) → nextReply (fullOf p i) (exchangeOf p i j) ≡ Respond (Status 0x00 r) → headerOf (frameBytes u p a x i j k W) ≡ response-head
+    response-header r e = ap headerOf (response-bytes r e) ∙ read-write response-head _ response-fits
+
+    -- OFFSET and SEQ_CNT of a data frame
+    pub data-offset : (f : DataFrame) → nextReply (fullOf p i) (exchangeOf p i j) ≡ Data f → headerOf (frameBytes u p a x i j k W) .offset ≡ f .offset
+    unfolding data-head dataHead
+    data-offset f e = ap (λ (h : Header). h .offset) (data-header f e)
+
+    pub data-count : (f : DataFrame) → nextReply (fullOf p i) (exchangeOf p i j) ≡ Data f → headerOf (frameBytes u p a x i j k W) .«seq_cnt» ≡ f .count
+    unfolding data-head dataHead
+    data-count f e = ap (λ (h : Header). h .«seq_cnt») (data-header f e)
+
+    data-fill : (f : DataFrame) → nextReply (fullOf p i) (exchangeOf p i j) ≡ Data f → headerOf (frameBytes u p a x i j k W) .«f_ctl» % 4 ≡ fillCount (length reply-payload)
+    unfolding data-head dataHead
+    data-fill f e = ap (λ (h : Header). h .«f_ctl» % 4) (data-header f e) ∙ control-fill (f .last) (fillCount (length reply-payload)) (few-fill (length reply-payload))
+
+    -- its payload
+    pub data-payload : (f : DataFrame) → nextReply (fullOf p i) (exchangeOf p i j) ≡ Data f
+        → take (length (frameBytes u p a x i j k W) - 24 - headerOf (frameBytes u p a x i j k W) .«f_ctl» % 4) (drop 24 (frameBytes u p a x i j k W)) ≡ payloadAt u p a x i j k W
+    data-payload f e =
+        let fill = headerOf (frameBytes u p a x i j k W) .«f_ctl» % 4 in
+        ap (λ (b : List ℕ). take (length b - 24 - fill) (drop 24 b)) (data-bytes f e) ∙ framed-payload (data-head f) reply-payload fill (data-fill f e)
+
+    -- whether data or response: D_ID is the address that was named, S_ID ours, and OX_ID the one that was named
+    pub frame-addressed : (headerOf (frameBytes u p a x i j k W) .«d_id» ≡ a) × (headerOf (frameBytes u p a x i j k W) .«s_id» ≡ p .address) × (headerOf (frameBytes u p a x i j k W) .«ox_id» ≡ x)
+    unfolding data-head dataHead response-head answerHead askedBy
+    frame-addressed = by (hasMore (exchangeOf p i j)) refl
+      where
+        by : (b : Bool) → hasMore (exchangeOf p i j) ≡ b
+            → (headerOf (frameBytes u p a x i j k W) .«d_id» ≡ a) × (headerOf (frameBytes u p a x i j k W) .«s_id» ≡ p .address) × (headerOf (frameBytes u p a x i j k W) .«ox_id» ≡ x)
+        by true h = rw (data-header _ (more-reply h)) (refl, refl, refl)
+        by false h = rw (response-header _ (last-reply h)) (refl, refl, refl)
