@@ -135,6 +135,15 @@ def nothing(f):
     return b""  # "Else the exchange opens silently"
 
 
+def data(f, number, offset, payload, last):
+    """01: "FCP_DATA, last or not | 01 08 | 880008, 800008 | 01"; "OFFSET is the byte offset; SEQ_CNT the frame's number from 0, going round at 65,536"."""
+    fill = -len(payload) % 4  # "Payloads are filled with zeros to a multiple of 4; FCP frames add the fill count to F_CTL"
+    h = bytearray(head("01", sender(f), "08", "88000%X" % (8 + fill) if last else "800008", 0x01, ox_of(f)))
+    h[14:16] = (number % 65536).to_bytes(2, "big")
+    h[20:24] = offset.to_bytes(4, "big")
+    return bytes(h) + payload + bytes(fill)
+
+
 def sender(f):
     return f[7]
 

@@ -1,0 +1,107 @@
+-- The calls: what a record of a letter and a body is answered, and the session after it.
+use Prim.Native.Nat.{ℕ}
+use mathlib.Core.Path.{_≡_}
+use mathlib.Core.Bool.{Bool, true, false, cond}
+use mathlib.Core.List.{List, []}
+use lib.Dec.{eqb, ltb}
+use lib.ListN.{length, take, drop, getD, replicate}
+use Rattle.io.specs.Counts.{Counts}
+use Rattle.wire.specs.Bytes.{num}
+use Rattle.state.specs.declared.Setup.{Setup}
+use Rattle.drive.specs.declared.Drive.{Drive}
+use Rattle.drive.specs.declared.Answer.{Answer}
+use Rattle.drive.specs.declared.Event.{Event}
+use Rattle.drive.specs.declared.Event.the-variants.{LoopReset, TimeOver, PowerOn}
+use Rattle.drive.specs.declared.Said.{Said}
+use Rattle.drive.specs.declared.Said.the-variants.{Sent, Refused}
+use Rattle.drive.specs.Drive.{noDrive, newAnswer, eventAnswer}
+use Rattle.drive.specs.Entry.{frameIn, frameInBuffer, nextFrame, nextFrameBuffer}
+use Rattle.recording.specs.declared.Session.{Session}
+use Rattle.recording.specs.declared.Told.{Told}
+use Rattle.recording.specs.Answers.{answer, answerOf, lineFor}
+
+-- "no drive made yet"
+unfoldable pub unmade : Session
+unmade = record { made = false; drive = noDrive }
+
+-- the answer's bytes, and the session after it
+abbrev pub toldAs : Session → List ℕ → Told
+toldAs s text = record { session = s; line = lineFor text }
+
+-- "255 stands for what is no call, with length 0 and last byte 1"
+unfoldable pub noCall : Session → Told
+noCall s = toldAs s (answer 255 [] true)
+
+-- the drive's answer, and the drive after it; l is what it left in the lent buffer
+unfoldable pub answerTo : Session → Answer → List ℕ → Told
+answerTo s a l = toldAs (record { made = s .made; drive = a .drive }) (answerOf (a .said) l)
+
+-- "A refused S leaves the drive as it was"
+abbrev pub keptBy : Said → Session → Drive → Session
+keptBy (Sent n) s d = record { made = true; drive = d }
+keptBy (Refused x) s d = s
+
+unfoldable pub madeBy : Session → Answer → Told
+madeBy s a = toldAs (keptBy (a .said) s (a .drive)) (answerOf (a .said) [])
+
+-- "the fill 5Ah it was lent with": a buffer of this size
+unfoldable pub fill : ℕ → List ℕ
+fill room = replicate room 0x5a
+
+unfoldable pub handed : Session → ℕ → List ℕ → Told
+handed s room frame = answerTo s (frameIn (s .drive) frame room) (frameInBuffer (s .drive) frame (fill room))
+
+unfoldable pub asked : Session → ℕ → ℕ → ℕ → ℕ → List ℕ → Told
+asked s address x room start window = answerTo s (nextFrame (s .drive) address x start window room) (nextFrameBuffer (s .drive) address x start window (fill room))
+
+unfoldable pub happened : Session → Event → Told
+happened s e = answerTo s (eventAnswer (s .drive) e) []
+
+-- "capacity u64, own address u32, identity 28, accept words 112"
+unfoldable pub setupOf : List ℕ → Setup
+setupOf b = record { capacity = num 8 b 0; address = num 4 b 8; identity = take 28 (drop 12 b); accept = drop 40 b }
+
+-- S: 152 bytes
+unfoldable pub setupCall : Session → List ℕ → Told
+setupCall s b = cond (eqb (length b) 152) (madeBy s (newAnswer (setupOf b))) (noCall s)
+
+-- F: "room of the reply buffer u16 (at most 4,096), frame"
+unfoldable pub frameCall : Session → List ℕ → Told
+frameCall s b =
+    cond (ltb (length b) 2) (noCall s)
+    (cond (ltb 4096 (num 2 b 0)) (noCall s)
+    (cond (s .made) (handed s (num 2 b 0) (drop 2 b))
+    (noCall s)))
+
+-- N: "address u32, OX_ID u16, room u16, window start u64, window bytes"
+unfoldable pub nextCall : Session → List ℕ → Told
+nextCall s b =
+    cond (ltb (length b) 16) (noCall s)
+    (cond (ltb 4096 (num 2 b 6)) (noCall s)
+    (cond (s .made) (asked s (num 4 b 0) (num 2 b 4) (num 2 b 6) (num 8 b 8) (drop 16 b))
+    (noCall s)))
+
+-- E: "one byte: 1 loop reset, 2 verification time over, 3 power on"
+abbrev pub eventOf : ℕ → Session → Told
+eventOf n s =
+    cond (eqb n 1) (happened s LoopReset)
+    (cond (eqb n 2) (happened s TimeOver)
+    (cond (eqb n 3) (happened s PowerOn)
+    (noCall s)))
+
+unfoldable pub eventCall : Session → List ℕ → Told
+eventCall s b = cond (eqb (length b) 1) (cond (s .made) (eventOf (getD b 0 0) s) (noCall s)) (noCall s)
+
+-- the letters S, F, N and E
+unfoldable pub toldOf : Session → ℕ → List ℕ → Told
+toldOf s letter b =
+    cond (eqb letter 0x53) (setupCall s b)
+    (cond (eqb letter 0x46) (frameCall s b)
+    (cond (eqb letter 0x4e) (nextCall s b)
+    (cond (eqb letter 0x45) (eventCall s b)
+    (noCall s))))
+
+-- r is what is told, and all of the answer stands in its line
+pub record ToldIs (t r : Told) : Type 0 where
+  pub is : r ≡ t
+  pub fits : Counts (r .line .len) (r .line .bytes)

@@ -1,0 +1,307 @@
+// What the program recorder makes of a record: the call that it is, told to the drive, and the bytes of the answer.
+use drive::Answer;
+use drive::Drive;
+use drive::Event;
+use drive::Said;
+use state::Setup;
+use wire::be16;
+use wire::be32;
+use wire::be64;
+use wire::byte_at;
+use wire::least;
+use wire::put_front;
+ghost use mathlib.Core.Path.{_≡_};
+ghost use Prim.Native.Nat.{_≤_};
+ghost use lib.ListN.{length};
+ghost use Rattle.wire.specs.Bytes.{Wrote};
+ghost use Rattle.recording.specs.Answers.{allFill, flagOf, answer, answerOf, LineIs};
+ghost use Rattle.recording.specs.Calls.{unmade, setupOf, noCall, madeBy, fill, answerTo, handed, asked, happened, setupCall, frameCall, nextCall, eventCall, toldOf, ToldIs};
+
+// The drive of a session, once one was made; until then the drive that is all zeros.
+pub struct Session {
+    pub made: bool,
+    pub drive: Drive,
+}
+
+// An answer: its bytes stand at the front, zeros after them.
+pub struct Line {
+    pub bytes: [u8; 4100],
+    pub len: usize,
+}
+
+// What a record is answered, and the session after it.
+pub struct Told {
+    pub session: Session,
+    pub line: Line,
+}
+
+// A session in which no drive was made yet.
+pub fn start() -> Session
+    ensures { λ r. ⌜ r ≡ unmade ⌝ }
+{
+    let s = Setup {
+        capacity: 0,
+        address: 0,
+        identity: [0; 28],
+        accept: [0; 112],
+    };
+    let a = Drive::new(s);
+    let d = a.drive;
+    Session {
+        made: false,
+        drive: d,
+    }
+}
+
+// The record of a letter and a body: S makes a drive, F hands it a frame, N asks it for the next one, E tells it of an event; any other is no call.
+pub fn tell(s: Session, letter: u8, body: &[u8]) -> Told
+    ensures { λ r. ⌜ ToldIs (toldOf s letter (now (body .entry))) r ⌝ }
+{
+    match letter {
+        b'S' => tell_setup(s, body),
+        b'F' => tell_frame(s, body),
+        b'N' => tell_next(s, body),
+        b'E' => tell_event(s, body),
+        _ => no_call(s),
+    }
+}
+
+// What is no call: 255, and the session as it was.
+pub fn no_call(s: Session) -> Told
+    ensures { λ r. ⌜ ToldIs (noCall s) r ⌝ }
+{
+    let none = [0u8; 0];
+    let l = written(255, &none, true);
+    Told {
+        session: s,
+        line: l,
+    }
+}
+
+fn tell_setup(s: Session, body: &[u8]) -> Told
+    ensures { λ r. ⌜ ToldIs (setupCall s (now (body .entry))) r ⌝ }
+{
+    if body.len() != 152 {
+        return no_call(s);
+    }
+    made(s, Drive::new(setup_of(body)))
+}
+
+fn tell_frame(s: Session, body: &[u8]) -> Told
+    ensures { λ r. ⌜ ToldIs (frameCall s (now (body .entry))) r ⌝ }
+{
+    if body.len() < 2 {
+        return no_call(s);
+    }
+    let room = be16(body, 0) as usize;
+    if 4096 < room {
+        return no_call(s);
+    }
+    if s.made {
+        hand_frame(s, room, &body[2..])
+    } else {
+        no_call(s)
+    }
+}
+
+fn tell_next(s: Session, body: &[u8]) -> Told
+    ensures { λ r. ⌜ ToldIs (nextCall s (now (body .entry))) r ⌝ }
+{
+    if body.len() < 16 {
+        return no_call(s);
+    }
+    let room = be16(body, 6) as usize;
+    if 4096 < room {
+        return no_call(s);
+    }
+    if s.made {
+        ask_next(
+            s,
+            be32(body, 0),
+            be16(body, 4),
+            room,
+            be64(body, 8),
+            &body[16..],
+        )
+    } else {
+        no_call(s)
+    }
+}
+
+fn tell_event(s: Session, body: &[u8]) -> Told
+    ensures { λ r. ⌜ ToldIs (eventCall s (now (body .entry))) r ⌝ }
+{
+    if body.len() != 1 {
+        return no_call(s);
+    }
+    if s.made {
+        match byte_at(body, 0) {
+            1 => happen(s, Event::LoopReset),
+            2 => happen(s, Event::TimeOver),
+            3 => happen(s, Event::PowerOn),
+            _ => no_call(s),
+        }
+    } else {
+        no_call(s)
+    }
+}
+
+// A drive made, or refused and the session as it was.
+fn made(s: Session, a: Answer) -> Told
+    ensures { λ r. ⌜ ToldIs (madeBy s a) r ⌝ }
+{
+    let none = [0u8; 0];
+    let said = a.said;
+    let d = a.drive;
+    let l = line_of(said, &none);
+    match said {
+        Said::Sent(_) => Told {
+            session: Session {
+                made: true,
+                drive: d,
+            },
+            line: l,
+        },
+        Said::Refused(_) => Told {
+            session: s,
+            line: l,
+        },
+    }
+}
+
+// A frame in, with this room for the reply.
+fn hand_frame(s: Session, room: usize, frame: &[u8]) -> Told
+    requires { ⌜ room ≤ 4096 ⌝ }
+    ensures { λ r. ⌜ ToldIs (handed s room (now (frame .entry))) r ⌝ }
+{
+    let d = s.drive;
+    let mut space = filled();
+    let a = d.frame_in(frame, &mut space[..room]);
+    answered(s, a, &space[..room])
+}
+
+// The next frame out, with this room for it.
+fn ask_next(s: Session, address: u32, ox_id: u16, room: usize, start: u64, window: &[u8]) -> Told
+    requires { ⌜ room ≤ 4096 ⌝ }
+    ensures { λ r. ⌜ ToldIs (asked s address «ox_id» room start (now (window .entry))) r ⌝ }
+{
+    let d = s.drive;
+    let mut space = filled();
+    let a = d.next_frame(address, ox_id, start, window, &mut space[..room]);
+    answered(s, a, &space[..room])
+}
+
+// 4,096 bytes, each the fill, of which a call is lent the first.
+fn filled() -> [u8; 4096]
+    ensures { λ r. ⌜ (r ≡ fill 4096) × (4096 ≡ length r) ⌝ }
+{
+    [0x5a; 4096]
+}
+
+fn happen(s: Session, e: Event) -> Told
+    ensures { λ r. ⌜ ToldIs (happened s e) r ⌝ }
+{
+    let d = s.drive;
+    let none = [0u8; 0];
+    answered(s, d.event(e), &none)
+}
+
+// The drive's answer, and what it left in the buffer that it was lent.
+fn answered(s: Session, a: Answer, lent: &[u8]) -> Told
+    requires { ⌜ length (now lent) ≤ 4096 ⌝ }
+    ensures { λ r. ⌜ ToldIs (answerTo s a (now (lent .entry))) r ⌝ }
+{
+    let said = a.said;
+    let d = a.drive;
+    let l = line_of(said, lent);
+    Told {
+        session: Session {
+            made: s.made,
+            drive: d,
+        },
+        line: l,
+    }
+}
+
+// The answer's bytes, from what was said and the lent buffer after it.
+fn line_of(said: Said, lent: &[u8]) -> Line
+    requires { ⌜ length (now lent) ≤ 4096 ⌝ }
+    ensures { λ r. ⌜ LineIs (answerOf said (now (lent .entry))) r ⌝ }
+{
+    match said {
+        Said::Sent(n) => {
+            let k = least(n, lent.len());
+            written(0, &lent[..k], untouched(&lent[k..]))
+        }
+        Said::Refused(x) => {
+            let none = [0u8; 0];
+            written(x.number(), &none, untouched(lent))
+        }
+    }
+}
+
+// The number, the reply's length, the reply, and whether the rest was untouched.
+fn written(number: u8, reply: &[u8], still: bool) -> Line
+    requires { ⌜ length (now reply) ≤ 4096 ⌝ }
+    ensures { λ r. ⌜ LineIs (answer number (now (reply .entry)) still) r ⌝ }
+{
+    let mut bytes = [0u8; 4100];
+    let n = put_answer(number, reply, still, &mut bytes);
+    Line {
+        bytes: bytes,
+        len: n,
+    }
+}
+
+// The same at the front of out; answers how many bytes they are.
+fn put_answer(number: u8, reply: &[u8], still: bool, out: &mut [u8]) -> usize
+    requires { ⌜ length (now reply) ≤ 4096 ⌝ }
+    requires { ⌜ length (now out) ≡ 4100 ⌝ }
+    ensures { λ r. ⌜ Wrote (answer number (now (reply .entry)) still) (now (out .entry)) (now (out .exit)) r 4100 ⌝ }
+{
+    let n = reply.len();
+    let head = [number, (n / 256 % 256) as u8, (n % 256) as u8];
+    let last = [flag(still)];
+    put_front(out, &head);
+    put_front(&mut out[3..], reply);
+    let m = 3 + n;
+    put_front(&mut out[m..], &last);
+    m + 1
+}
+
+fn flag(still: bool) -> u8
+    ensures { λ r. ⌜ r ≡ flagOf still ⌝ }
+{
+    if still { 1 } else { 0 }
+}
+
+// Whether every byte holds the fill.
+fn untouched(lent: &[u8]) -> bool
+    ensures { λ r. ⌜ r ≡ allFill (now (lent .entry)) ⌝ }
+{
+    let mut i = 0;
+    while i < lent.len() {
+        if lent[i] != 0x5a {
+            return false;
+        }
+        i += 1;
+    }
+    true
+}
+
+// The setup of a body of 152 bytes.
+fn setup_of(body: &[u8]) -> Setup
+    requires { ⌜ length (now body) ≡ 152 ⌝ }
+    ensures { λ r. ⌜ r ≡ setupOf (now (body .entry)) ⌝ }
+{
+    let mut identity = [0u8; 28];
+    put_front(&mut identity, &body[12..40]);
+    let mut accept = [0u8; 112];
+    put_front(&mut accept, &body[40..]);
+    Setup {
+        capacity: be64(body, 0),
+        address: be32(body, 8),
+        identity: identity,
+        accept: accept,
+    }
+}
