@@ -26,7 +26,8 @@ impl Call {
 
     /// `letter body-in-hex`, then ` ~number:seed` where there are made bytes. `-` stands for no bytes, `#7F` for a letter.
     pub fn line(&self) -> String {
-        let letter = if self.letter.is_ascii_uppercase() { (self.letter as char).to_string() } else { format!("#{:02X}", self.letter) };
+        let letter =
+            if self.letter.is_ascii_uppercase() { (self.letter as char).to_string() } else { format!("#{:02X}", self.letter) };
         let tail = if self.tail > 0 { format!(" ~{}:{}", self.tail, self.seed) } else { String::new() };
         format!("{letter} {}{tail}", hex(&self.body))
     }

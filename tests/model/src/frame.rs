@@ -103,7 +103,8 @@ pub fn data(row: Row, to: u32, from: u32, ox_id: u16, seq_cnt: u16, offset: u32,
     // "Payloads are filled with zeros to a multiple of 4; FCP frames add the fill count to F_CTL."
     let fill = (4 - payload.len() % 4) % 4;
     let f_ctl = if kind == 0x08 { f_ctl + fill as u32 } else { f_ctl };
-    let header = Header { r_ctl, d_id: to, s_id: from, kind, f_ctl, seq_id, seq_cnt, ox_id, rx_id: 0xFFFF, offset, ..Header::default() };
+    let header =
+        Header { r_ctl, d_id: to, s_id: from, kind, f_ctl, seq_id, seq_cnt, ox_id, rx_id: 0xFFFF, offset, ..Header::default() };
     let mut frame = header.bytes();
     frame.extend(payload);
     frame.extend(&[0; 3][..fill]);

@@ -107,7 +107,10 @@ fn options() -> Options {
 fn main() {
     let o = options();
     if o.serve {
-        model::record::serve(BufReader::with_capacity(1 << 16, std::io::stdin()), BufWriter::with_capacity(1 << 16, std::io::stdout()));
+        model::record::serve(
+            BufReader::with_capacity(1 << 16, std::io::stdin()),
+            BufWriter::with_capacity(1 << 16, std::io::stdout()),
+        );
         return;
     }
     let program = Program { words: o.program.clone(), wait: Duration::from_secs(o.wait) };
@@ -181,7 +184,10 @@ fn run(o: &Options, program: &Program) -> i32 {
         if o.progress {
             let taken = counts().iter().filter(|&&n| n > 0).count();
             let rate = passed as f64 / from.elapsed().as_secs_f64();
-            eprintln!("history {} {:?}: {} calls, {passed} in all, {taken} branches, {rate:.0} calls a second", part.number, part.kind, part.calls);
+            eprintln!(
+                "history {} {:?}: {} calls, {passed} in all, {taken} branches, {rate:.0} calls a second",
+                part.number, part.kind, part.calls
+            );
         }
     }
     let seconds = from.elapsed().as_secs_f64();
@@ -208,7 +214,10 @@ fn coverage(o: &Options) {
 }
 
 fn report(o: &Options, program: &Program, part: &Part, calls: &[Call], cut: &[u8], difference: &Difference, passed: usize) {
-    println!("difference: seed {}, history {} ({:?}), call {} of it, call {passed} of the run", o.seed, part.number, part.kind, difference.call);
+    println!(
+        "difference: seed {}, history {} ({:?}), call {} of it, call {passed} of the run",
+        o.seed, part.number, part.kind, difference.call
+    );
     match calls.get(difference.call) {
         Some(call) => println!("  call     {}", call.line()),
         None => println!("  call     the end of the input after {}", hex(cut)),
@@ -221,7 +230,12 @@ fn report(o: &Options, program: &Program, part: &Part, calls: &[Call], cut: &[u8
         kept = fewer;
         println!("shrunk from {before} calls to {} in {replays} replays", kept.len());
         match replay(program, &kept, cut).unwrap_or_else(|e| wrong(&e)) {
-            Some(d) => println!("  call     {}\n  expected {}\n  answered {}", kept.get(d.call).map_or("the end".into(), Call::line), d.expected, d.answered),
+            Some(d) => println!(
+                "  call     {}\n  expected {}\n  answered {}",
+                kept.get(d.call).map_or("the end".into(), Call::line),
+                d.expected,
+                d.answered
+            ),
             None => println!("  the shrunk history does not differ each time"),
         }
     }
@@ -229,7 +243,8 @@ fn report(o: &Options, program: &Program, part: &Part, calls: &[Call], cut: &[u8
     for call in &kept {
         text += &format!("{}\n", call.line());
     }
-    if kept.len() <= difference.call && difference.call == calls.len() || !cut.is_empty() && calls.get(difference.call).is_none() {
+    if kept.len() <= difference.call && difference.call == calls.len() || !cut.is_empty() && calls.get(difference.call).is_none()
+    {
         text += &format!("CUT {}\n", hex(cut));
     }
     if kept.len() <= 400 {
