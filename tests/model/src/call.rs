@@ -1,0 +1,77 @@
+//! A call of a history: a record for the recorder, and its line in a replay file.
+
+use crate::random::Random;
+
+/// A record: its letter and body. The body may end in made bytes, given by their number and a seed, so that a window of
+/// 65,536 bytes is a short line too.
+#[derive(Clone, Debug, PartialEq)]
+pub struct Call {
+    pub letter: u8,
+    pub body: Vec<u8>,
+    pub tail: usize,
+    pub seed: u32,
+}
+
+impl Call {
+    pub fn new(letter: u8, body: Vec<u8>) -> Call {
+        Call { letter, body, tail: 0, seed: 0 }
+    }
+
+    /// The body, made bytes and all.
+    pub fn full_body(&self) -> Vec<u8> {
+        let mut body = self.body.clone();
+        body.extend(Random::new(self.seed.into()).bytes(self.tail));
+        body
+    }
+
+    /// `letter body-in-hex`, then ` ~number:seed` where there are made bytes. `-` stands for no bytes, `#7F` for a letter.
+    pub fn line(&self) -> String {
+        let letter =
+            if self.letter.is_ascii_uppercase() { (self.letter as char).to_string() } else { format!("#{:02X}", self.letter) };
+        let tail = if self.tail > 0 { format!(" ~{}:{}", self.tail, self.seed) } else { String::new() };
+        format!("{letter} {}{tail}", hex(&self.body))
+    }
+
+    pub fn parse(line: &str) -> Option<Call> {
+        let mut words = line.split_whitespace();
+        let letter = words.next()?;
+        let letter = match letter.strip_prefix('#') {
+            Some(number) => u8::from_str_radix(number, 16).ok()?,
+            None if letter.len() == 1 => letter.as_bytes()[0],
+            None => return None,
+        };
+        let body = unhex(words.next()?)?;
+        let mut call = Call::new(letter, body);
+        if let Some(tail) = words.next() {
+            let (tail, seed) = tail.strip_prefix('~')?.split_once(':')?;
+            call.tail = tail.parse().ok()?;
+            call.seed = seed.parse().ok()?;
+        }
+        words.next().is_none().then_some(call)
+    }
+}
+
+/// The record's bytes, of a body that was made already.
+pub fn record(letter: u8, body: &[u8]) -> Vec<u8> {
+    let mut bytes = vec![letter];
+    bytes.extend((body.len() as u32).to_be_bytes());
+    bytes.extend(body);
+    bytes
+}
+
+pub fn hex(bytes: &[u8]) -> String {
+    if bytes.is_empty() {
+        return "-".into();
+    }
+    bytes.iter().map(|b| format!("{b:02x}")).collect()
+}
+
+pub fn unhex(text: &str) -> Option<Vec<u8>> {
+    if text == "-" {
+        return Some(vec![]);
+    }
+    if text.len() % 2 != 0 || !text.is_ascii() {
+        return None;
+    }
+    (0..text.len()).step_by(2).map(|i| u8::from_str_radix(&text[i..i + 2], 16).ok()).collect()
+}

@@ -1,0 +1,69 @@
+//! 01, Well formed. No made drive can be otherwise; the histories test it after each call.
+
+use crate::drive::{Attention, Drive, Exchange, Login, Source};
+use crate::setup::valid_address;
+
+impl Drive {
+    /// The first rule of "Well formed" that does not hold.
+    pub fn ill_formed(&self) -> Option<&'static str> {
+        // "setup rules hold" was tested by `new`, and nothing stores to the setup
+        let logins: Vec<&Login> = self.logins.iter().flatten().collect();
+        for (i, login) in logins.iter().enumerate() {
+            // "login addresses valid, distinct, not ours"
+            if !valid_address(login.address) || login.address == self.setup.address {
+                return Some("login address not valid, or ours");
+            }
+            if logins[..i].iter().any(|l| l.address == login.address) {
+                return Some("two logins of one address");
+            }
+            // "stored parameters pass the PLOGI rules"
+            let p = &login.parameters;
+            let size = (256..=2112).contains(&p.size) && p.size % 4 == 0;
+            if !size || p.port_name == [0; 8] || p.node_name == [0; 8] || p.concurrent == 0 || p.open_sequences == 0 {
+                return Some("stored parameters break the PLOGI rules");
+            }
+            let open: Vec<&Exchange> = login.exchanges.iter().flatten().collect();
+            // "exchanges only at paired logins, OX_IDs distinct within a login"
+            if !login.paired && !open.is_empty() {
+                return Some("an exchange at an unpaired login");
+            }
+            for (j, e) in open.iter().enumerate() {
+                if open[..j].iter().any(|o| o.ox_id == e.ox_id) {
+                    return Some("two exchanges of one OX_ID");
+                }
+                if !self.could_open(e) {
+                    return Some("an exchange no command opens");
+                }
+                // "with bytes sent at most its total and, short of it, a whole number of full frames"
+                if e.sent > e.total() || e.sent < e.total() && e.sent % p.size.min(2048) != 0 {
+                    return Some("bytes sent");
+                }
+            }
+        }
+        None
+    }
+
+    /// "each exchange is one an accepted command could open"
+    fn could_open(&self, e: &Exchange) -> bool {
+        let sense = |attention| match attention {
+            Attention::None => [0, 0],
+            Attention::Reset => [6, 0x29],
+            Attention::Cleared => [6, 0x2F],
+        };
+        e.fcp_dl >= 1
+            && match &e.source {
+                Source::Unit(start) => {
+                    let count = u64::from(e.wanted / 512);
+                    e.wanted % 512 == 0 && (1..=65_535).contains(&count) && start + count <= self.setup.capacity
+                }
+                Source::Made(b) if b.len() == 8 => e.wanted == 8,
+                Source::Made(b) if b.len() == 36 => (1..=36).contains(&e.wanted),
+                Source::Made(b) if b.len() == 18 => {
+                    let found = [b[2], b[12]];
+                    let attentions = [Attention::None, Attention::Reset, Attention::Cleared];
+                    (1..=18).contains(&e.wanted) && (found == [5, 0x25] || attentions.map(sense).contains(&found))
+                }
+                Source::Made(_) => false,
+            }
+    }
+}

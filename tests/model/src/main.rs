@@ -1,0 +1,294 @@
+//! model: histories of calls to the program recorder, each answer compared with the model's.
+
+mod call;
+mod compare;
+mod histories;
+mod random;
+
+use call::{hex, unhex, Call};
+use compare::{compare, replay, show, shrink, Difference, Program};
+use histories::{History, Kind};
+use model::record::Recorder;
+use model::rules::{counts, TABLE, UNREACHABLE};
+use random::Random;
+use std::io::{BufReader, BufWriter};
+use std::process::exit;
+use std::time::{Duration, Instant};
+
+const USAGE: &str = "\
+usage: model [options] --program PROGRAM [ARGUMENT..]   compare a recorder with the model
+       model [options] --self                           only run the model over the histories
+       model [options] --replay FILE [--program ..]     replay a history; without a program, show the model's answers
+       model --serve                                    be a recorder: the model on standard input and output
+options:
+  --seed N        which histories (1)
+  --calls N       calls in random histories (100,000); the long read comes on top
+  --no-long       leave out the READ of more than 65,536 frames
+  --progress      a line for each history
+  --counts        how often each rule branch was taken
+  --no-shrink     leave a history that differs as long as it is
+  --shrink-time N seconds for shrinking (60)
+  --wait N        seconds to wait for an answer (60)
+  --save FILE     write a history that differs to FILE, too
+PROGRAM and all words after it are the recorder's command line. Exit status: 0 all alike, 1 a difference, 2 not run.";
+
+struct Options {
+    seed: u64,
+    calls: usize,
+    long: bool,
+    progress: bool,
+    counts: bool,
+    shrink: bool,
+    shrink_time: u64,
+    wait: u64,
+    save: Option<String>,
+    replay: Option<String>,
+    alone: bool,
+    serve: bool,
+    program: Vec<String>,
+}
+
+fn wrong(message: &str) -> ! {
+    eprintln!("model: {message}");
+    exit(2)
+}
+
+fn options() -> Options {
+    let mut o = Options {
+        seed: 1,
+        calls: 100_000,
+        long: true,
+        progress: false,
+        counts: false,
+        shrink: true,
+        shrink_time: 60,
+        wait: 60,
+        save: None,
+        replay: None,
+        alone: false,
+        serve: false,
+        program: vec![],
+    };
+    let mut words = std::env::args().skip(1);
+    while let Some(word) = words.next() {
+        let mut value = || words.next().unwrap_or_else(|| wrong(&format!("{word} needs a value\n{USAGE}")));
+        let number = |text: String| -> u64 {
+            text.replace(',', "").parse().unwrap_or_else(|_| wrong(&format!("{text} is no number\n{USAGE}")))
+        };
+        match word.as_str() {
+            "--seed" => o.seed = number(value()),
+            "--calls" => o.calls = number(value()) as usize,
+            "--no-long" => o.long = false,
+            "--progress" => o.progress = true,
+            "--counts" => o.counts = true,
+            "--no-shrink" => o.shrink = false,
+            "--shrink-time" => o.shrink_time = number(value()),
+            "--wait" => o.wait = number(value()),
+            "--save" => o.save = Some(value()),
+            "--replay" => o.replay = Some(value()),
+            "--self" => o.alone = true,
+            "--serve" => o.serve = true,
+            "--program" => {
+                o.program = words.by_ref().collect();
+                if o.program.is_empty() {
+                    wrong(&format!("--program needs a program\n{USAGE}"));
+                }
+            }
+            "--help" | "-h" => {
+                println!("{USAGE}");
+                exit(0)
+            }
+            _ => wrong(&format!("unknown option {word}\n{USAGE}")),
+        }
+    }
+    o
+}
+
+fn main() {
+    let o = options();
+    if o.serve {
+        model::record::serve(
+            BufReader::with_capacity(1 << 16, std::io::stdin()),
+            BufWriter::with_capacity(1 << 16, std::io::stdout()),
+        );
+        return;
+    }
+    let program = Program { words: o.program.clone(), wait: Duration::from_secs(o.wait) };
+    if let Some(file) = &o.replay {
+        exit(replay_file(&o, &program, file));
+    }
+    if o.alone == !o.program.is_empty() {
+        wrong(&format!("give either --program or --self\n{USAGE}"));
+    }
+    exit(run(&o, &program));
+}
+
+/// A history that is run: its number, its seed, its kind and how many calls.
+struct Part {
+    number: usize,
+    seed: u64,
+    kind: Kind,
+    calls: usize,
+}
+
+/// The histories of a run: random ones, then the long read.
+fn parts(o: &Options) -> Vec<Part> {
+    let mut random = Random::new(o.seed);
+    let mut parts = vec![];
+    let mut left = o.calls;
+    while left > 0 {
+        let number = parts.len();
+        let calls = random.within(1_000, 6_000).min(left);
+        parts.push(Part { number, seed: random.u64(), kind: Kind::of(number), calls });
+        left -= calls;
+    }
+    if o.long {
+        parts.push(Part { number: parts.len(), seed: random.u64(), kind: Kind::Long, calls: 66_000 });
+    }
+    parts
+}
+
+fn run(o: &Options, program: &Program) -> i32 {
+    let from = Instant::now();
+    let mut passed = 0;
+    for part in parts(o) {
+        let mut history = History::new(part.seed, part.kind);
+        // every second history ends in a cut record
+        let cut = if part.number % 2 == 1 { History::new(part.seed, Kind::Calm).cut_record() } else { vec![] };
+        let mut calls = vec![];
+        let mut next = || {
+            if calls.len() == part.calls {
+                return None;
+            }
+            let (call, body, answer) = history.step();
+            let letter = call.letter;
+            calls.push(call);
+            Some((letter, body, answer))
+        };
+        let difference = if o.alone {
+            while next().is_some() {}
+            None
+        } else {
+            // every fourth history begins slowly
+            let slow = if part.number % 4 == 0 { 200 } else { 0 };
+            compare(program, slow, &cut, next).unwrap_or_else(|e| wrong(&e))
+        };
+        if let Some(difference) = difference {
+            passed += difference.call;
+            report(o, program, &part, &calls, &cut, &difference, passed);
+            coverage(o);
+            println!("{passed} passed, 1 failed");
+            return 1;
+        }
+        passed += part.calls;
+        if o.progress {
+            let taken = counts().iter().filter(|&&n| n > 0).count();
+            let rate = passed as f64 / from.elapsed().as_secs_f64();
+            eprintln!(
+                "history {} {:?}: {} calls, {passed} in all, {taken} branches, {rate:.0} calls a second",
+                part.number, part.kind, part.calls
+            );
+        }
+    }
+    let seconds = from.elapsed().as_secs_f64();
+    println!("{passed} calls {} in {seconds:.1} seconds, seed {}", if o.alone { "made" } else { "compared" }, o.seed);
+    coverage(o);
+    println!("{passed} passed, 0 failed");
+    0
+}
+
+/// Prints how many rule branches were taken, and which were not.
+fn coverage(o: &Options) {
+    let counts = counts();
+    let taken = counts.iter().filter(|&&n| n > 0).count();
+    println!("{taken} of {} rule branches taken", TABLE.len());
+    for (i, (name, text)) in TABLE.iter().enumerate() {
+        let reason = UNREACHABLE.iter().find(|u| u.0 as usize == i).map(|u| u.1);
+        match (counts[i], reason) {
+            (0, Some(reason)) => println!("  not taken: {name}, {text} (cannot be: {reason})"),
+            (0, None) => println!("  not taken: {name}, {text}"),
+            (n, _) if o.counts => println!("  {n:8} {name}, {text}"),
+            _ => {}
+        }
+    }
+}
+
+fn report(o: &Options, program: &Program, part: &Part, calls: &[Call], cut: &[u8], difference: &Difference, passed: usize) {
+    println!(
+        "difference: seed {}, history {} ({:?}), call {} of it, call {passed} of the run",
+        o.seed, part.number, part.kind, difference.call
+    );
+    match calls.get(difference.call) {
+        Some(call) => println!("  call     {}", call.line()),
+        None => println!("  call     the end of the input after {}", hex(cut)),
+    }
+    println!("  expected {}\n  answered {}", difference.expected, difference.answered);
+    let mut kept = calls[..calls.len().min(difference.call + 1)].to_vec();
+    if o.shrink {
+        let before = kept.len();
+        let (fewer, replays) = shrink(program, kept, cut, Duration::from_secs(o.shrink_time)).unwrap_or_else(|e| wrong(&e));
+        kept = fewer;
+        println!("shrunk from {before} calls to {} in {replays} replays", kept.len());
+        match replay(program, &kept, cut).unwrap_or_else(|e| wrong(&e)) {
+            Some(d) => println!(
+                "  call     {}\n  expected {}\n  answered {}",
+                kept.get(d.call).map_or("the end".into(), Call::line),
+                d.expected,
+                d.answered
+            ),
+            None => println!("  the shrunk history does not differ each time"),
+        }
+    }
+    let mut text = format!("; seed {}, history {}: the last call differs\n", o.seed, part.number);
+    for call in &kept {
+        text += &format!("{}\n", call.line());
+    }
+    if kept.len() <= difference.call && difference.call == calls.len() || !cut.is_empty() && calls.get(difference.call).is_none()
+    {
+        text += &format!("CUT {}\n", hex(cut));
+    }
+    if kept.len() <= 400 {
+        println!("replay file:\n{text}");
+    } else {
+        println!("the history is {} calls long: --save FILE keeps it", kept.len());
+    }
+    if let Some(file) = &o.save {
+        std::fs::write(file, text).unwrap_or_else(|e| wrong(&format!("cannot write {file}: {e}")));
+    }
+}
+
+fn replay_file(o: &Options, program: &Program, file: &str) -> i32 {
+    let text = std::fs::read_to_string(file).unwrap_or_else(|e| wrong(&format!("cannot read {file}: {e}")));
+    let (mut calls, mut cut) = (vec![], vec![]);
+    for (i, line) in text.lines().enumerate() {
+        let line = line.trim();
+        if line.is_empty() || line.starts_with(';') {
+            continue;
+        }
+        match line.strip_prefix("CUT ") {
+            Some(bytes) => cut = unhex(bytes).unwrap_or_else(|| wrong(&format!("{file}:{}: no bytes", i + 1))),
+            None => calls.push(Call::parse(line).unwrap_or_else(|| wrong(&format!("{file}:{}: no call", i + 1)))),
+        }
+    }
+    if o.program.is_empty() {
+        let mut model = Recorder::default();
+        for call in &calls {
+            println!("{}\n  {}", call.line(), show(&model.call(call.letter, &call.full_body()).bytes()));
+        }
+        println!("{} passed, 0 failed", calls.len());
+        return 0;
+    }
+    match replay(program, &calls, &cut).unwrap_or_else(|e| wrong(&e)) {
+        None => {
+            println!("{} passed, 0 failed", calls.len());
+            0
+        }
+        Some(d) => {
+            println!("difference at call {}", d.call);
+            println!("  call     {}", calls.get(d.call).map_or("the end".into(), Call::line));
+            println!("  expected {}\n  answered {}", d.expected, d.answered);
+            println!("{} passed, 1 failed", d.call);
+            1
+        }
+    }
+}
