@@ -50,7 +50,7 @@ module _ where
   on-plogi : (l : Kept) (a : Answer) (d : Bool) (b : Belief) (r r′ : Record) → OnPlogi l a r′ → Fits (clear (some a) d) (afterPlogi l a b) r′
   on-plogi l none d b r r′ h = tt
   on-plogi l acc d b r r′ h = inl (sym h)
-  on-plogi l rjt d b r r′ h = inl (sym h)
+  on-plogi l rjt d b r r′ h = let e : Fits false (sure out) r′ = inl (sym h) in e
   on-plogi l dlogo d b r r′ h = absurd h
   on-plogi l other d b r r′ h = absurd h
 
@@ -70,7 +70,7 @@ module _ where
   on-link f none d b r r′ h p = tt
   on-link f acc d b r r′ h p = thought f d b r r′ (h .0) (h .1) p
   on-link f rjt d b r r′ h p = moved false b r r′ (h .1) (firm true d b r (λ t. h .0) p)
-  on-link f dlogo d b r r′ h p = inl (sym h)
+  on-link f dlogo d b r r′ h p = let e : Fits false (sure out) r′ = inl (sym h) in e
   on-link f other d b r r′ h p = absurd h
 
   -- a host that is sure of a pairing
