@@ -212,12 +212,12 @@ fn answered(s: Session, a: Answer, lent: &[u8]) -> Told
     ensures { λ r. ⌜ ToldIs (answerTo s a (now (lent .entry))) r ⌝ }
 {
     let said = a.said;
-    let d = a.drive;
+    let after = a.drive;
     let l = line_of(said, lent);
     Told {
         session: Session {
             made: s.made,
-            drive: d,
+            drive: after,
         },
         line: l,
     }
