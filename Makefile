@@ -1,9 +1,10 @@
-# make: prove and build everything, and judge the sample logins. make test: the gate.
+# make: prove and build everything, judge the sample logins, and show the sample session. make test: the gate.
 .PHONY: all test fmt wrong
 
 all:
 	rt check
 	tests/program judges < samples/four.logins
+	samples/show samples/session.calls
 
 test:
 	.ci/run

@@ -85,13 +85,19 @@ LOOP_RESET, TIME_OVER, POWER_ON = 1, 2, 3
 # the unit
 
 
+def block(number):
+    """A block of the unit: every eight bytes have its number and their own place, so that no other bytes can stand for them unseen."""
+    front = number.to_bytes(6, "big")
+    return b"".join(front + bytes((place, 0xA5 ^ place)) for place in range(64))
+
+
 def unit(start, size):
-    """Bytes of the unit from a block on: each is told by its place, also where the places differ in their upper bits alone."""
-    return bytes((p * 7 + (p >> 9) * 3 + (p >> 32) * 101) & 0xFF for p in range(start * 512, start * 512 + size))
+    """Bytes of the unit from a block on."""
+    return b"".join(block(start + n) for n in range(-(-size // 512)))[:size]
 
 
 def served(name, f, content, size=2048):
-    """Every frame of made data, from no window, and the FCP_RSP that follows."""
+    """Every frame of made data, from no window."""
     for number in range(-(-len(content) // size)):
         part = content[number * size:(number + 1) * size]
         asks(name, f, data(f, number, number * size, part, (number + 1) * size >= len(content)))
@@ -174,7 +180,7 @@ def setups():
     sends("setup-kept-again", test_unit(0x01), good())
     for name, capacity, address in (("least", 1, 0x01), ("most", 0xFFFFFFFF, 0xE8)):
         call("setup-" + name, "S", setup(capacity, address), 0)
-    fresh("01")  # a new drive has no logins: the ninth place is not asked for
+    fresh("01")  # a new drive has no logins
     sends("setup-new", test_unit(0x02), logout)
 
 
@@ -258,7 +264,7 @@ def next_refusals():
         asks_in_vain("room-%d-no-exchange" % room, 1, 0xFF, 0x0999, 0, b"", room)
     for name, address, ox_id in (("ox-id", 0x01, 0x0103), ("ox-id-high", 0x01, 0x0001), ("other-login", 0x02, 0x0101), ("no-login", 0x04, 0x0101), ("ours", 0xEF, 0x0101),
                                  ("no-address", 0x03, 0x0101), ("zero", 0x00, 0x0101), ("upper", 0x01000001, 0x0101), ("middle", 0x0101, 0x0101)):
-        asks_in_vain(name, 9, address, ox_id, 10, lent)
+        asks_in_vain(name, 9, address, ox_id, 10, lent[:2048])
     for name, start, window in (("before", 9, 512 + 2047), ("after", 11, 3072), ("short", 10, 2047), ("none", 10, 0), ("far", 1000000, 4096),
                                 ("wrapped", (1 << 55) + 10, 4096), ("most", BIG, 4096), ("zero", 0, 2048)):
         asks_in_vain("window-" + name, 10, 0x01, 0x0101, start, bytes(window))
@@ -333,7 +339,7 @@ def reading():
     reads("dl-2049", 0x01, 0x0305, 20, 5, 2049, over(511))
     reads("dl-2050", 0x01, 0x0306, 20, 5, 2050, over(510), room=4096)
     reads("last-block", 0x01, 0x0307, 99, 1, 512, good())  # "capacity 100, address 99 count 1 read"
-    reads("all", 0x01, 0x0308, 0, 20, 10240, good(), window=10240)
+    reads("one-window", 0x01, 0x0308, 40, 10, 5120, good(), window=5120)
     sends("past-end", cmnd(0x01, 0x0309, read(99, 2), 1024), check("05/21/00", 1024))  # "99 count 2, 100 count 0 refused"
     sends("at-end", cmnd(0x01, 0x030A, read(100, 0)), check("05/21/00"))
     sends("count-0", cmnd(0x01, 0x030B, read(99, 0)), good())
@@ -447,6 +453,7 @@ def sample():
     sends("pdisc", pdisc(0x01), login_acc)
     sends("logo", LIBFC["logo"], acc)
     sends("no-login", test_unit(0x01), logout)
+    calls[:] = [one for one in calls if not one.name.endswith("-freed")]  # a refused call changes nothing
 
 
 if __name__ == "__main__":

@@ -61,9 +61,9 @@ happened s e = answerTo s (eventAnswer (s .drive) e) []
 unfoldable pub setupOf : List ℕ → Setup
 setupOf b = record { capacity = num 8 b 0; address = num 4 b 8; identity = take 28 (drop 12 b); accept = drop 40 b }
 
--- S: 152 bytes
+-- S: 152 bytes; "body too short" is no call, and what follows a call's bytes is not looked at
 unfoldable pub setupCall : Session → List ℕ → Told
-setupCall s b = cond (eqb (length b) 152) (madeBy s (newAnswer (setupOf b))) (noCall s)
+setupCall s b = cond (ltb (length b) 152) (noCall s) (madeBy s (newAnswer (setupOf (take 152 b))))
 
 -- F: "room of the reply buffer u16 (at most 4,096), frame"
 unfoldable pub frameCall : Session → List ℕ → Told
@@ -90,7 +90,7 @@ eventOf n s =
     (noCall s)))
 
 unfoldable pub eventCall : Session → List ℕ → Told
-eventCall s b = cond (eqb (length b) 1) (cond (s .made) (eventOf (getD b 0 0) s) (noCall s)) (noCall s)
+eventCall s b = cond (ltb (length b) 1) (noCall s) (cond (s .made) (eventOf (getD b 0 0) s) (noCall s))
 
 -- the letters S, F, N and E
 unfoldable pub toldOf : Session → ℕ → List ℕ → Told

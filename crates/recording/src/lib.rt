@@ -81,10 +81,10 @@ pub fn no_call(s: Session) -> Told
 fn tell_setup(s: Session, body: &[u8]) -> Told
     ensures { λ r. ⌜ ToldIs (setupCall s (now (body .entry))) r ⌝ }
 {
-    if body.len() != 152 {
+    if body.len() < 152 {
         return no_call(s);
     }
-    made(s, Drive::new(setup_of(body)))
+    made(s, Drive::new(setup_of(&body[..152])))
 }
 
 fn tell_frame(s: Session, body: &[u8]) -> Told
@@ -131,7 +131,7 @@ fn tell_next(s: Session, body: &[u8]) -> Told
 fn tell_event(s: Session, body: &[u8]) -> Told
     ensures { λ r. ⌜ ToldIs (eventCall s (now (body .entry))) r ⌝ }
 {
-    if body.len() != 1 {
+    if body.len() < 1 {
         return no_call(s);
     }
     if s.made {
@@ -212,12 +212,12 @@ fn answered(s: Session, a: Answer, lent: &[u8]) -> Told
     ensures { λ r. ⌜ ToldIs (answerTo s a (now (lent .entry))) r ⌝ }
 {
     let said = a.said;
-    let d = a.drive;
+    let after = a.drive;
     let l = line_of(said, lent);
     Told {
         session: Session {
             made: s.made,
-            drive: d,
+            drive: after,
         },
         line: l,
     }

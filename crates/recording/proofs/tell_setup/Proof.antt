@@ -1,6 +1,7 @@
 -- `recording::tell_setup` meets its contract: the test that was made is the definition's. Assumes nothing.
-use mathlib.Core.Path.{ap, _∙_}
-use borrow.Author.Tests.{eq-eqb, ne-eqb}
+use mathlib.Core.Path.{sym, ap, _∙_}
+use lib.Seq.{length-take-le}
+use borrow.Author.Tests.{lt-ltb, le-ltb}
 use Rattle.drive.specs.Drive.{newAnswer}
 use Rattle.recording.specs.Calls.{setupCall}
 use borrow.Author.Needs.{needs}
@@ -9,13 +10,19 @@ use Rattle.recording.proofs.tell_setup.Tie as tie
 
 returns : tie.Need-returns
 unfolding setupCall
-returns c = rw (ne-eqb _ _ (c .before .if1 .taken)) (c .no-call .ensures)
+returns c = rw (lt-ltb _ _ (c .before .if1 .taken)) (c .no-call .ensures)
+
+slice-aggregate-setup-of : tie.Need-slice-aggregate-setup-of
+slice-aggregate-setup-of c = sym (length-take-le 152 (c .before .before .before .args .body .now) (c .before .if1 .left))
+
+setup-of-requires : tie.Need-setup-of-requires
+setup-of-requires c κs = length-take-le 152 (c .before .before .before .args .body .now) (c .before .if1 .left)
 
 returns-2 : tie.Need-returns-2
 unfolding setupCall
 returns-2 c =
     let n = c .before in
-    rw (eq-eqb _ _ (n .before .before .if1 .left)) (rw (n .new .ensures ∙ ap newAnswer (n .before .setup-of .ensures)) at (c .made .ensures))
+    rw (le-ltb _ _ (n .before .before .before .if1 .left)) (rw (n .new .ensures ∙ ap newAnswer (n .before .setup-of .ensures)) at (c .made .ensures))
 
 pub tell-setup-spec : {M : Type 1} → statement M
 tell-setup-spec =
@@ -23,7 +30,8 @@ tell-setup-spec =
     (tie.spec
     (λ c κs. search needs)
     returns
-    (λ c κs. search needs)
+    slice-aggregate-setup-of
+    setup-of-requires
     (λ c κs. search needs)
     (λ c κs. search needs)
     returns-2)
