@@ -175,11 +175,12 @@ def setups():
         call("8-" + name, "S", body, 8)
     asks("setup-kept", f, data(f, 0, 0, unit(98, 1024), True), 98, unit(98, 1024))  # the drive of before, with its login and its exchange
     asks("setup-kept-rsp", f, good()(f))
-    for size in (0, 12, 151, 153):
-        no_call("setup-of-%d" % size, "S", setup().ljust(153, b"\x00")[:size])
+    for size in (0, 12, 151):
+        no_call("setup-of-%d" % size, "S", setup()[:size])
     sends("setup-kept-again", test_unit(0x01), good())
     for name, capacity, address in (("least", 1, 0x01), ("most", 0xFFFFFFFF, 0xE8)):
         call("setup-" + name, "S", setup(capacity, address), 0)
+    call("setup-of-153", "S", setup() + b"\x00", 0)  # what follows a call's bytes is not looked at
     fresh("01")  # a new drive has no logins
     sends("setup-new", test_unit(0x02), logout)
 
@@ -190,7 +191,7 @@ def no_calls():
     for letter in "\x00sXf\xFF":
         no_call("letter-%02X" % ord(letter), letter, b"")
         no_call("letter-%02X-body" % ord(letter), letter, setup())
-    for body in (b"", b"\x00", b"\x04", b"\xFF", b"\x01\x01"):
+    for body in (b"", b"\x00", b"\x04", b"\xFF"):
         no_call("event-" + body.hex(), "E", body)
     for body in (b"", b"\x08"):
         no_call("frame-of-%d" % len(body), "F", body)
@@ -200,6 +201,8 @@ def no_calls():
         no_call("frame-room-%d" % room, "F", room.to_bytes(2, "big") + test_unit(0x01))
         no_call("next-room-%d" % room, "N", asking(0x01, 0x0101, room=room))
     sends("no-calls-kept", test_unit(0x01), good(), room=4096)
+    call("event-and-more", "E", b"\x03\xFF", 0)  # what follows a call's bytes is not looked at
+    sends("event-and-more-done", test_unit(0x01), logout)
 
 
 def changed(f, *changes):
