@@ -428,3 +428,22 @@ impl History {
         }
     }
 }
+
+#[cfg(test)]
+mod tests {
+    use super::{History, Kind};
+    use crate::call::Call;
+
+    /// The same seed gives the same history, and each call is read back from its line.
+    #[test]
+    fn replay() {
+        for kind in [Kind::Calm, Kind::Restless, Kind::Damage, Kind::Setups, Kind::Long] {
+            let (mut one, mut other) = (History::new(7, kind), History::new(7, kind));
+            for _ in 0..3_000 {
+                let (call, body, answer) = one.step();
+                assert_eq!(other.step(), (call.clone(), body, answer));
+                assert_eq!(Call::parse(&call.line()), Some(call));
+            }
+        }
+    }
+}
