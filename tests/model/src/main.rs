@@ -11,9 +11,18 @@ use histories::{History, Kind};
 use model::record::Recorder;
 use model::rules::{counts, TABLE, UNREACHABLE};
 use random::Random;
-use std::io::{BufReader, BufWriter};
+use std::io::{BufReader, BufWriter, Write};
 use std::process::exit;
 use std::time::{Duration, Instant};
+
+/// Prints a line; where nobody reads it any more, that is the end.
+macro_rules! say {
+    ($($line:tt)*) => {
+        if writeln!(std::io::stdout(), $($line)*).is_err() {
+            exit(2)
+        }
+    };
+}
 
 const USAGE: &str = "\
 usage: model [options] --program PROGRAM [ARGUMENT..]   compare a recorder with the model
@@ -95,7 +104,7 @@ fn options() -> Options {
                 }
             }
             "--help" | "-h" => {
-                println!("{USAGE}");
+                say!("{USAGE}");
                 exit(0)
             }
             _ => wrong(&format!("unknown option {word}\n{USAGE}")),
@@ -184,12 +193,15 @@ fn run(o: &Options, program: &Program) -> i32 {
         };
         if let Some(difference) = difference {
             passed += difference.call;
-            println!(
+            say!(
                 "difference: seed {}, history {} ({:?}), call {} of it, call {passed} of the run",
-                o.seed, part.number, part.kind, difference.call
+                o.seed,
+                part.number,
+                part.kind,
+                difference.call
             );
             report(o, program, &part, &calls, &cut, &difference);
-            println!("{passed} passed, 1 failed");
+            say!("{passed} passed, 1 failed");
             return 1;
         }
         passed += part.calls;
@@ -203,9 +215,9 @@ fn run(o: &Options, program: &Program) -> i32 {
         }
     }
     let seconds = from.elapsed().as_secs_f64();
-    println!("{passed} calls {} in {seconds:.1} seconds, seed {}", if o.alone { "made" } else { "compared" }, o.seed);
+    say!("{passed} calls {} in {seconds:.1} seconds, seed {}", if o.alone { "made" } else { "compared" }, o.seed);
     coverage(o);
-    println!("{passed} passed, 0 failed");
+    say!("{passed} passed, 0 failed");
     0
 }
 
@@ -213,13 +225,13 @@ fn run(o: &Options, program: &Program) -> i32 {
 fn coverage(o: &Options) {
     let counts = counts();
     let taken = counts.iter().filter(|&&n| n > 0).count();
-    println!("{taken} of {} rule branches taken", TABLE.len());
+    say!("{taken} of {} rule branches taken", TABLE.len());
     for (i, (name, text)) in TABLE.iter().enumerate() {
         let reason = UNREACHABLE.iter().find(|u| u.0 as usize == i).map(|u| u.1);
         match (counts[i], reason) {
-            (0, Some(reason)) => println!("  not taken: {name}, {text} (cannot be: {reason})"),
-            (0, None) => println!("  not taken: {name}, {text}"),
-            (n, _) if o.counts => println!("  {n:8} {name}, {text}"),
+            (0, Some(reason)) => say!("  not taken: {name}, {text} (cannot be: {reason})"),
+            (0, None) => say!("  not taken: {name}, {text}"),
+            (n, _) if o.counts => say!("  {n:8} {name}, {text}"),
             _ => {}
         }
     }
@@ -228,10 +240,10 @@ fn coverage(o: &Options) {
 /// The call that differs, in words and in hex, and both answers.
 fn tell(calls: &[Call], cut: &[u8], difference: &Difference) {
     match calls.get(difference.call) {
-        Some(call) => println!("  call     {}\n           {}", call.words(), call.line()),
-        None => println!("  call     the end of the input after {}", hex(cut)),
+        Some(call) => say!("  call     {}\n           {}", call.words(), call.line()),
+        None => say!("  call     the end of the input after {}", hex(cut)),
     }
-    println!("  expected {}\n  answered {}", difference.expected, difference.answered);
+    say!("  expected {}\n  answered {}", difference.expected, difference.answered);
 }
 
 /// Tells a difference, shrinks the history and prints it as a replay file.
@@ -245,10 +257,10 @@ fn report(o: &Options, program: &Program, part: &Part, calls: &[Call], cut: &[u8
         let slow = if difference.call < part.slow() { usize::MAX } else { 0 };
         let (fewer, replays) = shrink(program, slow, kept, cut, Duration::from_secs(o.shrink_time)).unwrap_or_else(|e| wrong(&e));
         kept = fewer;
-        println!("shrunk from {} calls to {} in {replays} replays", difference.call + usize::from(!at_end), kept.len());
+        say!("shrunk from {} calls to {} in {replays} replays", difference.call + usize::from(!at_end), kept.len());
         match replay(program, slow, &kept, cut).unwrap_or_else(|e| wrong(&e)) {
             Some(d) => tell(&kept, cut, &d),
-            None => println!("  the shrunk history does not differ each time"),
+            None => say!("  the shrunk history does not differ each time"),
         }
     }
     let mut text = format!("; seed {}, history {}: the last call differs\n", o.seed, part.number);
@@ -262,9 +274,9 @@ fn report(o: &Options, program: &Program, part: &Part, calls: &[Call], cut: &[u8
         std::fs::write(file, &text).unwrap_or_else(|e| wrong(&format!("cannot write {file}: {e}")));
     }
     if kept.len() <= 400 {
-        println!("replay file:\n{text}");
+        say!("replay file:\n{text}");
     } else {
-        println!("the history is {} calls long: --save FILE keeps it", kept.len());
+        say!("the history is {} calls long: --save FILE keeps it", kept.len());
     }
 }
 
@@ -284,20 +296,20 @@ fn replay_file(o: &Options, program: &Program, file: &str) -> i32 {
     if o.program.is_empty() {
         let mut model = Recorder::default();
         for call in &calls {
-            println!("; {}\n{}\n  {}", call.words(), call.line(), show(&model.call(call.letter, &call.full_body()).bytes()));
+            say!("; {}\n{}\n  {}", call.words(), call.line(), show(&model.call(call.letter, &call.full_body()).bytes()));
         }
-        println!("{} passed, 0 failed", calls.len());
+        say!("{} passed, 0 failed", calls.len());
         return 0;
     }
     match replay(program, 0, &calls, &cut).unwrap_or_else(|e| wrong(&e)) {
         None => {
-            println!("{} passed, 0 failed", calls.len());
+            say!("{} passed, 0 failed", calls.len());
             0
         }
         Some(d) => {
-            println!("difference at call {}", d.call);
+            say!("difference at call {}", d.call);
             tell(&calls, &cut, &d);
-            println!("{} passed, 1 failed", d.call);
+            say!("{} passed, 1 failed", d.call);
             1
         }
     }

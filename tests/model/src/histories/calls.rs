@@ -31,7 +31,8 @@ impl History {
         body.extend(ox_id.to_be_bytes());
         body.extend(room.to_be_bytes());
         body.extend(start.to_be_bytes());
-        Call { letter: b'N', body, tail: length, seed: self.random.u32() }
+        let seed = self.random.u32();
+        Call { letter: b'N', body, tail: length, seed: if length > 0 { seed } else { 0 } }
     }
 
     /// The position and number of bytes of the next frame, where it carries READ data.
