@@ -32,6 +32,44 @@ impl Call {
         format!("{letter} {}{tail}", hex(&self.body))
     }
 
+    /// What the call is, in words.
+    pub fn words(&self) -> String {
+        let b = self.full_body();
+        let number = |from: usize, to: usize| b[from..to].iter().fold(0u64, |n, &b| n << 8 | u64::from(b));
+        match self.letter {
+            b'S' if b.len() >= 152 => format!("make a drive: capacity {}, own address {:02X}", number(0, 8), number(8, 12)),
+            b'E' if b.len() == 1 => format!("event {}", b[0]),
+            b'N' if b.len() >= 16 => format!(
+                "next frame: address {:02X}, OX_ID {:04X}, room {}, window of {} bytes at block {}",
+                number(0, 4),
+                number(4, 6),
+                number(6, 8),
+                b.len() - 16,
+                number(8, 16)
+            ),
+            b'F' if b.len() >= 26 => {
+                let what = match (b[2], b.get(26)) {
+                    (0x22, Some(code)) => format!("link request {code:02X}h"),
+                    (0x23, ..) => "link reply".into(),
+                    (0x81, ..) => "ABTS".into(),
+                    (0x06, ..) if b.len() == 58 => {
+                        format!("command {:02X}h, task flags {:02X}h, FCP_DL {}", b[38], b[36], number(54, 58))
+                    }
+                    (r_ctl, ..) => format!("R_CTL {r_ctl:02X}h"),
+                };
+                format!(
+                    "{what} from {:02X}, OX_ID {:04X}, {} bytes, room {}",
+                    number(7, 10),
+                    number(18, 20),
+                    b.len() - 2,
+                    number(0, 2)
+                )
+            }
+            b'F' if b.len() >= 2 => format!("a frame of {} bytes, room {}", b.len() - 2, number(0, 2)),
+            _ => format!("letter {:02X}h with {} bytes", self.letter, b.len()),
+        }
+    }
+
     pub fn parse(line: &str) -> Option<Call> {
         let mut words = line.split_whitespace();
         let letter = words.next()?;

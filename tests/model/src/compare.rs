@@ -5,7 +5,7 @@ use model::record::{Answer, Recorder};
 use std::collections::VecDeque;
 use std::io::{BufReader, Read, Write};
 use std::process::{Child, Command, Stdio};
-use std::sync::mpsc::{channel, sync_channel, Receiver, RecvTimeoutError, SyncSender};
+use std::sync::mpsc::{channel, Receiver, RecvTimeoutError, Sender};
 use std::time::{Duration, Instant};
 
 /// How a recorder is run.
@@ -61,8 +61,8 @@ pub fn compare(
 }
 
 /// Threads that write to the child and read from it, so that neither side waits for the other.
-fn pipes(child: &mut Child) -> (SyncSender<Vec<u8>>, Receiver<Written>) {
-    let (to, input) = sync_channel::<Vec<u8>>(4);
+fn pipes(child: &mut Child) -> (Sender<Vec<u8>>, Receiver<Written>) {
+    let (to, input) = channel::<Vec<u8>>();
     let (output, from) = channel();
     let mut stdin = child.stdin.take().unwrap();
     let stdout = child.stdout.take().unwrap();
@@ -104,7 +104,7 @@ fn converse(
     slow: usize,
     cut: &[u8],
     next: &mut impl FnMut() -> Option<(u8, Vec<u8>, Answer)>,
-    to: SyncSender<Vec<u8>>,
+    to: Sender<Vec<u8>>,
     from: Receiver<Written>,
 ) -> Option<Difference> {
     let mut waiting: VecDeque<Answer> = VecDeque::new();
@@ -168,10 +168,10 @@ pub fn show(answer: &[u8]) -> String {
 }
 
 /// Runs the program over given calls.
-pub fn replay(program: &Program, calls: &[Call], cut: &[u8]) -> Result<Option<Difference>, String> {
+pub fn replay(program: &Program, slow: usize, calls: &[Call], cut: &[u8]) -> Result<Option<Difference>, String> {
     let mut model = Recorder::default();
     let mut calls = calls.iter();
-    compare(program, 0, cut, || {
+    compare(program, slow, cut, || {
         let call = calls.next()?;
         let body = call.full_body();
         let answer = model.call(call.letter, &body);
@@ -180,7 +180,13 @@ pub fn replay(program: &Program, calls: &[Call], cut: &[u8]) -> Result<Option<Di
 }
 
 /// Drops calls, large parts first, as long as the answers still differ; answers the calls kept and the number of replays.
-pub fn shrink(program: &Program, calls: Vec<Call>, cut: &[u8], time: Duration) -> Result<(Vec<Call>, usize), String> {
+pub fn shrink(
+    program: &Program,
+    slow: usize,
+    calls: Vec<Call>,
+    cut: &[u8],
+    time: Duration,
+) -> Result<(Vec<Call>, usize), String> {
     let from = Instant::now();
     let mut kept = calls;
     let mut replays = 0;
@@ -195,7 +201,7 @@ pub fn shrink(program: &Program, calls: Vec<Call>, cut: &[u8], time: Duration) -
             let mut fewer = kept.clone();
             fewer.drain(at..(at + part).min(kept.len()));
             replays += 1;
-            match replay(program, &fewer, cut)? {
+            match replay(program, slow, &fewer, cut)? {
                 Some(difference) => {
                     fewer.truncate(difference.call + 1);
                     kept = fewer;

@@ -247,15 +247,15 @@ fn form_unknown(h: &Header, payload: &[u8]) -> bool {
 
 /// "Refusal 7 spares only PLOGI, PDISC, ADISC, LOGO", told by the code alone.
 fn spared(h: &Header, payload: &[u8]) -> bool {
-    match h.r_ctl {
-        0x22 => {
-            let spared = [0x03, 0x50, 0x52, 0x05].contains(&payload[0]);
-            when(spared, Rule::UnprovenSpared) || !when(!spared, Rule::UnprovenLink)
-        }
-        0x23 => !when(true, Rule::UnprovenDone),
-        0x81 => !when(true, Rule::UnprovenAbts),
-        _ => !when(true, Rule::UnprovenCommand),
-    }
+    let rule = match h.r_ctl {
+        0x22 if [0x03, 0x50, 0x52, 0x05].contains(&payload[0]) => Rule::UnprovenSpared,
+        0x22 => Rule::UnprovenLink,
+        0x23 => Rule::UnprovenDone,
+        0x81 => Rule::UnprovenAbts,
+        _ => Rule::UnprovenCommand,
+    };
+    hit(rule);
+    rule == Rule::UnprovenSpared
 }
 
 /// "Otherwise the reply stands at the front of the buffer, its length (0 for nothing to send) in the answer, later bytes unchanged."

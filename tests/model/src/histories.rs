@@ -330,11 +330,11 @@ impl History {
             (8, if full { 2 } else { pick(120, 30) }),
             (9, if damage { 160 } else { 40 }),
             (10, if restless { 8 } else { 4 }),
-            (11, if restless { 3 } else { 1 }),
+            (11, if restless { 6 } else { 2 }),
             (12, if setups { 120 } else { 4 }),
             (13, if setups { 4 } else { usize::from(!calm) }),
             (14, if setups { 60 } else { 6 }),
-            (15, if damage { 8 } else { 1 }),
+            (15, if damage { 12 } else { 1 }),
             (16, 6),
             (17, 6),
             (18, if setups { 2 } else { 0 }),
@@ -399,7 +399,7 @@ impl History {
                 None
             }
             11 => {
-                let event = self.weighted(&[(1, 2), (2, 4), (3, 1)]);
+                let event = self.weighted(&[(1, 2), (2, 4), (3, 2)]);
                 Some(Call::new(b'E', vec![event]))
             }
             12 => Some(self.bad_setup()),
@@ -424,6 +424,25 @@ impl History {
             _ => {
                 self.plan_many_frames();
                 None
+            }
+        }
+    }
+}
+
+#[cfg(test)]
+mod tests {
+    use super::{History, Kind};
+    use crate::call::Call;
+
+    /// The same seed gives the same history, and each call is read back from its line.
+    #[test]
+    fn replay() {
+        for kind in [Kind::Calm, Kind::Restless, Kind::Damage, Kind::Setups, Kind::Long] {
+            let (mut one, mut other) = (History::new(7, kind), History::new(7, kind));
+            for _ in 0..3_000 {
+                let (call, body, answer) = one.step();
+                assert_eq!(other.step(), (call.clone(), body, answer));
+                assert_eq!(Call::parse(&call.line()), Some(call));
             }
         }
     }

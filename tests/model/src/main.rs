@@ -11,9 +11,18 @@ use histories::{History, Kind};
 use model::record::Recorder;
 use model::rules::{counts, TABLE, UNREACHABLE};
 use random::Random;
-use std::io::{BufReader, BufWriter};
+use std::io::{BufReader, BufWriter, Write};
 use std::process::exit;
 use std::time::{Duration, Instant};
+
+/// Prints a line; where nobody reads it any more, that is the end.
+macro_rules! say {
+    ($($line:tt)*) => {
+        if writeln!(std::io::stdout(), $($line)*).is_err() {
+            exit(2)
+        }
+    };
+}
 
 const USAGE: &str = "\
 usage: model [options] --program PROGRAM [ARGUMENT..]   compare a recorder with the model
@@ -95,7 +104,7 @@ fn options() -> Options {
                 }
             }
             "--help" | "-h" => {
-                println!("{USAGE}");
+                say!("{USAGE}");
                 exit(0)
             }
             _ => wrong(&format!("unknown option {word}\n{USAGE}")),
@@ -129,6 +138,17 @@ struct Part {
     seed: u64,
     kind: Kind,
     calls: usize,
+}
+
+impl Part {
+    /// Every fourth history begins slowly: so many answers are waited for one by one.
+    fn slow(&self) -> usize {
+        if self.number % 4 == 0 {
+            200
+        } else {
+            0
+        }
+    }
 }
 
 /// The histories of a run: random ones, then the long read.
@@ -169,15 +189,19 @@ fn run(o: &Options, program: &Program) -> i32 {
             while next().is_some() {}
             None
         } else {
-            // every fourth history begins slowly
-            let slow = if part.number % 4 == 0 { 200 } else { 0 };
-            compare(program, slow, &cut, next).unwrap_or_else(|e| wrong(&e))
+            compare(program, part.slow(), &cut, next).unwrap_or_else(|e| wrong(&e))
         };
         if let Some(difference) = difference {
             passed += difference.call;
-            report(o, program, &part, &calls, &cut, &difference, passed);
-            coverage(o);
-            println!("{passed} passed, 1 failed");
+            say!(
+                "difference: seed {}, history {} ({:?}), call {} of it, call {passed} of the run",
+                o.seed,
+                part.number,
+                part.kind,
+                difference.call
+            );
+            report(o, program, &part, &calls, &cut, &difference);
+            say!("{passed} passed, 1 failed");
             return 1;
         }
         passed += part.calls;
@@ -191,9 +215,9 @@ fn run(o: &Options, program: &Program) -> i32 {
         }
     }
     let seconds = from.elapsed().as_secs_f64();
-    println!("{passed} calls {} in {seconds:.1} seconds, seed {}", if o.alone { "made" } else { "compared" }, o.seed);
+    say!("{passed} calls {} in {seconds:.1} seconds, seed {}", if o.alone { "made" } else { "compared" }, o.seed);
     coverage(o);
-    println!("{passed} passed, 0 failed");
+    say!("{passed} passed, 0 failed");
     0
 }
 
@@ -201,59 +225,58 @@ fn run(o: &Options, program: &Program) -> i32 {
 fn coverage(o: &Options) {
     let counts = counts();
     let taken = counts.iter().filter(|&&n| n > 0).count();
-    println!("{taken} of {} rule branches taken", TABLE.len());
+    say!("{taken} of {} rule branches taken", TABLE.len());
     for (i, (name, text)) in TABLE.iter().enumerate() {
         let reason = UNREACHABLE.iter().find(|u| u.0 as usize == i).map(|u| u.1);
         match (counts[i], reason) {
-            (0, Some(reason)) => println!("  not taken: {name}, {text} (cannot be: {reason})"),
-            (0, None) => println!("  not taken: {name}, {text}"),
-            (n, _) if o.counts => println!("  {n:8} {name}, {text}"),
+            (0, Some(reason)) => say!("  not taken: {name}, {text} (cannot be: {reason})"),
+            (0, None) => say!("  not taken: {name}, {text}"),
+            (n, _) if o.counts => say!("  {n:8} {name}, {text}"),
             _ => {}
         }
     }
 }
 
-fn report(o: &Options, program: &Program, part: &Part, calls: &[Call], cut: &[u8], difference: &Difference, passed: usize) {
-    println!(
-        "difference: seed {}, history {} ({:?}), call {} of it, call {passed} of the run",
-        o.seed, part.number, part.kind, difference.call
-    );
+/// The call that differs, in words and in hex, and both answers.
+fn tell(calls: &[Call], cut: &[u8], difference: &Difference) {
     match calls.get(difference.call) {
-        Some(call) => println!("  call     {}", call.line()),
-        None => println!("  call     the end of the input after {}", hex(cut)),
+        Some(call) => say!("  call     {}\n           {}", call.words(), call.line()),
+        None => say!("  call     the end of the input after {}", hex(cut)),
     }
-    println!("  expected {}\n  answered {}", difference.expected, difference.answered);
+    say!("  expected {}\n  answered {}", difference.expected, difference.answered);
+}
+
+/// Tells a difference, shrinks the history and prints it as a replay file.
+fn report(o: &Options, program: &Program, part: &Part, calls: &[Call], cut: &[u8], difference: &Difference) {
+    tell(calls, cut, difference);
+    let at_end = difference.call == calls.len();
     let mut kept = calls[..calls.len().min(difference.call + 1)].to_vec();
+    let cut = if at_end { cut } else { &[] };
     if o.shrink {
-        let before = kept.len();
-        let (fewer, replays) = shrink(program, kept, cut, Duration::from_secs(o.shrink_time)).unwrap_or_else(|e| wrong(&e));
+        // where the answers were waited for one by one, they are again
+        let slow = if difference.call < part.slow() { usize::MAX } else { 0 };
+        let (fewer, replays) = shrink(program, slow, kept, cut, Duration::from_secs(o.shrink_time)).unwrap_or_else(|e| wrong(&e));
         kept = fewer;
-        println!("shrunk from {before} calls to {} in {replays} replays", kept.len());
-        match replay(program, &kept, cut).unwrap_or_else(|e| wrong(&e)) {
-            Some(d) => println!(
-                "  call     {}\n  expected {}\n  answered {}",
-                kept.get(d.call).map_or("the end".into(), Call::line),
-                d.expected,
-                d.answered
-            ),
-            None => println!("  the shrunk history does not differ each time"),
+        say!("shrunk from {} calls to {} in {replays} replays", difference.call + usize::from(!at_end), kept.len());
+        match replay(program, slow, &kept, cut).unwrap_or_else(|e| wrong(&e)) {
+            Some(d) => tell(&kept, cut, &d),
+            None => say!("  the shrunk history does not differ each time"),
         }
     }
     let mut text = format!("; seed {}, history {}: the last call differs\n", o.seed, part.number);
     for call in &kept {
-        text += &format!("{}\n", call.line());
+        text += &format!("; {}\n{}\n", call.words(), call.line());
     }
-    if kept.len() <= difference.call && difference.call == calls.len() || !cut.is_empty() && calls.get(difference.call).is_none()
-    {
+    if at_end {
         text += &format!("CUT {}\n", hex(cut));
     }
-    if kept.len() <= 400 {
-        println!("replay file:\n{text}");
-    } else {
-        println!("the history is {} calls long: --save FILE keeps it", kept.len());
-    }
     if let Some(file) = &o.save {
-        std::fs::write(file, text).unwrap_or_else(|e| wrong(&format!("cannot write {file}: {e}")));
+        std::fs::write(file, &text).unwrap_or_else(|e| wrong(&format!("cannot write {file}: {e}")));
+    }
+    if kept.len() <= 400 {
+        say!("replay file:\n{text}");
+    } else {
+        say!("the history is {} calls long: --save FILE keeps it", kept.len());
     }
 }
 
@@ -273,21 +296,20 @@ fn replay_file(o: &Options, program: &Program, file: &str) -> i32 {
     if o.program.is_empty() {
         let mut model = Recorder::default();
         for call in &calls {
-            println!("{}\n  {}", call.line(), show(&model.call(call.letter, &call.full_body()).bytes()));
+            say!("; {}\n{}\n  {}", call.words(), call.line(), show(&model.call(call.letter, &call.full_body()).bytes()));
         }
-        println!("{} passed, 0 failed", calls.len());
+        say!("{} passed, 0 failed", calls.len());
         return 0;
     }
-    match replay(program, &calls, &cut).unwrap_or_else(|e| wrong(&e)) {
+    match replay(program, 0, &calls, &cut).unwrap_or_else(|e| wrong(&e)) {
         None => {
-            println!("{} passed, 0 failed", calls.len());
+            say!("{} passed, 0 failed", calls.len());
             0
         }
         Some(d) => {
-            println!("difference at call {}", d.call);
-            println!("  call     {}", calls.get(d.call).map_or("the end".into(), Call::line));
-            println!("  expected {}\n  answered {}", d.expected, d.answered);
-            println!("{} passed, 1 failed", d.call);
+            say!("difference at call {}", d.call);
+            tell(&calls, &cut, &d);
+            say!("{} passed, 1 failed", d.call);
             1
         }
     }

@@ -181,7 +181,7 @@ fn loop_reset_and_after() {
 #[test]
 fn libfc_frames() {
     let mut d = drive(4096);
-    let mut next_of = |d: &mut Drive, ox_id: u16| while next(d, ox_id, 0, &[7; 4096]).is_ok_and(|f| f[0] == 1) {};
+    let next_of = |d: &mut Drive, ox_id: u16| while next(d, ox_id, 0, &[7; 4096]).is_ok_and(|f| f[0] == 1) {};
     let expected = [
         ("plogi", 0x23, 0, 2),
         ("prli", 0x23, 6, 0x21),

@@ -31,7 +31,8 @@ impl History {
         body.extend(ox_id.to_be_bytes());
         body.extend(room.to_be_bytes());
         body.extend(start.to_be_bytes());
-        Call { letter: b'N', body, tail: length, seed: self.random.u32() }
+        let seed = self.random.u32();
+        Call { letter: b'N', body, tail: length, seed: if length > 0 { seed } else { 0 } }
     }
 
     /// The position and number of bytes of the next frame, where it carries READ data.
@@ -59,11 +60,11 @@ impl History {
             3 => self.capacity(),
             _ => 0,
         };
-        let length = match self.random.below(60) {
+        let length = match self.random.below(120) {
             0 => WINDOW,
             1 => WINDOW + 1,
             2 => self.random.within(WINDOW + 1, 69_984),
-            3..=20 => self.random.below(600),
+            3..=40 => self.random.below(600),
             _ => 0,
         };
         (start, length)
@@ -75,6 +76,8 @@ impl History {
         let (start, exact) = self.exact_window(address, ox_id);
         let inside = (position % 512) as usize;
         match self.random.below(100) {
+            // long windows seldom
+            72 | 73 | 90 | 91 if self.random.chance(500) => (start, exact),
             0..=44 => (start, exact),
             45..=59 => (start, exact + self.random.below(64)),
             60..=71 => {
@@ -205,7 +208,7 @@ impl History {
                 body.truncate(self.random.pick(&[0, 1, 12, 40, 100, 151]));
                 Call::new(b'S', body)
             }
-            7 if self.random.chance(400) => {
+            7 if self.random.chance(600) => {
                 let letter = self.random.pick(b"SFNEX");
                 let mut body = if letter == b'S' { self.setup_body() } else { self.room().to_be_bytes().to_vec() };
                 if letter == b'E' {
