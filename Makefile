@@ -1,5 +1,5 @@
 # make: prove and build everything, judge the sample logins, and show the sample session. make test: the gate.
-.PHONY: all test fmt wrong
+.PHONY: all test fmt wrong soak mutants
 
 all:
 	rt check
@@ -15,3 +15,14 @@ fmt:
 # every wrong answer of docs/PROMISES.md, each of which the prover must refuse for a fact
 wrong:
 	tests/wrong
+
+# random histories against the independent model: make soak N=2000000 SEED=7
+N ?= 1000000
+SEED ?= 1
+soak:
+	rt check recorder
+	tests/histories $(N) $(SEED) --progress
+
+# one-place mutants of the model, each to be told apart by the histories
+mutants:
+	tests/mutants
