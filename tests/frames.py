@@ -6,6 +6,7 @@ The sentence of 01 stands beside each; 003 has the header's layout, 000 and 004 
 
 CAPACITY = 100  # 01, Setup: "Capacity 1 to 4,294,967,295 blocks of 512 bytes"; 100 is that of its known numbers
 OWN = bytes.fromhex("0000EF")  # 01, Setup: "own address"; upper bytes 0000h, EFh is a loop address
+IDENTITY = b"JHARTUPAL" + bytes(range(0xC0, 0xC0 + 19))  # 01, Setup: "28 identity bytes"
 
 
 def accept_words():
@@ -142,6 +143,41 @@ def data(f, number, offset, payload, last):
     h[14:16] = (number % 65536).to_bytes(2, "big")
     h[20:24] = offset.to_bytes(4, "big")
     return bytes(h) + payload + bytes(fill)
+
+
+# the unit
+
+
+def block(number):
+    """A block of the unit: every eight bytes have its number and their own place, so that no other bytes can stand for them unseen."""
+    front = number.to_bytes(6, "big")
+    return b"".join(front + bytes((place, 0xA5 ^ place)) for place in range(64))
+
+
+def unit(start, size):
+    """Bytes of the unit from a block on."""
+    return b"".join(block(start + n) for n in range(-(-size // 512)))[:size]
+
+
+# what is sent
+
+
+def inquiry_data(lun=0):
+    # "00 00 02 02 1F 00 00 02 and identity, 7Fh first for another LUN"
+    return bytes.fromhex("7F" if lun else "00") + bytes.fromhex("0002021F000002") + IDENTITY
+
+
+def sense_data(triple):
+    # "70, 00, key, 4 zeros, 0A, code and qualifier at 12, 13": 18 bytes
+    key, first, second = triple.split("/")
+    return bytes.fromhex("7000" + key + "00000000" "0A" "00000000" + first + second + "00000000")
+
+
+def capacity_data(blocks=CAPACITY):
+    return (blocks - 1).to_bytes(4, "big") + (512).to_bytes(4, "big")  # "8 (last address, 512)"
+
+
+# which exchange a frame is about
 
 
 def sender(f):

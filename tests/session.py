@@ -13,7 +13,6 @@ sys.dont_write_bytecode = True
 from frames import *  # noqa: E402, F403
 
 ROOM = 2136  # 01: "1 | reply buffer under 2,136 bytes"
-IDENTITY = b"JHARTUPAL" + bytes(range(0xC0, 0xC0 + 19))  # 01, Setup: "28 identity bytes"
 OWN_ADDRESS = OWN[2]
 
 # the records and their answers
@@ -82,18 +81,7 @@ def event(name, number):
 
 LOOP_RESET, TIME_OVER, POWER_ON = 1, 2, 3
 
-# the unit
-
-
-def block(number):
-    """A block of the unit: every eight bytes have its number and their own place, so that no other bytes can stand for them unseen."""
-    front = number.to_bytes(6, "big")
-    return b"".join(front + bytes((place, 0xA5 ^ place)) for place in range(64))
-
-
-def unit(start, size):
-    """Bytes of the unit from a block on."""
-    return b"".join(block(start + n) for n in range(-(-size // 512)))[:size]
+# the frames of a command
 
 
 def served(name, f, content, size=2048):
@@ -116,24 +104,6 @@ def reads(name, host, ox_id, address, count, dl, response, size=2048, window=Non
         asks("%s-%d" % (name, number), f, data(f, number, offset, lent[before:before + part], offset + part == total), start, lent, room)
     asks(name + "-rsp", f, response(f), room=room)
     asks_in_vain(name + "-freed", 9, host, ox_id)  # 01: "FCP_RSP follows and frees the place"
-
-
-# what is sent
-
-
-def inquiry_data(lun=0):
-    # "00 00 02 02 1F 00 00 02 and identity, 7Fh first for another LUN"
-    return bytes.fromhex("7F" if lun else "00") + bytes.fromhex("0002021F000002") + IDENTITY
-
-
-def sense_data(triple):
-    # "70, 00, key, 4 zeros, 0A, code and qualifier at 12, 13": 18 bytes
-    key, first, second = triple.split("/")
-    return bytes.fromhex("7000" + key + "00000000" "0A" "00000000" + first + second + "00000000")
-
-
-def capacity_data(blocks=CAPACITY):
-    return (blocks - 1).to_bytes(4, "big") + (512).to_bytes(4, "big")  # "8 (last address, 512)"
 
 
 def fetched(name, f, content, response):

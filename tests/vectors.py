@@ -1,5 +1,5 @@
 #!/usr/bin/env python3
-"""The vectors of the link services and commands: frames, and the answer and the table of logins that document 01 asks for after each.
+"""The vectors of the drive's entries: frames in and next frames out, and the answer and the table of logins that document 01 asks for after each.
 
 Usage: tests/vectors.py stdin | stdout
 
@@ -37,13 +37,22 @@ def answers(name, f, reply, after):
     line(name, "f", f, (reply(f).hex().upper() or "-") + " " + table(after))
 
 
-def fresh(after="", capacity=CAPACITY):
+def refuses(name, number, letter, body, after):
+    """A call that is refused with this number, and the table as it was: "returns its number and the state unchanged"."""
+    line(name, letter, body, "refused %d %s" % (number, table(after)))
+
+
+def setup(capacity=CAPACITY, own=OWN, words=WORDS):
+    return capacity.to_bytes(8, "big") + own + IDENTITY + words
+
+
+def fresh(after="", capacity=CAPACITY, **changes):
     """A drive without logins; then each host named logs in."""
-    line("setup", "s", capacity.to_bytes(8, "big") + OWN + WORDS, "- " + table(""))
+    line("setup", "s", setup(capacity), "- " + table(""))
     so_far = ""
     for host in bytes.fromhex(after):
         so_far += " %02Xp29" % host  # "proven, unpaired, attention 29h"
-        answers("plogi", login(host), login_acc, so_far)
+        answers("plogi", login(host, **changes), login_acc, so_far)
 
 
 def event(name, letter, after):
@@ -64,9 +73,9 @@ def shows(name, place, standing, exchanges):
     line(name, "e", bytes([place]), standing + " " + table(exchanges))
 
 
-def exchange(ox_id, sends, wanted, dl, start=0, count=0):
-    """An exchange that has sent nothing yet: OX_ID, what it sends, a READ's first block and count, wanted, FCP_DL, bytes and frames sent."""
-    return "%04X=%s,%d,%d,%d,%d,0,0" % (ox_id, sends, start, count, wanted, dl)
+def exchange(ox_id, sends, wanted, dl, start=0, count=0, sent=0, frames=0):
+    """An exchange: OX_ID, what it sends, a READ's first block and count, wanted, FCP_DL, bytes sent, and frames sent modulo 65,536."""
+    return "%04X=%s,%d,%d,%d,%d,%d,%d" % (ox_id, sends, start, count, wanted, dl, sent, frames)
 
 
 def a_linux_host():
@@ -331,17 +340,17 @@ def unnamed():
     answers("unnamed-logo", frame(0x01, 0x0501, bytes.fromhex("05FFFFFFFF000001") + b"\xFF" * 8), acc, "")
 
 
-def paired(hosts, capacity=CAPACITY):
+def paired(hosts, capacity=CAPACITY, **changes):
     """A drive to which each host logs in and pairs; "attention 29h" stands at each."""
-    fresh(hosts, capacity)
+    fresh(hosts, capacity, **changes)
     known = bytes.fromhex(hosts)
     for n in range(len(known)):
         answers("prli", prli(known[n]), prli_acc, " ".join("%02X%s29" % (host, "P" if i <= n else "p") for i, host in enumerate(known)))
 
 
-def ready(hosts, capacity=CAPACITY):
+def ready(hosts, capacity=CAPACITY, **changes):
     """The same, and the first command of each host, which is told of the attention: "06/29/00 .. and cleared"."""
-    paired(hosts, capacity)
+    paired(hosts, capacity, **changes)
     known = bytes.fromhex(hosts)
     for n in range(len(known)):
         answers("first", test_unit(known[n]), check("06/29/00"),
@@ -741,9 +750,200 @@ def unnamed_of_commands():
         answers("attribute-%d" % attribute, cmnd(0x01, 0x0101, inquiry(0), attribute=attribute), good(), "01P29")
 
 
-for part in (a_linux_host, other_codes_and_sizes, no_login, plogi_tests, places, verified, other_names, pairing, logo_and_rrq,
+# the next frames
+
+
+def asking(address, ox_id, start=0, window=b""):
+    return address.to_bytes(4, "big") + ox_id.to_bytes(2, "big") + start.to_bytes(8, "big") + window
+
+
+def asking_many(address, ox_id, count):
+    return address.to_bytes(4, "big") + ox_id.to_bytes(2, "big") + count.to_bytes(4, "big")
+
+
+def gives(name, f, reply, after, start=0, window=b""):
+    """The next frame of the exchange that the command f opened, from this window."""
+    line(name, "w", asking(sender(f), ox_of(f), start, window), reply.hex().upper() + " " + table(after))
+
+
+def gives_last(name, f, count, reply, after):
+    """The last of many next frames, from windows that the program makes: every byte of block b is b modulo 251."""
+    line(name, "k", asking_many(sender(f), ox_of(f), count), reply.hex().upper() + " " + table(after))
+
+
+def ends(name, f, response, after):
+    """"FCP_RSP follows and frees the place"; the next call finds no exchange."""
+    gives(name + "-rsp", f, response(f), after)
+    refuses(name + "-freed", 9, "w", asking(sender(f), ox_of(f)), after)
+
+
+def reads(name, ox_id, address, count, dl, response, size=2048):
+    """A READ of host 01, each data frame from a window that holds its own blocks from the first on and ends with the frame, and FCP_RSP."""
+    f = cmnd(0x01, ox_id, read(address, count), dl)
+    opened = "01P:%04X" % ox_id
+    answers(name, f, nothing, opened)
+    total = min(512 * count, dl)  # "To send: the smaller of wanted and FCP_DL"
+    for number in range(-(-total // size)):  # "A frame carries the login's W18 size, 2,048 at most, or what is left"
+        offset = number * size
+        part, start, before = min(size, total - offset), address + offset // 512, offset % 512
+        lent = unit(start, before + part)
+        gives("%s-%d" % (name, number), f, data(f, number, offset, lent[before:], offset + part == total), opened, start, lent)
+        shows("%s-%d-sent" % (name, number), 0, "01P", exchange(ox_id, "READ", 512 * count, dl, address, count, offset + part, number + 1))
+    ends(name, f, response, "01P")
+
+
+def reading():
+    """READs through to FCP_RSP, with 01's known numbers."""
+    ready("01")
+    reads("next-read", 0x0101, 3, 9, 4608, good())  # two full frames and what is left
+    reads("next-dl-1001", 0x0102, 4, 2, 1001, over(23))  # "FCP_DL 1,001: 3 fill bytes, F_CTL 88000B"
+    reads("next-dl-1000", 0x0103, 98, 2, 1000, over(24))  # "wanted 1,024 with FCP_DL 1,000, 2,048: flag 04h by 24, 08h by 1,024"
+    reads("next-dl-2048", 0x0104, 98, 2, 2048, under(1024))
+    reads("next-dl-1", 0x0105, 99, 1, 1, over(511))
+    reads("next-dl-2050", 0x0106, 20, 5, 2050, over(510))  # two fill bytes, in the last frame alone
+    reads("next-dl-2051", 0x0107, 20, 5, 2051, over(509))
+    ready("01", w18=bytes.fromhex("0204"))
+    reads("next-size-516", 0x0101, 7, 4, 2048, good(), 516)  # frames that start inside a block
+    ready("01", w18=bytes.fromhex("0840"))
+    reads("next-size-2112", 0x0101, 7, 5, 2560, good())  # "2,048 at most"
+
+
+def far():
+    """"block 8,388,608 is byte 4,294,967,296": a READ of that block and the one before it, in one frame and in two."""
+    for name, size in (("next-far", 2048), ("next-far-512", 512)):
+        ready("01", 8388609, w18=size.to_bytes(2, "big"))
+        reads(name, 0x0101, 8388607, 2, 1024, good(), size)
+    f = cmnd(0x01, 0x0102, read(8388608, 1), 512)
+    answers("next-far-last", f, nothing, "01P:0102")
+    for name, start in (("zero", 0), ("before", 8388607), ("after", 8388609), ("doubled", 16777216)):  # its byte in 32 bits is 0
+        refuses("next-far-last-" + name, 10, "w", asking(0x01, 0x0102, start, bytes(512)), "01P:0102")
+    gives("next-far-last-0", f, data(f, 0, 0, unit(8388608, 512), True), "01P:0102", 8388608, unit(8388608, 512))
+    ends("next-far-last", f, good(), "01P")
+
+
+def going_round():
+    """"size 256, frame 65,537 has SEQ_CNT 0": a READ of 65,535 blocks, 131,070 frames."""
+    ready("01", 65542, w18=bytes.fromhex("0100"))
+    f = cmnd(0x01, 0x0101, read(7, 65535), 33553920)
+    answers("next-long", f, nothing, "01P:0101")
+    asked = 0
+    for number in (1, 2, 65536, 65537, 131069, 131070):  # the frame of this number, counted from 1, from half of its block
+        offset = 256 * (number - 1)
+        half = bytes([(7 + offset // 512) % 251]) * 256
+        gives_last("next-long-%d" % number, f, number - asked, data(f, number - 1, offset, half, number == 131070), "01P:0101")
+        shows("next-long-%d-sent" % number, 0, "01P", exchange(0x0101, "READ", 33553920, 33553920, 7, 65535, offset + 256, number % 65536))
+        asked = number
+    ends("next-long", f, good(), "01P")
+    refuses("next-long-over", 9, "k", asking_many(0x01, 0x0101, 2), "01P")
+
+
+def fetches(name, f, content, response, opened, after):
+    """A command whose data are made: "made data and FCP_RSP need no cover"."""
+    answers(name, f, nothing, opened)
+    gives(name + "-data", f, data(f, 0, 0, content, True), opened)
+    ends(name, f, response, after)
+
+
+def made_data():
+    """Made data of every kind, each with its FCP_RSP."""
+    paired("01")
+    other = OTHER_UNITS[1]
+    fetches("made-inquiry", cmnd(0x01, 0x0101, inquiry(), 36), inquiry_data(), good(), "01P29:0101", "01P29")
+    fetches("made-inquiry-lun", cmnd(0x01, 0x0102, inquiry(), 36, lun=other), inquiry_data(1), good(), "01P29:0102", "01P29")
+    fetches("made-sense-052500", cmnd(0x01, 0x0103, request_sense(), 18, lun=other), sense_data("05/25/00"), good(), "01P29:0103", "01P29")
+    fetches("made-sense-062900", cmnd(0x01, 0x0104, request_sense(), 18), sense_data("06/29/00"), good(), "01P:0104", "01P")
+    fetches("made-sense-000000", cmnd(0x01, 0x0105, request_sense(), 18), sense_data("00/00/00"), good(), "01P:0105", "01P")
+    fetches("made-capacity", cmnd(0x01, 0x0106, READ_CAPACITY, 8), capacity_data(), good(), "01P:0106", "01P")
+    fetches("made-inquiry-5", cmnd(0x01, 0x0107, inquiry(5), 5), inquiry_data()[:5], good(), "01P:0107", "01P")  # "36 or byte 4 if smaller"
+    fetches("made-inquiry-255", cmnd(0x01, 0x0108, inquiry(255), 255), inquiry_data(), under(219), "01P:0108", "01P")
+    fetches("made-sense-252", cmnd(0x01, 0x0109, request_sense(252), 252), sense_data("00/00/00"), under(234), "01P:0109", "01P")
+    fetches("made-capacity-dl-7", cmnd(0x01, 0x010A, READ_CAPACITY, 7), capacity_data()[:7], over(1), "01P:010A", "01P")
+    ready("0102")
+    opens(0x01, 0x0101, "01P:0101 02P")
+    answers("clear-task-set", task(0x02, 0x04), code("00"), "01P2F 02P")
+    fetches("made-sense-062F00", cmnd(0x01, 0x0102, request_sense(), 18), sense_data("06/2F/00"), good(), "01P:0102 02P", "01P 02P")
+    f = cmnd(0x01, 0x0103, inquiry(), 36)
+    answers("made-window", f, nothing, "01P:0103 02P")
+    gives("made-window-data", f, data(f, 0, 0, inquiry_data(), True), "01P:0103 02P", 2 ** 64 - 1, b"\xFF" * 2122)  # none of its bytes
+    ends("made-window", f, good(), "01P 02P")
+    ready("01", HIGHEST)
+    fetches("made-capacity-most", cmnd(0x01, 0x0101, READ_CAPACITY, 8), capacity_data(HIGHEST), good(), "01P:0101", "01P")
+
+
+def next_refusals():
+    """"Next frame out: 1, 2, 9, 7, 10", each with the exchange left where it is."""
+    ready("0102")
+    f, g = cmnd(0x01, 0x0101, read(10, 6), 3000), cmnd(0x01, 0x0102, inquiry(), 36)
+    answers("next-refused-read", f, nothing, "01P:0101 02P")
+    answers("next-refused-inquiry", g, nothing, "01P:0101:0102 02P")
+    both = "01P:0101:0102 02P"
+    for name, address, ox_id in (("ox-id", 0x01, 0x0103), ("other-login", 0x02, 0x0101), ("no-login", 0x04, 0x0101), ("ours", 0xEF, 0x0101),
+                                 ("zero", 0x00, 0x0101), ("upper", 0x01000001, 0x0101), ("middle", 0x0101, 0x0101)):
+        refuses("next-none-" + name, 9, "w", asking(address, ox_id, 10, unit(10, 2048)), both)
+        refuses("next-none-%s-window" % name, 9, "w", asking(address, ox_id), both)  # before the window
+    for name, start, size in (("before", 9, 2048), ("after", 11, 2048), ("short", 10, 2047), ("none", 10, 0), ("most", 2 ** 64 - 1, 2048),
+                              ("wrapped", 2 ** 55 + 10, 2048)):  # 512 times 2 to the 55th is 0 in 64 bits
+        refuses("next-window-" + name, 10, "w", asking(0x01, 0x0101, start, bytes(size)), both)
+    gives("next-covered", f, data(f, 0, 0, unit(10, 2048), False), both, 10, unit(10, 2048))
+    refuses("next-window-same", 10, "w", asking(0x01, 0x0101, 10, unit(10, 2048)), both)  # the second frame is in blocks 14 and 15
+    refuses("next-window-second-short", 10, "w", asking(0x01, 0x0101, 14, unit(14, 951)), both)
+    event("reset", "r", "01U:0101:0102 02U")
+    refuses("next-unproven", 7, "w", asking(0x01, 0x0101, 14, unit(14, 952)), "01U:0101:0102 02U")
+    refuses("next-unproven-window", 7, "w", asking(0x01, 0x0101), "01U:0101:0102 02U")  # before the window
+    refuses("next-unproven-made", 7, "w", asking(0x01, 0x0102), "01U:0101:0102 02U")
+    refuses("next-unproven-ox-id", 9, "w", asking(0x01, 0x0103), "01U:0101:0102 02U")  # after the exchange
+    refuses("next-unproven-many", 7, "k", asking_many(0x01, 0x0101, 3), "01U:0101:0102 02U")
+    shows("next-unproven-open", 0, "01U", exchange(0x0101, "READ", 3072, 3000, 10, 6, 2048, 1) + " " + exchange(0x0102, "INQUIRY", 36, 36))
+    answers("pdisc", pdisc(0x01), login_acc, "01P:0101:0102 02U")
+    gives("next-proven", f, data(f, 1, 2048, unit(14, 952), True), "01P:0101:0102 02U", 14, unit(14, 952))
+    ends("next-proven", f, over(72), "01P:0102 02U")
+    answers("abts", abts(0x01, 0x0102), ba_acc, "01P 02U")
+    refuses("next-aborted", 9, "w", asking(0x01, 0x0102), "01P 02U")
+
+
+def changed(f, at, value):
+    """A frame with another byte at a place of its header."""
+    return f[:at] + bytes([value]) + f[at + 1:]
+
+
+def no_drive_yet():
+    """"2 | state not well formed": the program starts with a drive that is all zeros."""
+    for name, letter, body in (("frame", "f", login(0x01)), ("frame-size", "f", b""), ("next", "w", asking(0x01, 0x0101)),
+                               ("next-many", "k", asking_many(0x01, 0x0101, 1)), ("reset", "r", b""), ("verification-over", "v", b""),
+                               ("power-on", "o", b"")):
+        refuses("no-drive-" + name, 2, letter, body, "")
+    refuses("no-drive-setup", 8, "s", setup(0), "")
+    refuses("no-drive-still", 2, "f", login(0x01), "")
+
+
+def refusals():
+    """"Frame in: 1 to 7 in order"; "Making a drive: 8"."""
+    ready("01")
+    w20 = WORDS[:77] + b"\x02" + WORDS[78:]  # W20/B1 is byte 81 of the payload; "with W20/B1 = 01h"
+    for name, body in (("capacity-0", setup(0)), ("capacity-33-bits", setup(2 ** 32)), ("address", setup(own=bytes.fromhex("0000F0"))),
+                       ("words", setup(words=w20))):
+        refuses("setup-" + name, 8, "s", body, "01P")
+    f = test_unit(0x01)
+    for size in (0, 20, 23, 25, 26, 2134):  # "frame not 24 to 2,136 bytes, or not a multiple of 4"
+        refuses("frame-of-%d" % size, 3, "f", changed(f, 3, 0xE8).ljust(size, b"\x00")[:size], "01P")
+    refuses("frame-to-another", 4, "f", changed(changed(f, 3, 0xE8), 7, 0x03), "01P")
+    for name, host in (("no-address", 0x03), ("zero", 0x00), ("us", 0xEF)):
+        refuses("frame-from-" + name, 5, "f", changed(changed(f, 7, host), 8, 0x01), "01P")
+    for name, at, value in (("r-ctl", 0, 0x07), ("type", 8, 0x01), ("df-ctl", 13, 0x01), ("seq-cnt", 15, 0x01), ("f-ctl", 11, 0x02)):
+        refuses("form-" + name, 6, "f", changed(f, at, value), "01P")
+    refuses("form-no-payload", 6, "f", frame(0x01, 0x0101, b""), "01P")
+    answers("answer", frame(0x01, 0x0101, bytes.fromhex("02000000"), r_ctl=0x23), nothing, "01P")  # "answered with nothing and changes nothing"
+    event("reset", "r", "01U")
+    refuses("form-unproven", 6, "f", changed(f, 15, 0x01), "01U")
+    for name, g in (("command", f), ("abts", abts(0x01, 0x0101)), ("prli", prli(0x01)), ("prlo", prlo(0x01)), ("rrq", rrq(0x01, 0x0101)),
+                    ("answer", frame(0x01, 0x0101, bytes(4), r_ctl=0x23))):  # "spares only PLOGI, PDISC, ADISC, LOGO"
+        refuses("unproven-" + name, 7, "f", g, "01U")
+
+
+for part in (no_drive_yet, a_linux_host, other_codes_and_sizes, no_login, plogi_tests, places, verified, other_names, pairing, logo_and_rrq,
              aborts, headers, unnamed, no_paired_login, response_codes, target_reset, clear_task_set, abort_task_set, overlapped,
-             other_units, attentions, codes_and_writes, fields, edges, no_read_bit, room, wanted, unnamed_of_commands):
+             other_units, attentions, codes_and_writes, fields, edges, no_read_bit, room, wanted, unnamed_of_commands,
+             refusals, reading, far, going_round, made_data, next_refusals):
     part()
 
 STDIN, STDOUT = b"".join(records), "".join(text + "\n" for text in lines).encode()

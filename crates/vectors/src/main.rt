@@ -1,49 +1,45 @@
-// Runs the link services and the commands over records from standard input and writes a line for each: its name, what was answered, and what the table of logins then holds.
-// A record is a letter, a length of two bytes and a body of that length:
-//   s  a drive without logins: its capacity in blocks (8 bytes), its address (3 bytes) and words 1 to 28 of its login accept
+// Runs a drive by its own entries over records from standard input and writes a line for each: its name, what was answered, and what the table of logins then holds.
+// A record is a letter, a length of two bytes and a body of that length; numbers are big-endian:
+//   s  makes a drive: its capacity in blocks (8 bytes), its address (3), its identity (28) and words 1 to 28 of its login accept (112)
 //   n  the name of the next line, written as it is
-//   f  a frame: with R_CTL 06h a command, with 81h an ABTS, else a link service
+//   f  a frame in
+//   w  the next frame out: address (4), OX_ID (2), starting block of the window (8), the window
+//   k  many next frames out, of which the last is shown: address (4), OX_ID (2), how many (4, at least one); for each the window is made here:
+//      the five blocks from that of the exchange's next byte on, every byte of block b being b modulo 251
 //   r, v, o  loop reset, verification time over, power on
 //   l  shows all that the login at a place (1 byte) keeps, but for its exchanges
 //   e  shows the eight places for exchanges of the login at a place (1 byte)
-use command::command;
-use frame::Header;
-use frame::read_header;
+// Every call lends a buffer of 2,136 bytes. What it answers is the reply in hexadecimal, - for nothing to send, or refused and the number.
+// Another letter, and a body of s or w that is too short, is passed over.
+use arrival::Refusal;
+use drive::Answer;
+use drive::Drive;
+use drive::Event;
+use drive::Said;
 use libc::STDIN_FILENO;
 use libc::STDOUT_FILENO;
-use link::Decided;
-use link::abts;
-use link::link;
-use reply::Own;
-use reply::Reply;
-use reply::write;
-use state::Change;
 use state::Exchange;
 use state::Login;
 use state::Port;
-use state::change_all;
-use state::empty_login;
+use state::Setup;
+use state::Standing;
 use state::exchange_at;
 use state::is_closed;
 use state::is_free;
 use state::login_at;
-use state::power_on;
+use state::lookup;
 use wire::be16;
 use wire::be24;
+use wire::be32;
 use wire::be64;
 use wire::byte_at;
+use wire::put_at;
 use wire::put_front;
 ghost use Rattle.io.specs.Counts.{Counts};
 
-// What the records are told to: one port, and the capacity of the unit behind it.
-struct Drive {
-    capacity: u64,
-    port: Port,
-}
-
 // A proved loop has to end and the input need not, so the records are counted up to a number that no run reaches.
 fn main() {
-    let mut d = made(b"");
+    let mut d = no_drive();
     let mut number: u64 = 0;
     while number < u64::MAX {
         number += 1;
@@ -82,106 +78,198 @@ fn told(d: Drive, letter: u8, body: &[u8]) -> Drive {
         print(body);
         return d;
     }
-    let p = d.port;
     if letter == b'l' {
-        print_login(login_at(p, byte_at(body, 0) as usize));
+        print_login(login_of(d, body));
         return d;
     }
     if letter == b'e' {
-        print_opened(login_at(p, byte_at(body, 0) as usize));
+        print_opened(login_of(d, body));
         return d;
     }
-    if letter == b's' {
-        let e = made(body);
-        let q = e.port;
-        print_change(q);
-        return e;
-    }
-    let capacity = d.capacity;
-    let q = moved(capacity, p, letter, body);
-    Drive {
-        capacity: capacity,
-        port: q,
-    }
+    called(d, letter, body)
 }
 
-// A frame or an event.
-fn moved(capacity: u64, p: Port, letter: u8, body: &[u8]) -> Port {
-    if letter == b'f' {
-        return framed(capacity, p, body);
-    }
-    let q = changed(p, letter);
-    print_change(q);
-    q
+// The login at the place that a record names.
+fn login_of(d: Drive, body: &[u8]) -> Login {
+    let p = d.port;
+    login_at(p, byte_at(body, 0) as usize)
 }
 
-// A frame: its reply is written by the one writer of replies.
-fn framed(capacity: u64, p: Port, frame: &[u8]) -> Port {
-    let h = read_header(frame);
-    let d = decided(capacity, p, h, frame);
-    let r = d.reply;
-    let q = d.port;
-    print_reply(q, h, r);
-    print_table(q);
-    q
-}
-
-fn decided(capacity: u64, p: Port, h: Header, frame: &[u8]) -> Decided {
-    if h.r_ctl == 0x06 {
-        return command(capacity, p, h, frame);
-    }
-    if h.r_ctl == 0x81 {
-        return abts(p, h.s_id, h.ox_id, h.rx_id);
-    }
-    link(p, h, frame)
-}
-
-fn changed(p: Port, letter: u8) -> Port {
+// A call of one of the entries.
+fn called(d: Drive, letter: u8, body: &[u8]) -> Drive {
     match letter {
-        b'r' => change_all(p, Change::Unprove),
-        b'v' => change_all(p, Change::EndUnproven),
-        b'o' => power_on(p),
-        _ => p,
+        b's' => made(d, body),
+        b'f' => framed(d, body),
+        b'w' => asked(d, body),
+        b'k' => served(d, body),
+        b'r' => happened(d, Event::LoopReset),
+        b'v' => happened(d, Event::TimeOver),
+        b'o' => happened(d, Event::PowerOn),
+        _ => d,
     }
 }
 
-// A drive of this capacity, this address and these accept words.
-fn made(body: &[u8]) -> Drive {
+// The drive before one is made: all zeros, and so refused by every call.
+fn no_drive() -> Drive {
+    let s = Setup {
+        capacity: 0,
+        address: 0,
+        identity: [0; 28],
+        accept: [0; 112],
+    };
+    let a = Drive::new(s);
+    a.drive
+}
+
+// A refused setup leaves the drive that there is.
+fn made(d: Drive, body: &[u8]) -> Drive {
+    if body.len() < 151 {
+        return d;
+    }
+    let mut identity = [0u8; 28];
+    put_front(&mut identity, &body[11..39]);
     let mut accept = [0u8; 112];
-    if body.len() == 123 {
-        put_front(&mut accept, &body[11..]);
-    }
-    let e = empty_login();
-    let p = Port {
-        address: be24(body, 8),
-        accept: accept,
-        logins: [e; 8],
-    };
-    Drive {
+    put_front(&mut accept, &body[39..]);
+    let s = Setup {
         capacity: be64(body, 0),
-        port: p,
+        address: be24(body, 8),
+        identity: identity,
+        accept: accept,
+    };
+    let none = [0u8; 0];
+    answered(made_or(d, Drive::new(s)), &none)
+}
+
+fn made_or(d: Drive, a: Answer) -> Answer {
+    let said = a.said;
+    match said {
+        Said::Sent(_) => a,
+        Said::Refused(x) => Answer {
+            said: Said::Refused(x),
+            drive: d,
+        },
     }
 }
 
-fn print_reply(p: Port, h: Header, r: Reply) {
-    let accept = p.accept;
-    let o = Own {
-        address: p.address,
-        accept: accept,
-    };
+fn framed(d: Drive, frame: &[u8]) -> Drive {
     let mut out = [0xaau8; 2136];
-    let none = [0u8; 1];
-    let n = write(o, h, r, &none, &mut out);
+    let a = d.frame_in(frame, &mut out);
+    answered(a, &out)
+}
+
+fn asked(d: Drive, body: &[u8]) -> Drive {
+    if body.len() < 14 {
+        return d;
+    }
+    let mut out = [0xaau8; 2136];
+    let a = d.next_frame(
+        be32(body, 0),
+        be16(body, 4),
+        be64(body, 6),
+        &body[14..],
+        &mut out,
+    );
+    answered(a, &out)
+}
+
+// Many next frames; the last is shown.
+fn served(d: Drive, body: &[u8]) -> Drive {
+    let address = be32(body, 0);
+    let ox_id = be16(body, 4);
+    let e = passed(d, address, ox_id, be32(body, 6));
+    let mut out = [0xaau8; 2136];
+    let a = from_unit(e, address, ox_id, &mut out);
+    answered(a, &out)
+}
+
+// All but the last of them.
+fn passed(d: Drive, address: u32, ox_id: u16, count: u32) -> Drive {
+    let mut e = d;
+    let mut n: u32 = 1;
+    while n < count {
+        e = unseen(e, address, ox_id);
+        n += 1;
+    }
+    e
+}
+
+fn unseen(d: Drive, address: u32, ox_id: u16) -> Drive {
+    let mut out = [0xaau8; 2136];
+    let a = from_unit(d, address, ox_id, &mut out);
+    a.drive
+}
+
+// The next frame, from a window over the blocks that it can need.
+fn from_unit(d: Drive, address: u32, ox_id: u16, out: &mut [u8]) -> Answer {
+    let p = d.port;
+    let block = next_block(p, address, ox_id);
+    let window = blocks_from(block);
+    d.next_frame(address, ox_id, block, &window, out)
+}
+
+// The block in which the next byte of an exchange stands, 0 where there is no such exchange.
+fn next_block(p: Port, address: u32, ox_id: u16) -> u64 {
+    let s = lookup(p, address, ox_id);
+    match s {
+        Standing::Open(i, j) => block_of(exchange_at(login_at(p, i), j)),
+        Standing::NoExchange(_) => 0,
+        Standing::NoLogin => 0,
+    }
+}
+
+fn block_of(e: Exchange) -> u64 {
+    std::num::wrapping_add_u64(e.start, (e.sent / 512) as u64)
+}
+
+// Five blocks: a frame of 2,048 bytes that starts inside a block ends in the fifth at the latest.
+fn blocks_from(block: u64) -> [u8; 2560] {
+    let mut window = [0u8; 2560];
+    put_block(&mut window, 0, block);
+    put_block(&mut window, 512, std::num::wrapping_add_u64(block, 1));
+    put_block(&mut window, 1024, std::num::wrapping_add_u64(block, 2));
+    put_block(&mut window, 1536, std::num::wrapping_add_u64(block, 3));
+    put_block(&mut window, 2048, std::num::wrapping_add_u64(block, 4));
+    window
+}
+
+fn put_block(out: &mut [u8], at: u16, block: u64) {
+    let b = (block % 251) as u8;
+    let bytes = [b; 512];
+    put_at(out, at, &bytes);
+}
+
+fn happened(d: Drive, e: Event) -> Drive {
+    let none = [0u8; 0];
+    answered(d.event(e), &none)
+}
+
+// Shows what a call answered and the table after it, and hands on the drive.
+fn answered(a: Answer, out: &[u8]) -> Drive {
+    let said = a.said;
+    let d = a.drive;
+    let p = d.port;
+    print_said(said, out);
+    print_table(p);
+    d
+}
+
+fn print_said(said: Said, out: &[u8]) {
+    match said {
+        Said::Sent(n) => print_sent(out, n),
+        Said::Refused(x) => print_refused(x),
+    }
+}
+
+fn print_sent(out: &[u8], n: usize) {
     if n == 0 {
         print(b"-");
     }
-    print_hex(&out, n);
+    print_hex(out, n);
 }
 
-// A change that answers nothing.
-fn print_change(p: Port) {
-    print(b"-");
-    print_table(p);
+fn print_refused(x: Refusal) {
+    print(b"refused ");
+    io::print_decimal(STDOUT_FILENO, x.number() as u64);
 }
 
 // The eight places for logins, and the end of the line.

@@ -17,7 +17,6 @@ main-spec =
     (tie.spec
     Inv-loop
     μ-loop
-    (λ c. search needs)
     (λ c κs. tt)
     (λ c. tt)
     (λ c. omega arith)
