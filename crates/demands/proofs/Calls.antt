@@ -1,33 +1,25 @@
 -- A call for a next frame that says it sent one: which frame stands in the buffer, and what drive is left. And where a frame is to be sent, the call says so.
 -- Assumes nothing.
-use mathlib.Core.Path.{_≡_, refl, ap, _∙_}
+use mathlib.Core.Path.{_≡_, refl, sym, ap, _∙_}
 use mathlib.Core.Bool.{Bool, true, false, cond, not}
 use mathlib.Core.List.{List}
 use Prim.Native.Nat.{ℕ, _≤_}
 use native.Mathlib.Omega.{arith}
-use lib.Dec.{eqb, ltb}
 use lib.ListN.{length, take, drop}
 use lib.Seq.{take-append-seam}
-use borrow.Author.Tests.{le-ltb}
-use Rattle.tables.specs.declared.Found.{Found}
-use Rattle.tables.specs.declared.Found.the-variants.{At, Nothing}
-use Rattle.tables.specs.Lists.{onFound}
+use borrow.Author.Tests.{le-ltb, not-true}
 use Rattle.tables.proofs.Bools.{apart}
 use Rattle.wire.specs.Bytes.{onto}
 use Rattle.wire.proofs.Fronts.{onto-fits}
-use Rattle.state.specs.declared.Port.{Port}
-use Rattle.state.specs.declared.Standing.{Standing}
-use Rattle.state.specs.declared.Standing.the-variants as standing
-use Rattle.state.specs.Changes.{loginAt}
-use Rattle.state.specs.Tables.{lookupOf}
 use Rattle.formed.specs.Formed.{wellFormed}
 use Rattle.serve.specs.declared.Given.{Given}
 use Rattle.serve.specs.declared.Given.the-variants as given
 use Rattle.serve.specs.declared.Step.{Step}
 use Rattle.serve.specs.declared.Step.the-variants as step
-use Rattle.serve.specs.Next.{placeOf, exchangeOf, fullOf, openStep, stepAt, stepOf, frameBytes, nextAt, nextOf, nextBuffer}
+use Rattle.serve.specs.Next.{stepOf, frameBytes, nextAt, nextOf, nextBuffer}
 use Rattle.serve.specs.Whole.{isSent}
 use Rattle.serve.proofs.Steps.{passed}
+use Rattle.serve.proofs.Moving.{plain, plain-step}
 use Rattle.arrival.specs.declared.Refusal.the-variants.{ShortBuffer, IllFormed}
 use Rattle.arrival.specs.Arrival.{shortBuffer}
 use Rattle.drive.specs.declared.Drive.{Drive}
@@ -35,31 +27,6 @@ use Rattle.drive.specs.declared.Said.the-variants.{Sent}
 use Rattle.drive.specs.Drive.{refused}
 use Rattle.drive.specs.Entry.{saidOf, served, nextFrame, nextFrameBuffer}
 use Rattle.demands.proofs.Decoding.{few-bytes}
-
--- a step is a frame, or a refusal that says nothing of one
-data Gives : Step → Type 0 where
-  frame : (i j k : ℕ) → Gives (step.Frame i j k)
-  refusal : (g : Given) → isSent g ≡ false → Gives (step.Refused g)
-
-gives-either : (b : Bool) {s t : Step} → Gives s → Gives t → Gives (cond b s t)
-gives-either true p q = p
-gives-either false p q = q
-
-gives-place : (f : Found) (i j : ℕ) → Gives (onFound f (λ k. step.Frame i j k) (step.Refused given.WrongWindow))
-gives-place (At k) i j = frame i j k
-gives-place Nothing i j = refusal given.WrongWindow refl
-
-gives-standing : (s : Standing) (p : Port) (start len : ℕ) → Gives (stepAt s p start len)
-unfolding openStep
-gives-standing standing.NoLogin p start len = refusal given.NoExchange refl
-gives-standing (standing.NoExchange i) p start len = refusal given.NoExchange refl
-gives-standing (standing.Open i j) p start len =
-    gives-either (not (eqb (loginAt p i .proven) 1)) (refusal given.Unproven refl)
-    (gives-either (ltb 65536 len) (refusal given.WrongWindow refl) (gives-place (placeOf (fullOf p i) (exchangeOf p i j) start len) i j))
-
-gives-step : (p : Port) (a x start len room : ℕ) → Gives (stepOf p a x start len room)
-unfolding stepOf
-gives-step p a x start len room = gives-either (ltb room 2136) (refusal given.NoRoom refl) (gives-standing (lookupOf p a x) p start len)
 
 not-said : {A : Type 0} (g : Given) (n : ℕ) → isSent g ≡ false → saidOf g ≡ Sent n → A
 not-said (given.Sent m) n h e = apart refl h
@@ -78,10 +45,10 @@ module _ (d : Drive) (a x start : ℕ) (W l : List ℕ) where
     pub step : stepOf (d .port) a x start (length W) (length l) ≡ step.Frame i j k
     pub is : length (frameBytes (d .unit) (d .port) a x i j k W) ≡ n
 
-  from-step : (n : ℕ) (s : Step) → wellFormed (d .unit) (d .port) ≡ true → Gives s → stepOf (d .port) a x start (length W) (length l) ≡ s
+  from-step : (n : ℕ) (s : Step) → wellFormed (d .unit) (d .port) ≡ true → stepOf (d .port) a x start (length W) (length l) ≡ s
       → saidOf (nextAt s (d .unit) (d .port) a x W .given) ≡ Sent n → Gave n
-  from-step n s w (frame i j k) q e = record { i = i; j = j; k = k; formed = w; step = q; is = (cc) }
-  from-step n s w (refusal g h) q e = not-said g n h e
+  from-step n (step.Frame i j k) w q e = record { i = i; j = j; k = k; formed = w; step = q; is = (cc) }
+  from-step n (step.Refused g) w q e = not-said g n (not-true (isSent g) (ap plain (sym q) ∙ plain-step (d .port) a x start (length W) (length l))) e
 
   -- what is said of a frame, is said of the frame of a step
   pub gave : (n : ℕ) → nextFrame d a x start W (length l) .said ≡ Sent n → Gave n
@@ -92,7 +59,7 @@ module _ (d : Drive) (a x start : ℕ) (W l : List ℕ) where
           → cond s (refused ShortBuffer d) (cond (not w) (refused IllFormed d) (served d (nextOf (d .unit) (d .port) a x start W (length l)))) .said ≡ Sent n → Gave n
       by true w q e = let z : _≡_ {A = ℕ} 0 1 = cc in absurd (omega arith)
       by false false q e = let z : _≡_ {A = ℕ} 0 1 = cc in absurd (omega arith)
-      by false true q e = from-step n (stepOf (d .port) a x start (length W) (length l)) q (gives-step (d .port) a x start (length W) (length l)) refl e
+      by false true q e = from-step n (stepOf (d .port) a x start (length W) (length l)) q refl e
 
   -- and where there is such a step
   module _ (i j k : ℕ) (w : wellFormed (d .unit) (d .port) ≡ true) (q : stepOf (d .port) a x start (length W) (length l) ≡ step.Frame i j k) where

@@ -211,54 +211,24 @@ module _ (d : Drive) (a x start : ℕ) (W l : List ℕ) where
   pub next-first : (r : Refusal) → nextFrame d a x start W (length l) .said ≡ Refused r → FirstOut r
   next-first r e = first-of told refl refl refl refl refl r e
 
-  is-short : {b c e g v : Bool} {s : Said} → Told b c e g v s → b ≡ true → s ≡ Refused ShortBuffer
-  is-short short q = refl
-  is-short ill q = apart q refl
-  is-short none q = apart q refl
-  is-short unproven q = apart q refl
-  is-short window q = apart q refl
-  is-short (sent n) q = apart q refl
-
-  is-ill : {b c e g v : Bool} {s : Said} → Told b c e g v s → b ≡ false → c ≡ true → s ≡ Refused IllFormed
-  is-ill short p q = apart refl p
-  is-ill ill p q = refl
-  is-ill none p q = apart q refl
-  is-ill unproven p q = apart q refl
-  is-ill window p q = apart q refl
-  is-ill (sent n) p q = apart q refl
-
-  is-none : {b c e g v : Bool} {s : Said} → Told b c e g v s → b ≡ false → c ≡ false → e ≡ true → s ≡ Refused NoExchange
-  is-none short p q t = apart refl p
-  is-none ill p q t = apart refl q
-  is-none none p q t = refl
-  is-none unproven p q t = apart t refl
-  is-none window p q t = apart t refl
-  is-none (sent n) p q t = apart t refl
-
-  is-unproven : {b c e g v : Bool} {s : Said} → Told b c e g v s → b ≡ false → c ≡ false → e ≡ false → g ≡ true → s ≡ Refused Unproven
-  is-unproven short p q t k = apart refl p
-  is-unproven ill p q t k = apart refl q
-  is-unproven none p q t k = apart refl t
-  is-unproven unproven p q t k = refl
-  is-unproven window p q t k = apart k refl
-  is-unproven (sent n) p q t k = apart k refl
-
-  is-window : {b c e g v : Bool} {s : Said} → Told b c e g v s → b ≡ false → c ≡ false → e ≡ false → g ≡ false → v ≡ true → s ≡ Refused BadWindow
-  is-window short p q t k m = apart refl p
-  is-window ill p q t k m = apart refl q
-  is-window none p q t k m = apart refl t
-  is-window unproven p q t k m = apart refl k
-  is-window window p q t k m = refl
-  is-window (sent n) p q t k m = apart m refl
+  -- so it is the refusal of the first test that holds
+  told-says : {b c e g v : Bool} {s : Said} → Told b c e g v s
+      → s ≡ cond b (Refused ShortBuffer) (cond c (Refused IllFormed) (cond e (Refused NoExchange) (cond g (Refused Unproven) (cond v (Refused BadWindow) s))))
+  told-says short = refl
+  told-says ill = refl
+  told-says none = refl
+  told-says unproven = refl
+  told-says window = refl
+  told-says (sent n) = refl
 
   -- where one is the first that applies: refused with it
   pub next-refuses : (r : Refusal) → FirstOut r → nextFrame d a x start W (length l) .said ≡ Refused r
-  next-refuses ShortBuffer z = is-short told (z .this)
-  next-refuses IllFormed z = is-ill told (z .before ShortBuffer (omega arith)) (z .this)
-  next-refuses NoExchange z = is-none told (z .before ShortBuffer (omega arith)) (z .before IllFormed (omega arith)) (z .this)
-  next-refuses Unproven z = is-unproven told (z .before ShortBuffer (omega arith)) (z .before IllFormed (omega arith)) (z .before NoExchange (omega arith)) (z .this)
+  next-refuses ShortBuffer z = told-says told ∙ rw (z .this)
+  next-refuses IllFormed z = told-says told ∙ rw (z .before ShortBuffer (omega arith), z .this)
+  next-refuses NoExchange z = told-says told ∙ rw (z .before ShortBuffer (omega arith), z .before IllFormed (omega arith), z .this)
+  next-refuses Unproven z = told-says told ∙ rw (z .before ShortBuffer (omega arith), z .before IllFormed (omega arith), z .before NoExchange (omega arith), z .this)
   next-refuses BadWindow z =
-      is-window told (z .before ShortBuffer (omega arith)) (z .before IllFormed (omega arith)) (z .before NoExchange (omega arith)) (z .before Unproven (omega arith)) (z .this)
+      told-says told ∙ rw (z .before ShortBuffer (omega arith), z .before IllFormed (omega arith), z .before NoExchange (omega arith), z .before Unproven (omega arith), z .this)
   next-refuses BadSize z = apart (z .this) refl
   next-refuses NotOurs z = apart (z .this) refl
   next-refuses BadSource z = apart (z .this) refl

@@ -27,7 +27,7 @@ use Rattle.serve.specs.Whole.{isSent, Moved}
 use Rattle.serve.proofs.Steps.{passed}
 
 -- a refusal gives no frame
-abbrev plain : Step → Bool
+abbrev pub plain : Step → Bool
 plain (Refused g) = not (isSent g)
 plain (Frame i j k) = true
 
@@ -46,7 +46,7 @@ plain-at (standing.NoExchange i) p start len = refl
 plain-at (standing.Open i j) p start len =
     plain-cond (not (eqb (loginAt p i .proven) 1)) _ _ refl (plain-cond (ltb 65536 len) _ _ refl (plain-place (placeOf (fullOf p i) (exchangeOf p i j) start len) i j))
 
-plain-step : (p : Port) (a x start len room : ℕ) → plain (stepOf p a x start len room) ≡ true
+pub plain-step : (p : Port) (a x start len room : ℕ) → plain (stepOf p a x start len room) ≡ true
 unfolding stepOf
 plain-step p a x start len room = plain-cond (ltb room 2136) _ _ refl (plain-at (lookupOf p a x) p start len)
 
