@@ -4,7 +4,7 @@ use mathlib.Core.Path.{_≡_}
 use mathlib.Core.Bool.{Bool, true, false}
 use Rattle.link.specs.Record.{Kept, Record, out, held, proved, paired, unpaired, doubted}
 
--- what a host believes of the drive's login record for it: unsure, or sure of one; the record is `out`, or `held` with paired, proven, names and parameters
+-- "Belief: out, in, paired (in or paired perhaps to verify) or unsure, with names and parameters sent": unsure, or sure of one; the record is `out`, or `held` with paired, proven, names and parameters
 pub data Belief : Type 0 where
   unsure : Belief
   sure : Record → Belief
@@ -21,14 +21,16 @@ pub data Request : Type 0 where
 pub data Answer : Type 0 where
   none acc rjt dlogo other : Answer
 
+-- RRQ's ACC names no change
 abbrev pub same : Record → Record
 same r = r
 
+-- a change of what the host is sure of; an unsure host stays so
 abbrev pub think : (Record → Record) → Belief → Belief
 think f unsure = unsure
 think f (sure r) = sure (f r)
 
--- What the host may send.
+-- "Unsure or out sends PLOGI, LOGO only"
 abbrev pub MayOut : Request → Type 0
 MayOut (plogi l) = Unit {0}
 MayOut logo = Unit {0}
@@ -40,6 +42,7 @@ MayOut rrq = ⊥
 MayOut command = ⊥
 MayOut abts = ⊥
 
+-- "To verify: only PLOGI, LOGO, PDISC, ADISC"; "PDISC repeats the login's parameters"
 abbrev pub MayVerify : Kept → Request → Type 0
 MayVerify l (plogi m) = Unit {0}
 MayVerify l logo = Unit {0}
@@ -51,6 +54,7 @@ MayVerify l rrq = ⊥
 MayVerify l command = ⊥
 MayVerify l abts = ⊥
 
+-- "in adds PRLI, PDISC, ADISC"
 abbrev pub MayIn : Kept → Request → Type 0
 MayIn l (plogi m) = Unit {0}
 MayIn l logo = Unit {0}
@@ -62,6 +66,7 @@ MayIn l rrq = ⊥
 MayIn l command = ⊥
 MayIn l abts = ⊥
 
+-- "paired adds PRLO, commands, ABTS, RRQ but not PRLI"
 abbrev pub MayPaired : Kept → Request → Type 0
 MayPaired l (plogi m) = Unit {0}
 MayPaired l logo = Unit {0}
@@ -73,6 +78,7 @@ MayPaired l rrq = Unit {0}
 MayPaired l command = Unit {0}
 MayPaired l abts = Unit {0}
 
+-- what the host may send, by its belief
 abbrev pub May : Belief → Request → Type 0
 May unsure q = MayOut q
 May (sure out) q = MayOut q
@@ -81,6 +87,7 @@ May (sure (held false true l)) q = MayIn l q
 May (sure (held true true l)) q = MayPaired l q
 
 -- What the host believes after an answer, by the kind of its request. `none` is also what a lost request or answer is to it.
+-- "PLOGI ACC: in; LS_RJT: out"
 abbrev pub afterPlogi : Kept → Answer → Belief → Belief
 afterPlogi l none b = unsure
 afterPlogi l acc b = sure (held false true l)
@@ -88,6 +95,7 @@ afterPlogi l rjt b = sure out
 afterPlogi l dlogo b = sure out
 afterPlogi l other b = b
 
+-- "LOGO answered, or received: out"
 abbrev pub afterLogo : Answer → Belief → Belief
 afterLogo none b = unsure
 afterLogo acc b = sure out
@@ -95,6 +103,7 @@ afterLogo rjt b = sure out
 afterLogo dlogo b = sure out
 afterLogo other b = b
 
+-- "PRLI, PRLO, PDISC, ADISC ACC as named; other frames .. change nothing"; "a lost request or answer means unsure"
 abbrev pub afterLink : (Record → Record) → Answer → Belief → Belief
 afterLink f none b = unsure
 afterLink f acc b = think f b
@@ -110,6 +119,7 @@ afterCommand rjt b = b
 afterCommand dlogo b = sure out
 afterCommand other b = b
 
+-- by the kind of the request
 abbrev pub hears : Request → Answer → Belief → Belief
 hears (plogi l) a b = afterPlogi l a b
 hears logo a b = afterLogo a b
