@@ -1,0 +1,3 @@
+mod Events
+mod Laws
+mod Lent
