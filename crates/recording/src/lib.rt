@@ -4,6 +4,7 @@ use drive::Drive;
 use drive::Event;
 use drive::Said;
 use state::Setup;
+use window::next_frame;
 use wire::be16;
 use wire::be32;
 use wire::be64;
@@ -187,7 +188,7 @@ fn ask_next(s: Session, address: u32, ox_id: u16, room: usize, start: u64, windo
 {
     let d = s.drive;
     let mut space = filled();
-    let a = d.next_frame(address, ox_id, start, window, &mut space[..room]);
+    let a = next_frame(d, address, ox_id, start, window, &mut space[..room]);
     answered(s, a, &space[..room])
 }
 

@@ -28,6 +28,7 @@ use state::is_closed;
 use state::is_free;
 use state::login_at;
 use state::lookup;
+use window::next_frame;
 use wire::be16;
 use wire::be24;
 use wire::be32;
@@ -162,7 +163,8 @@ fn asked(d: Drive, body: &[u8]) -> Drive {
         return d;
     }
     let mut out = [0xaau8; 2136];
-    let a = d.next_frame(
+    let a = next_frame(
+        d,
         be32(body, 0),
         be16(body, 4),
         be64(body, 6),
@@ -204,7 +206,7 @@ fn from_unit(d: Drive, address: u32, ox_id: u16, out: &mut [u8]) -> Answer {
     let p = d.port;
     let block = next_block(p, address, ox_id);
     let window = blocks_from(block);
-    d.next_frame(address, ox_id, block, &window, out)
+    next_frame(d, address, ox_id, block, &window, out)
 }
 
 // The block in which the next byte of an exchange stands, 0 where there is no such exchange.
