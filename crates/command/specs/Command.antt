@@ -15,6 +15,7 @@ use Rattle.state.specs.Tables.{findLogin, findExchange, freeExchange}
 use Rattle.formed.specs.Formed.{total}
 use Rattle.reply.specs.declared.Reply.the-variants as reply
 use Rattle.reply.specs.declared.Response.the-variants as response
+use Rattle.reply.specs.Payload.{senseWith}
 use Rattle.residual.specs.Residual.{residualOf}
 use Rattle.link.specs.declared.Decided.{Decided}
 use Rattle.link.specs.declared.Served.{Served}
@@ -27,10 +28,10 @@ use Rattle.command.specs.declared.Asked.the-variants as asked
 use Rattle.command.specs.Cmnd.{cmndOf, readBit, taskOf}
 use Rattle.command.specs.Tests.{askedOf}
 
--- CHECK CONDITION, sense 70h with this key and code, qualifier 00; wanted is "0 when refused"
+-- CHECK CONDITION with this key and code; wanted is "0 when refused"
 unfoldable pub refusedWith : Login → ℕ → ℕ → ℕ → Served
 refusedWith l key code expected =
-    servedAs (reply.Respond (response.Check record { first = 0x70; key = key; code = code; qualifier = 0x00; information = 0 } (residualOf 0 expected))) l
+    servedAs (reply.Respond (response.Check (senseWith key code) (residualOf 0 expected))) l
 
 -- the exchange reports an attention
 abbrev pub reports : ℕ → Bool

@@ -8,7 +8,7 @@ use link::decide_as;
 use link::serve_as;
 use reply::Reply;
 use reply::Response;
-use reply::Sense;
+use reply::sense_with;
 use residual::residual_of;
 use state::Change;
 use state::Exchange;
@@ -215,13 +215,7 @@ fn execute(capacity: u64, l: Login, ox_id: u16, c: Cmnd) -> Served
 fn refuse(l: Login, key: u8, code: u8, expected: u32) -> Served
     ensures { λ r. ⌜ r ≡ refusedWith l key code expected ⌝ }
 {
-    let s = Sense {
-        first: 0x70,
-        key: key,
-        code: code,
-        qualifier: 0,
-        information: 0,
-    };
+    let s = sense_with(key, code);
     serve_as(
         Reply::Respond(Response::Check(s, residual_of(0, expected))),
         l,

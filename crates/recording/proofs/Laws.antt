@@ -2,7 +2,7 @@
 use Prim.Native.Nat.{ℕ, _+_, _-_, _≤_, min}
 use mathlib.Core.Path.{_≡_, refl, sym, ap, _∙_}
 use mathlib.Core.Bool.{Bool, true, false, cond}
-use mathlib.Core.List.{List, [], _++_, append-nil}
+use mathlib.Core.List.{List, [], _++_}
 use native.Mathlib.Decide.{decLe}
 use native.Mathlib.Omega.{arith}
 use lib.ListN.{length, take, drop, length-append, length-replicate, drop-of-length-le}
@@ -13,21 +13,13 @@ use Rattle.arrival.specs.Arrival.{numberOf}
 use Rattle.drive.specs.declared.Answer.{Answer}
 use Rattle.drive.specs.declared.Said.{Said}
 use Rattle.drive.specs.declared.Said.the-variants.{Sent, Refused}
-use Rattle.wire.specs.Bytes.{onto}
-use Rattle.wire.proofs.Fronts.{onto-fits, take-replicate}
+use Rattle.wire.proofs.Fronts.{take-replicate}
 use Rattle.wire.proofs.Parts.{rest-is}
 use Rattle.recording.specs.declared.Line.{Line}
 use Rattle.recording.specs.declared.Session.{Session}
 use Rattle.recording.specs.declared.Told.{Told}
 use Rattle.recording.specs.Answers.{LineIs, allFill, answer, answerOf}
 use Rattle.recording.specs.Calls.{toldAs, ToldIs, answerTo, fill}
-
--- all of l is covered
-pub onto-whole : (p l : List ℕ) → length p ≡ length l → onto p l ≡ p
-onto-whole p l e =
-    let f : length p ≤ length l = omega arith in
-    let g : length l ≤ length p = omega arith in
-    onto-fits p l f ∙ rw (drop-of-length-le l g, append-nil)
 
 -- a number of elements past the end counts as all of them
 module _ (l : List ℕ) (n k : ℕ) (e : k ≡ min n (length l)) where

@@ -79,6 +79,10 @@ statusBytes flags status resid sense response = replicate 10 0 ++ (flags ∷ sta
 unfoldable pub codeBytes : ℕ → List ℕ
 codeBytes code = 0x00 ∷ 0x00 ∷ 0x00 ∷ code ∷ replicate 4 0
 
+-- "70, 00, key, 4 zeros, 0A, code and qualifier at 12, 13": the qualifier is 00 in all that the drive tells
+abbrev pub senseWith : ℕ → ℕ → Sense
+senseWith key code = record { first = 0x70; key = key; code = code; qualifier = 0x00; information = 0 }
+
 -- "18 sense bytes: 70, 00, key, 4 zeros, 0A, code and qualifier at 12, 13"; the first byte and the 4 that are zero stand in the sense
 unfoldable pub senseBytes : Sense → List ℕ
 senseBytes s = s .first ∷ 0x00 ∷ s .key ∷ bytes 4 (s .information) ++ (0x0a ∷ replicate 4 0) ++ (s .code ∷ s .qualifier ∷ replicate 4 0)

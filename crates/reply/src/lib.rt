@@ -9,7 +9,7 @@ ghost use Prim.Native.Nat.{_+_, _≤_, _<_};
 ghost use mathlib.Core.Bool.{cond};
 ghost use lib.ListN.{length};
 ghost use Rattle.wire.specs.Bytes.{Wrote, onto, fillCount};
-ghost use Rattle.reply.specs.Payload.{shortBytes, loginBytes, addressBytes, pairBytes, unpairBytes, acceptedBytes, rejectBytes, logoutBytes, abortAcceptBytes, abortRejectBytes, residualFlag, residualSize, statusBytes, codeBytes, senseBytes, responseBytes, dataBytes, payloadOf};
+ghost use Rattle.reply.specs.Payload.{shortBytes, loginBytes, addressBytes, pairBytes, unpairBytes, acceptedBytes, rejectBytes, logoutBytes, abortAcceptBytes, abortRejectBytes, residualFlag, residualSize, statusBytes, codeBytes, senseWith, senseBytes, responseBytes, dataBytes, payloadOf};
 ghost use Rattle.reply.specs.Reply.{answerHead, logoutHead, dataHead, headOf, filled, silent, bytesOf, sentOf, writtenOf};
 
 // What a reply takes from the setup: the own address and the accept words.
@@ -87,6 +87,19 @@ pub fn write(o: Own, h: Header, r: Reply, source: &[u8], reply: &mut [u8]) -> us
         return 0;
     }
     put_reply(o, h, r, source, reply)
+}
+
+// Sense of this key and code; what a drive tells has no qualifier and no information.
+pub fn sense_with(key: u8, code: u8) -> Sense
+    ensures { λ r. ⌜ r ≡ senseWith key code ⌝ }
+{
+    Sense {
+        first: 0x70,
+        key: key,
+        code: code,
+        qualifier: 0x00,
+        information: 0,
+    }
 }
 
 // Writes the 18 sense bytes at the front of the buffer, as much of them as fits.

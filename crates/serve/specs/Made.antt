@@ -6,7 +6,7 @@ use lib.Dec.{eqb, leb}
 use Rattle.wire.specs.Bytes.{bytes}
 use Rattle.state.specs.declared.Unit.{Unit}
 use Rattle.reply.specs.declared.Sense.{Sense}
-use Rattle.reply.specs.Payload.{senseBytes}
+use Rattle.reply.specs.Payload.{senseWith, senseBytes}
 
 -- INQUIRY: "7Fh first for another LUN", which is kind 3
 unfoldable pub inquiryFirst : ℕ → ℕ
@@ -19,10 +19,6 @@ inquiryBytes identity kind = (inquiryFirst kind ∷ 0x00 ∷ 0x02 ∷ 0x02 ∷ 0
 -- READ CAPACITY: "8 (last address, 512)"
 unfoldable pub capacityBytes : ℕ → List ℕ
 capacityBytes capacity = bytes 4 (capacity - 1) ++ bytes 4 512
-
--- "70, 00, key, 4 zeros, 0A, code and qualifier at 12, 13": the qualifier is 00 in all that REQUEST SENSE tells
-unfoldable pub senseWith : ℕ → ℕ → Sense
-senseWith key code = record { first = 0x70; key = key; code = code; qualifier = 0x00; information = 0 }
 
 -- REQUEST SENSE: "00/00/00, the attention, .. or 05/25/00 for another LUN"; the attention is 06/29/00 or 06/2F/00, kinds 6 and 7, another LUN kind 8
 unfoldable pub senseOf : ℕ → Sense

@@ -8,6 +8,7 @@ use reply::Reply;
 use reply::Response;
 use reply::Sense;
 use reply::put_sense;
+use reply::sense_with;
 use reply::write;
 use residual::residual_of;
 use state::Exchange;
@@ -35,7 +36,7 @@ ghost use Rattle.tables.specs.declared.Found.the-variants.{At, Nothing};
 ghost use Rattle.reply.specs.Payload.{senseBytes};
 ghost use Rattle.reply.specs.Reply.{sentOf, writtenOf};
 ghost use Rattle.formed.specs.Formed.{fullFrame, nextBytes};
-ghost use Rattle.serve.specs.Made.{inquiryFirst, inquiryBytes, capacityBytes, senseWith, senseOf, madeBytes};
+ghost use Rattle.serve.specs.Made.{inquiryFirst, inquiryBytes, capacityBytes, senseOf, madeBytes};
 ghost use Rattle.serve.specs.Next.{hasMore, readsMore, fitsAt, coverOf, placeOf, frameOf, nextReply, nextExchange, sourceOf, ownOf, askedBy, openStep, stepOf, nextOf, nextBuffer};
 
 // What became of the call: the length of the frame, or why it was refused.
@@ -390,19 +391,6 @@ fn sense_of(kind: u8) -> Sense
         return sense_with(0x05, 0x25);
     }
     sense_with(0x00, 0x00)
-}
-
-// Sense of this key and code.
-fn sense_with(key: u8, code: u8) -> Sense
-    ensures { λ r. ⌜ r ≡ senseWith key code ⌝ }
-{
-    Sense {
-        first: 0x70,
-        key: key,
-        code: code,
-        qualifier: 0x00,
-        information: 0,
-    }
 }
 
 // The 18 bytes of a sense.

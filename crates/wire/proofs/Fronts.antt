@@ -15,6 +15,13 @@ pub onto-fits : (p l : List ℕ) → length p ≤ length l → onto p l ≡ p ++
 unfolding onto
 onto-fits p l h = rw (take-all (length l) p h)
 
+-- a list laid over one of its length covers it
+pub onto-whole : (p l : List ℕ) → length p ≡ length l → onto p l ≡ p
+onto-whole p l e =
+    let f : length p ≤ length l = omega arith in
+    let g : length l ≤ length p = omega arith in
+    onto-fits p l f ∙ rw (drop-of-length-le l g, append-nil)
+
 -- nothing laid over a list leaves it
 pub onto-nil : (l : List ℕ) → onto [] l ≡ l
 unfolding onto

@@ -3,7 +3,7 @@ use mathlib.Core.Path.{_≡_, refl, _∙_}
 use mathlib.Core.List.{List}
 use Prim.Native.Nat.{ℕ}
 use lib.ListN.{length, replicate}
-use Rattle.boundary.proofs.Laws.{onto-whole}
+use Rattle.wire.proofs.Fronts.{onto-whole}
 use borrow.Author.Needs.{needs}
 use Rattle.boundary.proofs.setup_of.Statement.{statement}
 use Rattle.boundary.proofs.setup_of.Tie as tie

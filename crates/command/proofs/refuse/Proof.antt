@@ -7,12 +7,13 @@ use Rattle.command.proofs.refuse.Tie as tie
 
 returns : tie.Need-returns
 unfolding refusedWith
-returns c = rw (sym (c .before .residual-of .ensures)) (c .serve-as .ensures)
+returns c = rw (sym (c .before .residual-of .ensures), sym (c .before .before .sense-with .ensures)) (c .serve-as .ensures)
 
 pub refuse-spec : {M : Type 1} → statement M
 refuse-spec =
     tie.close
     (tie.spec
+    (λ c κs. search needs)
     (λ c κs. search needs)
     (λ c κs. search needs)
     returns)

@@ -7,7 +7,7 @@ use lib.ListN.{length, take, drop, replicate, length-take, length-drop}
 use lib.Seq.{length-take-le}
 use Rattle.wire.proofs.Parts.{rest-is}
 use Rattle.recording.specs.Calls.{setupOf}
-use Rattle.recording.proofs.Laws.{onto-whole}
+use Rattle.wire.proofs.Fronts.{onto-whole}
 use borrow.Author.Needs.{needs}
 use Rattle.recording.proofs.setup_of.Statement.{statement}
 use Rattle.recording.proofs.setup_of.Tie as tie
