@@ -146,7 +146,7 @@ static void made_data(void) {
     senses("REQUEST SENSE with 2Fh", &d, 0, 0x06, 0x2F);
 }
 
-/* Eight exchanges of a login, of every kind that needs no attention; the first is a READ across. */
+/* Eight exchanges of a login, of every kind that needs no attention. */
 static struct frame opening(uint8_t host, unsigned place) {
     uint16_t ox_id = (uint16_t)(0x1000 + place);
     switch (place) {
