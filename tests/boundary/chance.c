@@ -156,7 +156,7 @@ static void some_state(struct jhartupal_drive *d) {
     if (kind < 2) {
         scatter(d, sizeof *d);
     } else if (kind < 8 || !well_formed(d)) {
-        memcpy(d, &good[below(GOOD_STATES)], sizeof *d);
+        memcpy(d, &good[below(2) == 0 ? GOOD_STATES - 1 : below(GOOD_STATES)], sizeof *d);
         spoil((uint8_t *)d, sizeof *d, below(4));
     }
 }
@@ -165,8 +165,13 @@ enum { FRAME, NEXT, EVENT, MAKE, FUNCTIONS };
 static unsigned tally[FUNCTIONS][11]; /* of each function: the answers, and each refusal */
 
 static uint64_t some_next(struct jhartupal_drive *d, size_t room) {
-    const struct jhartupal_login *l = &d->port.logins[below(JHARTUPAL_LOGINS)];
-    const struct jhartupal_exchange *e = &l->places[below(JHARTUPAL_PLACES)];
+    const struct jhartupal_login *l;
+    const struct jhartupal_exchange *e;
+    uint32_t tries = 0;
+    do { /* rather an open exchange than a free place */
+        l = &d->port.logins[below(JHARTUPAL_LOGINS)];
+        e = &l->places[below(JHARTUPAL_PLACES)];
+    } while (e->kind == JHARTUPAL_FREE && ++tries < 32);
     uint32_t address = below(8) == 0 ? (uint32_t)chance() : l->address;
     uint16_t id = below(8) == 0 ? some_id() : e->ox_id;
     uint64_t start = below(8) == 0 ? chance() : e->start + e->sent / 512 - (below(4) == 0);

@@ -67,7 +67,8 @@ static void stored(void) {
 static void stands(const char *what, const struct jhartupal_exchange *e, uint64_t start, uint32_t blocks, uint32_t expected, uint32_t sent, unsigned count) {
     check(e->start == start && e->blocks == blocks && e->wanted == 512 * blocks && e->expected == expected && e->sent == sent && e->ox_id == 0x0B01
               && e->count == count && e->kind == JHARTUPAL_READ,
-          "%s: %u bytes sent in %u frames, and not %u in %u", what, e->sent, e->count, sent, count);
+          "%s: after %u bytes in %u frames the exchange is %llu, %u, %u, %u, %u, %04X, %u, %u", what, sent, count, (unsigned long long)e->start, e->blocks, e->wanted,
+          e->expected, e->sent, e->ox_id, e->count, e->kind);
 }
 
 /* A READ of blocks by a host of this W18 size, frame by frame, each from a window over its own bytes alone, to the FCP_RSP that frees the place. */
