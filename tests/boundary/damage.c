@@ -1,0 +1,277 @@
+/* Every rule of "Well formed" broken by itself, at every place that it is asked of, beside states that just keep it: a frame, a next frame
+ * and the three events answer 2 exactly then, with nothing changed (lend.c). */
+#include "check.h"
+
+enum { ILL = 0, FINE = 1, CAPACITY = 16777216 };
+
+/* All five calls with a state. Not well formed: each is refused with 2; otherwise none is. */
+static void sees(const char *rule, size_t i, size_t j, const struct jhartupal_drive *state, int fine) {
+    struct jhartupal_drive d;
+    struct frame f = test_unit(0x1B); /* of an address without login: answered with a LOGO */
+    uint64_t said[5];
+    memcpy(&d, state, sizeof d);
+    said[0] = frame_in(&d, f.b, f.n, ROOM);
+    memcpy(&d, state, sizeof d);
+    said[1] = next_out(&d, hosts[0], 0x1000, 0, identity, sizeof identity, ROOM);
+    for (int e = LOOP_RESET; e <= POWER_ON; e++) {
+        memcpy(&d, state, sizeof d);
+        said[2 + e] = event(&d, e);
+    }
+    unsigned twos = 0;
+    for (size_t k = 0; k < 5; k++) {
+        twos += said[k] == JHARTUPAL_REFUSED + JHARTUPAL_ILL_FORMED;
+    }
+    check(twos == (fine ? 0 : 5), "%s (login %zu, place %zu): %u of 5 calls answer 2: %llu %llu %llu %llu %llu", rule, i, j, twos, (unsigned long long)said[0],
+          (unsigned long long)said[1], (unsigned long long)said[2], (unsigned long long)said[3], (unsigned long long)said[4]);
+    check(well_formed(state) == (fine == FINE), "%s (login %zu, place %zu): this test's own rule differs", rule, i, j);
+}
+
+/* A field of a struct gets a number. */
+struct change {
+    const char *rule;
+    size_t at, wide;
+    uint64_t value;
+    int fine;
+};
+
+static void apply(void *base, const struct change *c) {
+    uint8_t *at = (uint8_t *)base + c->at;
+    for (size_t i = 0; i < c->wide; i++) { /* as x86-64 stores it */
+        at[i] = i < 8 ? (uint8_t)(c->value >> 8 * i) : 0;
+    }
+}
+
+#define OF(type, field) offsetof(struct jhartupal_##type, field), sizeof(((struct jhartupal_##type *)0)->field)
+
+/* "setup rules hold", of a drive with no logins. A word's byte b stands at 4 w + b - 4 of the accept words. */
+#define WORD(w, b, bytes) offsetof(struct jhartupal_drive, port.accept) + 4 * (w) + (b) - 4, bytes
+static const struct change setups[] = {
+    {"\"Capacity 1 to ..\": 0", OF(drive, unit.capacity), 0, ILL},
+    {"\"Capacity 1 to ..\": 1", OF(drive, unit.capacity), 1, FINE},
+    {"\".. to 4,294,967,295\"", OF(drive, unit.capacity), 4294967295, FINE},
+    {"\".. to 4,294,967,295\": one more", OF(drive, unit.capacity), 4294967296, ILL},
+    {"\".. to 4,294,967,295\": a high bit", OF(drive, unit.capacity), UINT64_C(1) << 63 | 1, ILL},
+    {"own address 01h", OF(drive, port.address), 0x01, FINE},
+    {"own address: \"among FC-AL's 127\"", OF(drive, port.address), 0x03, ILL},
+    {"own address: \"among FC-AL's 127\", F7h", OF(drive, port.address), 0xF7, ILL},
+    {"own address: \"00h excepted\"", OF(drive, port.address), 0x00, ILL},
+    {"own address: \"upper bytes 0000h\"", OF(drive, port.address), 0x0100EF, ILL},
+    {"own address: bits 31 to 24", OF(drive, port.address), 0x010000EF, ILL},
+    {"accept W2 size 252", WORD(2, 2, 2), 0xFC00, ILL},
+    {"accept W2 size 256", WORD(2, 2, 2), 0x0001, FINE},
+    {"accept W2 size 258", WORD(2, 2, 2), 0x0201, ILL},
+    {"accept W2 size 2,112", WORD(2, 2, 2), 0x4008, FINE},
+    {"accept W2 size 2,116", WORD(2, 2, 2), 0x4408, ILL},
+    {"accept port name zero", WORD(5, 0, 8), 0, ILL},
+    {"accept port name, its last byte alone", WORD(5, 0, 8), UINT64_C(1) << 56, FINE},
+    {"accept node name zero", WORD(7, 0, 8), 0, ILL},
+    {"accept node name, its first byte alone", WORD(7, 0, 8), 1, FINE},
+    {"accept W17 bit 31", WORD(17, 0, 1), 0x7F, ILL},
+    {"accept W17 bit 31 alone", WORD(17, 0, 1), 0x80, FINE},
+    {"accept W18 size 252", WORD(18, 2, 2), 0xFC00, ILL},
+    {"accept W18 size 258", WORD(18, 2, 2), 0x0201, ILL},
+    {"accept W18 size 2,112", WORD(18, 2, 2), 0x4008, FINE},
+    {"accept W18 size 2,116", WORD(18, 2, 2), 0x4408, ILL},
+    {"accept W18 size 256, upper bits", WORD(18, 2, 2), 0x00F1, FINE},
+    {"accept W19/B1 0", WORD(19, 1, 1), 0, ILL},
+    {"accept W19/B1 FFh", WORD(19, 1, 1), 0xFF, FINE},
+    {"accept W20/B1 0", WORD(20, 1, 1), 0, ILL},
+    {"accept W20/B1 = 01h: 2", WORD(20, 1, 1), 2, ILL},
+    {"identity: any bytes", OF(drive, unit.identity), 0, FINE},
+};
+
+/* Of each login that is used, with its eight exchanges open */
+static const struct change busy[] = {
+    {"used is 0 or 1: 2", OF(login, used), 2, ILL},
+    {"used is 0 or 1: FFh", OF(login, used), 0xFF, ILL},
+    {"a free place has no open exchange", OF(login, used), 0, ILL},
+    {"proven is 0 or 1: 0", OF(login, proven), 0, FINE},
+    {"proven is 0 or 1: 2", OF(login, proven), 2, ILL},
+    {"\"exchanges only at paired logins\"", OF(login, paired), 0, ILL},
+    {"attention 29h", OF(login, attention), 0x29, FINE},
+    {"attention 2Fh", OF(login, attention), 0x2F, FINE},
+    {"attention is 0, 29h or 2Fh: 1", OF(login, attention), 1, ILL},
+    {"attention is 0, 29h or 2Fh: 2Ah", OF(login, attention), 0x2A, ILL},
+    {"\"W19/B1 not 0\"", OF(login, concurrent), 0, ILL},
+    {"\"W20/B1 not 0\"", OF(login, sequences), 0, ILL},
+    {"W19/B1 FFh", OF(login, concurrent), 0xFF, FINE},
+    {"W20/B1 FFh", OF(login, sequences), 0xFF, FINE},
+    {"size 252", OF(login, size), 252, ILL},
+    {"size 258", OF(login, size), 258, ILL},
+    {"size 260", OF(login, size), 260, FINE},
+    {"size 2,112", OF(login, size), 2112, FINE},
+    {"size 2,116", OF(login, size), 2116, ILL},
+    {"size 4,352, whose low 12 bits are 256", OF(login, size), 4352, ILL},
+    {"another address", OF(login, address), 0x18, FINE},
+    {"\"addresses valid\": 03h", OF(login, address), 0x03, ILL},
+    {"\"00h excepted\"", OF(login, address), 0x00, ILL},
+    {"\"upper bytes 0000h\"", OF(login, address), 0x010018, ILL},
+    {"bits 31 to 24 of an address", OF(login, address), 0x01000018, ILL},
+    {"\"not ours\"", OF(login, address), OWN, ILL},
+    {"port name zero", OF(login, port), 0, ILL},
+    {"port name, its last byte alone", OF(login, port), UINT64_C(1) << 56, FINE},
+    {"node name zero", OF(login, node), 0, ILL},
+    {"node name, its last byte alone", OF(login, node), UINT64_C(1) << 56, FINE},
+};
+
+/* Of each login with no open exchange */
+static const struct change idle[] = {
+    {"a free place", OF(login, used), 0, FINE},
+    {"used is 0 or 1: 2, no exchange", OF(login, used), 2, ILL},
+    {"unpaired", OF(login, paired), 0, FINE},
+    {"paired is 0 or 1: 2", OF(login, paired), 2, ILL},
+};
+
+/* At each place of each login, all of size 256 */
+struct damage {
+    const char *rule;
+    struct jhartupal_exchange e; /* start, blocks, wanted, expected, sent, OX_ID, count, kind */
+    int fine;
+};
+
+static const struct damage damages_of[] = {
+    {"a READ, halfway", {10, 4, 2048, 2048, 512, 0x3000, 2, 1}, FINE},
+    {"READ of no blocks", {10, 0, 0, 2048, 0, 0x3000, 0, 1}, ILL},
+    {"READ of 65,535 blocks", {10, 65535, 33553920, 2048, 0, 0x3000, 0, 1}, FINE},
+    {"READ of 65,536 blocks", {10, 65536, 33554432, 2048, 0, 0x3000, 0, 1}, ILL},
+    {"READ: \"count x 512\", one less", {10, 4, 2047, 1024, 512, 0x3000, 2, 1}, ILL},
+    {"READ: \"count x 512\", one more", {10, 4, 2049, 1024, 512, 0x3000, 2, 1}, ILL},
+    {"READ of the last block", {CAPACITY - 1, 1, 512, 512, 0, 0x3000, 0, 1}, FINE},
+    {"READ: \"address not below capacity\"", {CAPACITY, 1, 512, 512, 0, 0x3000, 0, 1}, ILL},
+    {"READ: \"address plus count above it\"", {CAPACITY - 3, 4, 2048, 2048, 0, 0x3000, 0, 1}, ILL},
+    {"READ from block 2^32 on", {UINT64_C(1) << 32, 4, 2048, 2048, 0, 0x3000, 0, 1}, ILL},
+    {"READ from the last block of 64 bits", {UINT64_MAX, 1, 512, 512, 0, 0x3000, 0, 1}, ILL},
+    {"FCP_DL 0", {10, 4, 2048, 0, 0, 0x3000, 0, 1}, ILL},
+    {"FCP_DL 1", {10, 4, 2048, 1, 0, 0x3000, 0, 1}, FINE},
+    {"FCP_DL 0, INQUIRY", {0, 0, 36, 0, 0, 0x3000, 0, 2}, ILL},
+    {"no such kind: 9", {10, 4, 2048, 2048, 0, 0x3000, 0, 9}, ILL},
+    {"no such kind: 9, of few bytes", {0, 0, 8, 8, 0, 0x3000, 0, 9}, ILL},
+    {"no such kind: FFh", {0, 0, 8, 8, 0, 0x3000, 0, 0xFF}, ILL},
+    {"a free place, whatever stands there", {UINT64_MAX, 7, 7, 0, 9, 0x1000, 3, 0}, FINE},
+    {"INQUIRY: nothing", {0, 0, 0, 36, 0, 0x3000, 0, 2}, ILL},
+    {"INQUIRY: 36", {0, 0, 36, 255, 0, 0x3000, 0, 2}, FINE},
+    {"INQUIRY: 37", {0, 0, 37, 255, 0, 0x3000, 0, 2}, ILL},
+    {"INQUIRY of another LUN: nothing", {0, 0, 0, 36, 0, 0x3000, 0, 3}, ILL},
+    {"INQUIRY of another LUN: 36", {0, 0, 36, 255, 0, 0x3000, 0, 3}, FINE},
+    {"INQUIRY of another LUN: 37", {0, 0, 37, 255, 0, 0x3000, 0, 3}, ILL},
+    {"READ CAPACITY: 7", {0, 0, 7, 8, 0, 0x3000, 0, 4}, ILL},
+    {"READ CAPACITY: 8", {0, 0, 8, 8, 0, 0x3000, 0, 4}, FINE},
+    {"READ CAPACITY: 9", {0, 0, 9, 8, 0, 0x3000, 0, 4}, ILL},
+    {"REQUEST SENSE: nothing", {0, 0, 0, 18, 0, 0x3000, 0, 5}, ILL},
+    {"REQUEST SENSE: 18", {0, 0, 18, 18, 0, 0x3000, 0, 5}, FINE},
+    {"REQUEST SENSE: 19", {0, 0, 19, 18, 0, 0x3000, 0, 5}, ILL},
+    {"REQUEST SENSE with 29h: 1", {0, 0, 1, 18, 0, 0x3000, 0, 6}, FINE},
+    {"REQUEST SENSE with 29h: 19", {0, 0, 19, 18, 0, 0x3000, 0, 6}, ILL},
+    {"REQUEST SENSE with 2Fh: 18", {0, 0, 18, 18, 0, 0x3000, 0, 7}, FINE},
+    {"REQUEST SENSE with 2Fh: nothing", {0, 0, 0, 18, 0, 0x3000, 0, 7}, ILL},
+    {"REQUEST SENSE of another LUN: 18", {0, 0, 18, 18, 0, 0x3000, 0, 8}, FINE},
+    {"REQUEST SENSE of another LUN: 19", {0, 0, 19, 18, 0, 0x3000, 0, 8}, ILL},
+    {"all sent", {10, 4, 2048, 2048, 2048, 0x3000, 8, 1}, FINE},
+    {"\"bytes sent at most its total\"", {10, 4, 2048, 2048, 2304, 0x3000, 9, 1}, ILL},
+    {"all that FCP_DL lets be sent", {10, 4, 2048, 1000, 1000, 0x3000, 4, 1}, FINE},
+    {"\"the smaller of wanted and FCP_DL\"", {10, 4, 2048, 1000, 1024, 0x3000, 4, 1}, ILL},
+    {"\"the smaller of wanted and FCP_DL\", wanted", {0, 0, 8, 2048, 256, 0x3000, 1, 4}, ILL},
+    {"\"a whole number of full frames\"", {10, 4, 2048, 2048, 500, 0x3000, 2, 1}, ILL},
+    {"INQUIRY, all sent", {0, 0, 36, 36, 36, 0x3000, 1, 2}, FINE},
+    {"INQUIRY, short of its total", {0, 0, 36, 36, 35, 0x3000, 1, 2}, ILL},
+    {"the frames sent, one less", {10, 4, 2048, 2048, 512, 0x3000, 1, 1}, ILL},
+    {"the frames sent, one more", {10, 4, 2048, 2048, 512, 0x3000, 3, 1}, ILL},
+    {"none sent, one counted", {10, 4, 2048, 2048, 0, 0x3000, 1, 1}, ILL},
+    {"65,536 frames sent", {10, 65535, 33553920, 33553920, 16777216, 0x3000, 0, 1}, FINE},
+    {"131,070 frames sent", {10, 65535, 33553920, 33553920, 33553920, 0x3000, 65534, 1}, FINE},
+    {"131,070 frames sent, one more", {10, 65535, 33553920, 33553920, 33553920, 0x3000, 65535, 1}, ILL},
+};
+
+#define COUNT(table) (sizeof(table) / sizeof(table)[0])
+
+static void setup_rules(void) {
+    struct jhartupal_drive d, good;
+    made(&good, CAPACITY);
+    for (size_t k = 0; k < COUNT(setups); k++) {
+        memcpy(&d, &good, sizeof d);
+        apply(&d, &setups[k]);
+        sees(setups[k].rule, 0, 0, &d, setups[k].fine);
+    }
+}
+
+static void login_rules(const struct jhartupal_drive *good, const struct change *table, size_t n, bool open) {
+    struct jhartupal_drive d;
+    for (size_t i = 0; i < JHARTUPAL_LOGINS; i++) {
+        for (size_t k = 0; k < n; k++) {
+            memcpy(&d, good, sizeof d);
+            for (size_t j = 0; j < JHARTUPAL_PLACES && !open; j++) {
+                d.port.logins[i].places[j].kind = JHARTUPAL_FREE;
+            }
+            apply(&d.port.logins[i], &table[k]);
+            sees(table[k].rule, i, 0, &d, table[k].fine);
+        }
+    }
+}
+
+static void exchange_rules(const struct jhartupal_drive *good) {
+    struct jhartupal_drive d;
+    for (size_t i = 0; i < JHARTUPAL_LOGINS; i++) {
+        for (size_t j = 0; j < JHARTUPAL_PLACES; j++) {
+            for (size_t k = 0; k < COUNT(damages_of); k++) {
+                memcpy(&d, good, sizeof d);
+                d.port.logins[i].places[j] = damages_of[k].e;
+                sees(damages_of[k].rule, i, j, &d, damages_of[k].fine);
+            }
+        }
+    }
+}
+
+/* "login addresses .. distinct", "OX_IDs distinct within a login": each two places; of free ones nothing is asked. */
+static void each_two(const struct jhartupal_drive *good) {
+    struct jhartupal_drive d;
+    for (size_t i = 0; i < JHARTUPAL_LOGINS; i++) {
+        for (size_t j = 0; j < JHARTUPAL_PLACES; j++) {
+            for (size_t k = 0; k < j; k++) {
+                memcpy(&d, good, sizeof d);
+                d.port.logins[i].places[j].ox_id = d.port.logins[i].places[k].ox_id;
+                sees("\"OX_IDs distinct within a login\"", i, j, &d, ILL);
+                d.port.logins[i].places[k].kind = JHARTUPAL_FREE;
+                sees("the OX_ID of a free place", i, j, &d, FINE);
+            }
+        }
+        for (size_t k = 0; k < i; k++) {
+            memcpy(&d, good, sizeof d);
+            d.port.logins[i].address = d.port.logins[k].address;
+            sees("\"login addresses .. distinct\"", i, k, &d, ILL);
+            memset(&d.port.logins[k].places, 0, sizeof d.port.logins[k].places);
+            d.port.logins[k].used = 0;
+            sees("the address of a free place", i, k, &d, FINE);
+        }
+    }
+}
+
+/* "nothing more is asked of them": of a free place for a login only that it has no open exchange. */
+static void left_over(const struct jhartupal_drive *good) {
+    struct jhartupal_drive d;
+    for (size_t i = 0; i < JHARTUPAL_LOGINS; i++) {
+        memcpy(&d, good, sizeof d);
+        memset(&d.port.logins[i], 0xFF, sizeof d.port.logins[i]);
+        d.port.logins[i].used = 0;
+        for (size_t j = 0; j < JHARTUPAL_PLACES; j++) {
+            d.port.logins[i].places[j].kind = JHARTUPAL_FREE;
+        }
+        sees("a free place, whatever stands there", i, 0, &d, FINE);
+        for (size_t j = 0; j < JHARTUPAL_PLACES; j++) {
+            d.port.logins[i].places[j] = damages_of[0].e;
+            sees("a free place and one open exchange", i, j, &d, ILL);
+            d.port.logins[i].places[j].kind = JHARTUPAL_FREE;
+        }
+    }
+}
+
+void damages(void) {
+    struct jhartupal_drive good;
+    full(&good);
+    sees("eight logins with eight exchanges", 0, 0, &good, FINE);
+    setup_rules();
+    login_rules(&good, busy, COUNT(busy), true);
+    login_rules(&good, idle, COUNT(idle), false);
+    exchange_rules(&good);
+    each_two(&good);
+    left_over(&good);
+}

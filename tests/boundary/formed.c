@@ -1,0 +1,103 @@
+/* "Well formed", written from document 01's sentences and the readings of them: what the drive's own test is held to. */
+#include "check.h"
+
+/* "a low byte among FC-AL's 127 loop addresses, 00h excepted": the characters to EFh whose 8B/10B code has as many ones as zeros, which is
+ * so where both parts of it have, the one of five bits and the one of three, or neither. A bit here says that the part has not. */
+static bool valid_address(uint32_t n) {
+    const uint32_t five = 0xE9818117, three = 0x91;
+    return 0x00 < n && n <= 0xEF && (five >> (n & 31) & 1) == (three >> (n >> 5) & 1);
+}
+
+/* "from 256 to 2,112 and a multiple of 4" */
+static bool size_fits(unsigned size) {
+    return 256 <= size && size <= 2112 && size % 4 == 0;
+}
+
+static bool named(const uint8_t *name) {
+    for (size_t i = 0; i < 8; i++) {
+        if (name[i] != 0) {
+            return true;
+        }
+    }
+    return false;
+}
+
+/* "words 1 to 28 of the login accept, which must pass the PLOGI rules below with W20/B1 = 01h" */
+static bool words_pass(const uint8_t *words) {
+    uint8_t w[4 + JHARTUPAL_ACCEPT];
+    memcpy(w + 4, words, JHARTUPAL_ACCEPT);
+    return size_fits((w[10] << 8 | w[11]) & 0xFFF) && named(w + 20) && named(w + 28) && (w[68] & 0x80) != 0 && size_fits((w[74] << 8 | w[75]) & 0xFFF)
+        && w[77] != 0 && w[81] == 1;
+}
+
+/* "each exchange is one an accepted command could open" */
+static bool could_open(const struct jhartupal_exchange *e, uint64_t capacity) {
+    switch (e->kind) {
+    case 1: /* READ(10): "address not below capacity, or address plus count above it" is refused; "count x 512" */
+        return 1 <= e->blocks && e->blocks <= 65535 && e->wanted == 512 * e->blocks && e->start < capacity && e->blocks <= capacity - e->start;
+    case 2: /* INQUIRY: "36 or byte 4 if smaller", and so of another LUN */
+    case 3:
+        return 1 <= e->wanted && e->wanted <= 36;
+    case 4: /* READ CAPACITY: "8" */
+        return e->wanted == 8;
+    case 5: /* REQUEST SENSE: "18 or byte 4 if smaller", with 00/00/00, 29h, 2Fh, or of another LUN */
+    case 6:
+    case 7:
+    case 8:
+        return 1 <= e->wanted && e->wanted <= 18;
+    default:
+        return false;
+    }
+}
+
+/* "with bytes sent at most its total and, short of it, a whole number of full frames"; and the frames counted modulo 65,536 */
+static bool sent_fits(const struct jhartupal_exchange *e, unsigned size) {
+    uint32_t total = e->wanted < e->expected ? e->wanted : e->expected;
+    uint32_t frame = size < 2048 ? size : 2048;
+    uint32_t frames = e->sent / frame + (e->sent % frame != 0);
+    return 1 <= e->expected && e->sent <= total && (e->sent == total || e->sent % frame == 0) && e->count == (frames & 0xFFFF);
+}
+
+static bool places_fit(const struct jhartupal_login *l, uint64_t capacity) {
+    for (size_t j = 0; j < 8; j++) {
+        const struct jhartupal_exchange *e = &l->places[j];
+        if (e->kind == 0) {
+            continue;
+        }
+        if (l->used == 0 || l->paired == 0 || !could_open(e, capacity) || !sent_fits(e, l->size)) {
+            return false; /* "exchanges only at paired logins" */
+        }
+        for (size_t k = 0; k < j; k++) { /* "OX_IDs distinct within a login" */
+            if (l->places[k].kind != 0 && l->places[k].ox_id == e->ox_id) {
+                return false;
+            }
+        }
+    }
+    return true;
+}
+
+/* "login addresses valid, .. not ours; stored parameters pass the PLOGI rules"; flags are 0 or 1, the attention none, 29h or 2Fh */
+static bool login_fits(const struct jhartupal_login *l, uint32_t own) {
+    bool flags = l->proven <= 1 && l->paired <= 1 && (l->attention == 0 || l->attention == 0x29 || l->attention == 0x2F);
+    return flags && valid_address(l->address) && l->address != own && named(l->port) && named(l->node) && size_fits(l->size) && l->concurrent != 0
+        && l->sequences != 0;
+}
+
+bool well_formed(const struct jhartupal_drive *d) {
+    const struct jhartupal_port *p = &d->port;
+    if (d->unit.capacity < 1 || d->unit.capacity > 4294967295 || !valid_address(p->address) || !words_pass(p->accept)) {
+        return false; /* "setup rules hold" */
+    }
+    for (size_t i = 0; i < 8; i++) {
+        const struct jhartupal_login *l = &p->logins[i];
+        if (l->used > 1 || (l->used == 1 && !login_fits(l, p->address)) || !places_fit(l, d->unit.capacity)) {
+            return false;
+        }
+        for (size_t k = 0; k < i; k++) { /* "distinct" */
+            if (l->used == 1 && p->logins[k].used == 1 && p->logins[k].address == l->address) {
+                return false;
+            }
+        }
+    }
+    return true;
+}

@@ -1,0 +1,193 @@
+/* Counts the checks, and makes every call with what is lent standing just before memory that nobody may touch, and guards before it. */
+#include "check.h"
+
+#include <stdarg.h>
+
+/* libc's, with Linux's numbers */
+int vdprintf(int file, const char *format, va_list values);
+void *mmap(void *at, size_t n, int protection, int flags, int file, long offset);
+int mprotect(void *at, size_t n, int protection);
+void exit(int status);
+enum { NO_ACCESS = 0, READ_WRITE = 3, PRIVATE_MEMORY = 0x22, PAGE = 65536 };
+
+static unsigned passed, failed;
+
+/* At once, so that it is seen also where a later call crashes. */
+void say(const char *format, ...) {
+    va_list values;
+    va_start(values, format);
+    vdprintf(1, format, values);
+    va_end(values);
+}
+
+static void fail(const char *format, va_list values) {
+    failed++;
+    if (failed <= 100) { /* the rest would say the same */
+        say("FAILED: ");
+        vdprintf(1, format, values);
+        say("\n");
+    }
+}
+
+void check(bool holds, const char *format, ...) {
+    va_list values;
+    va_start(values, format);
+    if (holds) {
+        passed++;
+    } else {
+        fail(format, values);
+    }
+    va_end(values);
+}
+
+void promise(bool holds, const char *format, ...) {
+    va_list values;
+    va_start(values, format);
+    if (!holds) {
+        fail(format, values);
+    }
+    va_end(values);
+}
+
+unsigned failures(void) {
+    return failed;
+}
+
+int close_checks(void) {
+    say("%u passed, %u failed\n", passed, failed);
+    return failed == 0 && passed > 0 ? 0 : 1;
+}
+
+/* The bytes of a state that are of a field, and not padding. */
+static uint8_t fields[sizeof(struct jhartupal_drive)];
+
+void mark(size_t offset, size_t width) {
+    memset(fields + offset, 0xFF, width);
+}
+
+size_t marked(void) {
+    size_t n = 0;
+    for (size_t i = 0; i < sizeof fields; i++) {
+        n += fields[i] & 1;
+    }
+    return n;
+}
+
+bool same(const struct jhartupal_drive *one, const struct jhartupal_drive *other) {
+    const uint8_t *a = (const uint8_t *)one, *b = (const uint8_t *)other;
+    uint8_t differ = 0;
+    for (size_t i = 0; i < sizeof fields; i++) {
+        differ |= (uint8_t)((a[i] ^ b[i]) & fields[i]);
+    }
+    return differ == 0;
+}
+
+/* Each ends where memory begins that nobody may touch. */
+enum { GUARD = 64, GUARD_BYTE = 0xC3, SMALL = PAGE, LARGE = 2 * PAGE };
+static uint8_t *drive_end, *in_end, *words_end, *reply_end;
+static uint8_t pattern[MOST_ROOM], guards[GUARD];
+const uint8_t *reply;
+
+static uint8_t *area(size_t n) {
+    uint8_t *at = mmap(0, n + PAGE, READ_WRITE, PRIVATE_MEMORY, -1, 0);
+    if (mprotect(at + n, PAGE, NO_ACCESS) != 0) {
+        say("FAILED: no memory\n");
+        exit(1);
+    }
+    return at + n;
+}
+
+void lend_start(void) {
+    drive_end = area(SMALL);
+    in_end = area(LARGE);
+    words_end = area(SMALL);
+    reply_end = area(SMALL);
+    memset(guards, GUARD_BYTE, sizeof guards);
+    for (size_t i = 0; i < sizeof pattern; i++) {
+        pattern[i] = (uint8_t)(i * 37 + 11);
+    }
+}
+
+static uint8_t *lend(uint8_t *end, const void *bytes, size_t n) {
+    memcpy(end - n - GUARD, guards, GUARD);
+    memcpy(end - n, bytes, n);
+    return end - n;
+}
+
+static bool guarded(const uint8_t *end, size_t n) {
+    return memcmp(end - n - GUARD, guards, GUARD) == 0;
+}
+
+static bool untouched(const uint8_t *end, const void *bytes, size_t n) {
+    return guarded(end, n) && memcmp(end - n, bytes, n) == 0;
+}
+
+static struct jhartupal_drive *lend_drive(const struct jhartupal_drive *d) {
+    return (struct jhartupal_drive *)(void *)lend(drive_end, d, sizeof *d);
+}
+
+/* A call: the refusals that it can have, as bits, the least and the most bytes of its reply, and whether it is lent a reply buffer. */
+struct call {
+    const char *name;
+    unsigned refusals;
+    size_t least, most;
+    bool writes;
+};
+enum { ONE = 1 << 1, TWO = 1 << 2, SEVEN = 1 << 7, EIGHT = 1 << 8, NINE = 1 << 9, TEN = 1 << 10, ONE_TO_SEVEN = 0xFE };
+static const struct call make_call = {"drive_make", EIGHT, 0, 0, false};
+static const struct call frame_call = {"drive_frame", ONE_TO_SEVEN, 0, 24 + 116, true};
+static const struct call next_call = {"drive_next", ONE | TWO | NINE | SEVEN | TEN, 28, 24 + JHARTUPAL_MOST_DATA, true};
+static const struct call event_calls[] = {
+    {"drive_loop_reset", TWO, 0, 0, false}, {"drive_time_over", TWO, 0, 0, false}, {"drive_power_on", TWO, 0, 0, false}};
+
+static void buffer_kept(const struct call *c, unsigned long long said, size_t n, size_t room) {
+    promise(guarded(reply_end, room), "%s: wrote before the reply buffer", c->name);
+    promise(n <= room && memcmp(reply_end - room + n, pattern + n, room - n) == 0, "%s: answers %llu and wrote after its reply", c->name, said);
+    reply = reply_end - room;
+}
+
+/* What is promised of every call: its answer, and the state and the reply buffer after it. */
+static uint64_t told(const struct call *c, unsigned long long said, struct jhartupal_drive *d, size_t room) {
+    const struct jhartupal_drive *after = (const struct jhartupal_drive *)(const void *)(drive_end - sizeof *d);
+    bool refused = said >= JHARTUPAL_REFUSED;
+    size_t n = refused ? 0 : (size_t)said;
+    if (refused) {
+        promise(said <= JHARTUPAL_REFUSED + 10 && (c->refusals >> (said - JHARTUPAL_REFUSED) & 1) == 1, "%s: answers %llu", c->name, said);
+        promise(same(after, d), "%s: answers %llu and the state is changed", c->name, said);
+    } else {
+        promise((n == 0 || n >= 28) && c->least <= n && n <= c->most && n % 4 == 0, "%s: answers %llu", c->name, said);
+    }
+    promise(guarded(drive_end, sizeof *d), "%s: wrote before the state", c->name);
+    if (c->writes) {
+        buffer_kept(c, said, n, room);
+    }
+    memcpy(d, after, sizeof *d);
+    return said;
+}
+
+uint64_t make(struct jhartupal_drive *d, uint64_t capacity, uint32_t address, const uint8_t *id, size_t n, const uint8_t *words, size_t m) {
+    struct jhartupal_drive *lent = lend_drive(d);
+    uint64_t said = drive_make(lent, capacity, address, lend(in_end, id, n), n, lend(words_end, words, m), m);
+    promise(untouched(in_end, id, n) && untouched(words_end, words, m), "drive_make: identity or accept words are changed");
+    return told(&make_call, said, d, 0);
+}
+
+uint64_t frame_in(struct jhartupal_drive *d, const uint8_t *bytes, size_t n, size_t room) {
+    struct jhartupal_drive *lent = lend_drive(d);
+    uint64_t said = drive_frame(lent, lend(in_end, bytes, n), n, lend(reply_end, pattern, room), room);
+    promise(untouched(in_end, bytes, n), "drive_frame: the frame is changed");
+    return told(&frame_call, said, d, room);
+}
+
+uint64_t next_out(struct jhartupal_drive *d, uint32_t address, uint16_t ox_id, uint64_t start, const uint8_t *bytes, size_t n, size_t room) {
+    struct jhartupal_drive *lent = lend_drive(d);
+    uint64_t said = drive_next(lent, address, ox_id, start, lend(in_end, bytes, n), n, lend(reply_end, pattern, room), room);
+    promise(untouched(in_end, bytes, n), "drive_next: the window is changed");
+    return told(&next_call, said, d, room);
+}
+
+uint64_t event(struct jhartupal_drive *d, int number) {
+    struct jhartupal_drive *lent = lend_drive(d);
+    uint64_t said = number == LOOP_RESET ? drive_loop_reset(lent) : number == TIME_OVER ? drive_time_over(lent) : drive_power_on(lent);
+    return told(&event_calls[number], said, d, 0);
+}

@@ -1,0 +1,53 @@
+/* README's example, example.c, as it stands there: linked here with a port chip and a store, and made to read across block 8,388,608. */
+#include "check.h"
+
+void chip_send(const uint8_t *frame, size_t n);
+void store_read(uint64_t block, uint8_t *bytes, size_t n);
+int power_up(uint64_t blocks, const uint8_t *identity_bytes, const uint8_t *accept);
+void frame_arrived(const uint8_t *frame, size_t n);
+void may_send(size_t login, size_t place);
+
+static struct frame seen;
+static unsigned frames_sent;
+
+void chip_send(const uint8_t *frame, size_t n) {
+    seen.n = n;
+    memcpy(seen.b, frame, n);
+    frames_sent++;
+}
+
+void store_read(uint64_t block, uint8_t *bytes, size_t n) {
+    memcpy(bytes, unit_bytes(block, n), n);
+}
+
+/* This many frames were sent so far, and this is the last. */
+static void shows(const char *what, unsigned frames, const struct frame *last) {
+    check(frames_sent == frames && seen.n == last->n && memcmp(seen.b, last->b, last->n) == 0, "example: %s, %u frames sent and not %u", what, frames_sent, frames);
+}
+
+static void arrives(struct frame f) {
+    frame_arrived(f.b, f.n);
+}
+
+void example(void) {
+    struct frame f = plogi(0x04, 300), g = reading(0x04, 0x0D01, 8388606, 4, 2048), wanted = login_acc(&f);
+    check(power_up(8388610, identity, accept_words()) == 1, "example: a drive");
+    arrives(f);
+    shows("login", 1, &wanted);
+    arrives(prli(0x04));
+    arrives(test_unit(0x04));
+    arrives(g);
+    for (uint32_t i = 0; i < 7; i++) {
+        uint32_t offset = 300 * i, n = i < 6 ? 300 : 248;
+        wanted = data(&g, (uint16_t)i, offset, unit_bytes(8388606, 2048) + offset, n, i == 6);
+        may_send(0, 0);
+        shows("data", 4 + i, &wanted);
+    }
+    wanted = response(&g, 0, 0);
+    may_send(0, 0);
+    shows("FCP_RSP", 11, &wanted);
+    may_send(0, 0); /* the place is free, and nothing is sent */
+    arrives(answer_frame(0x03));
+    shows("nothing to send, and refused", 11, &wanted);
+    check(power_up(0, identity, accept_words()) == 0, "example: no drive of no blocks");
+}
