@@ -1,5 +1,5 @@
 # make: prove and build everything, judge the sample logins, and show the sample session. make test: the gate.
-.PHONY: all test fmt wrong soak mutants
+.PHONY: all test fmt wrong soak mutants bench
 
 all:
 	rt check
@@ -26,3 +26,7 @@ soak:
 # one-place mutants of the model, each to be told apart by the histories
 mutants:
 	tests/mutants
+
+# every kind of call timed beside the model and memcpy, in one table: bench/README.md
+bench:
+	bench/run
