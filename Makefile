@@ -1,5 +1,5 @@
 # make: prove and build everything, judge the sample logins, and show the sample session. make test: the gate.
-.PHONY: all test fmt wrong soak mutants peers
+.PHONY: all test fmt wrong soak mutants peers bench
 
 all:
 	rt check
@@ -31,3 +31,7 @@ mutants:
 peers:
 	rt check recorder vectors
 	tests/peers/run
+
+# every kind of call timed beside the model and memcpy, in one table: bench/README.md
+bench:
+	bench/run
