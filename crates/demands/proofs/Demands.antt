@@ -43,6 +43,13 @@ pub one-next : (d : Drive) (a x start : ℕ) (W l : List ℕ) (r s : Answer) (m 
     → r ≡ nextFrame d a x start W (length l) → s ≡ nextFrame d a x start W (length l) → m ≡ nextFrameBuffer d a x start W l → n ≡ nextFrameBuffer d a x start W l → (r ≡ s) × (m ≡ n)
 one-next d a x start W l r s m n b c e g = (b ∙ sym c, e ∙ sym g)
 
+-- The same of an event and of making a drive, which are lent no buffer.
+pub one-event : (d : Drive) (e : Event) (r s : Answer) → r ≡ eventAnswer d e → s ≡ eventAnswer d e → r ≡ s
+one-event d e r s a b = a ∙ sym b
+
+pub one-new : (s : Setup) (r t : Answer) → r ≡ newAnswer s → t ≡ newAnswer s → r ≡ t
+one-new s r t a b = a ∙ sym b
+
 -- Refusals of a frame in: a number is given exactly when it is the first of 1 to 7 that applies, with the drive unchanged and no byte of the buffer changed.
 pub frame-given : (d : Drive) (f l : List ℕ) (x : Refusal) → frameIn d f (length l) .said ≡ Refused x → First (d .unit) (d .port) (headerOf f) f (length l) x
 frame-given = frame-first
