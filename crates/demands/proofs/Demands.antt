@@ -13,6 +13,9 @@ use Rattle.frame.specs.Head.{Fits, headerOf, headerBytes}
 use Rattle.frame.proofs.Trips.{write-read, read-write}
 use Rattle.state.specs.declared.Setup.{Setup}
 use Rattle.formed.specs.Formed.{setupRules, wellFormed}
+use Rattle.reply.specs.declared.Reply.the-variants.{Reject}
+use Rattle.link.specs.Link.{linkOf}
+use Rattle.link.proofs.Exactly.{ended}
 use Rattle.arrival.specs.declared.Refusal.{Refusal}
 use Rattle.arrival.specs.declared.Refusal.the-variants.{IllFormed, BadSetup}
 use Rattle.arrival.proofs.Exactly.{First}
@@ -26,6 +29,7 @@ use Rattle.drive.proofs.Made.{new-refused, new-made, event-refused, event-answe
 use Rattle.drive.proofs.Keeping.{fine}
 use Rattle.demands.proofs.Reach.{Driven, driven-fine}
 use Rattle.demands.proofs.Refusals.{frame-first, frame-refuses, FirstOut, next-first, next-refuses, next-unchanged}
+use Rattle.demands.proofs.Login.{LoginIn, rejected-ends, rejected-keeps}
 use Rattle.state.specs.declared.Standing.the-variants.{Open}
 use Rattle.state.specs.Changes.{loginAt}
 use Rattle.state.specs.Tables.{lookupOf}
@@ -95,6 +99,14 @@ header-bytes = write-read
 
 pub header-fields : (h : Header) (rest : List ℕ) → Fits h → headerOf (headerBytes h ++ rest) ≡ h
 header-fields = read-write
+
+-- A port login that is not refused but rejected, with whatever reason: of right size it has ended the sender's login and exchanges all the same, of wrong size the drive is as it was.
+pub login-ends : (d : Drive) (f l : List ℕ) (r x : ℕ) → LoginIn d f l → linkOf (d .port) (headerOf f) f .reply ≡ Reject r x → length f ≡ 140
+    → frameIn d f (length l) .drive ≡ record { unit = d .unit; port = ended (d .port) (headerOf f) }
+login-ends d f l r x p = rejected-ends d f l p r x
+
+pub login-keeps : (d : Drive) (f l : List ℕ) (r x : ℕ) → LoginIn d f l → linkOf (d .port) (headerOf f) f .reply ≡ Reject r x → (length f ≡ 140 → ⊥) → frameIn d f (length l) .drive ≡ d
+login-keeps d f l r x p = rejected-keeps d f l p r x
 
 -- A whole READ, read off the lent buffers: the unit's bytes from its first block on, to the smaller of wanted and FCP_DL, each once and in order, each frame at its OFFSET
 -- with its number modulo 65,536 as SEQ_CNT, then FCP_RSP with status 00h and the residual, and the place freed. Whatever windows are cut from the unit, and whatever the buffers hold.

@@ -3,6 +3,7 @@ use mathlib.Core.Path.{_≡_, refl, sym, ap, _∙_}
 use mathlib.Core.List.{List}
 use Prim.Native.Nat.{ℕ}
 use lib.ListN.{length, getD}
+use borrow.Author.Tests.{eq-eqb, ne-eqb}
 use Rattle.wire.specs.Bytes.{onto}
 use Rattle.frame.specs.Head.{headerOf}
 use Rattle.params.specs.Words.{paramsOf}
@@ -11,11 +12,12 @@ use Rattle.reply.specs.declared.Reply.{Reply}
 use Rattle.reply.specs.declared.Reply.the-variants as reply
 use Rattle.reply.specs.declared.Accepted.the-variants as accepted
 use Rattle.link.specs.Link.{decidedAs, newLogin, linkOf}
-use Rattle.link.proofs.Exactly.{ended, Accepts, Rejects, accepts, accepts-only, rejects, rejects-only}
+use Rattle.link.proofs.Exactly.{ended, leftBy, Accepts, Rejects, accepts, accepts-only, rejects, rejects-only}
 use Rattle.arrival.specs.declared.Kind.the-variants.{Link}
 use Rattle.arrival.specs.declared.Judged.the-variants.{Passed}
 use Rattle.arrival.specs.Arrival.{judgedOf}
 use Rattle.drive.specs.declared.Drive.{Drive}
+use Rattle.drive.specs.declared.Answer.{Answer}
 use Rattle.drive.specs.Entry.{answered, replyBytes, frameIn, frameInBuffer}
 
 -- a PLOGI that is not refused
@@ -37,9 +39,22 @@ module _ (d : Drive) (f l : List ℕ) (p : LoginIn d f l) where
   pub login-accepts-only : linkOf (d .port) (headerOf f) f .reply ≡ reply.Accept accepted.Login → Accepts (d .port) (headerOf f) f
   login-accepts-only = accepts-only (d .port) (headerOf f) f (p .plogi)
 
-  -- rejected with this reason: exactly where its size is wrong, a word test fails and none before it, or no place is free
-  pub login-rejects : (r x : ℕ) → Rejects (d .port) (headerOf f) f r x → linkOf (d .port) (headerOf f) f .reply ≡ reply.Reject r x
+  -- rejected with this reason: exactly where its size is wrong, a word test fails and none before it, or no place is free; of right size the sender's login has ended all the same
+  pub login-rejects : (r x : ℕ) → Rejects (d .port) (headerOf f) f r x → linkOf (d .port) (headerOf f) f ≡ decidedAs (reply.Reject r x) (leftBy (d .port) (headerOf f) f)
   login-rejects = rejects (d .port) (headerOf f) f (p .plogi)
 
   pub login-rejects-only : (r x : ℕ) → linkOf (d .port) (headerOf f) f .reply ≡ reply.Reject r x → Rejects (d .port) (headerOf f) f r x
   login-rejects-only = rejects-only (d .port) (headerOf f) f (p .plogi)
+
+  -- rejected, with whatever reason: the drive after it
+  rejected-drive : (r x : ℕ) → linkOf (d .port) (headerOf f) f .reply ≡ reply.Reject r x → frameIn d f (length l) .drive ≡ record { unit = d .unit; port = leftBy (d .port) (headerOf f) f }
+  rejected-drive r x e = ap (λ (a : Answer). a .drive) (login-answered .0 ∙ ap (answered d (headerOf f)) (login-rejects r x (login-rejects-only r x e)))
+
+  -- of right size, the drive with the sender's login ended
+  pub rejected-ends : (r x : ℕ) → linkOf (d .port) (headerOf f) f .reply ≡ reply.Reject r x → length f ≡ 140
+      → frameIn d f (length l) .drive ≡ record { unit = d .unit; port = ended (d .port) (headerOf f) }
+  rejected-ends r x e size = rejected-drive r x e ∙ rw (eq-eqb (length f) 140 size)
+
+  -- of wrong size, the drive as it was
+  pub rejected-keeps : (r x : ℕ) → linkOf (d .port) (headerOf f) f .reply ≡ reply.Reject r x → (length f ≡ 140 → ⊥) → frameIn d f (length l) .drive ≡ d
+  rejected-keeps r x e size = rejected-drive r x e ∙ rw (ne-eqb (length f) 140 size)

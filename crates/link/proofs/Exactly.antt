@@ -1,7 +1,7 @@
 -- A port login is accepted exactly when its size is right, every word test passes and a place is free once the sender's own login has ended;
--- else it is rejected, with the stated reason. Both directions, for every frame with PLOGI's code. Assumes nothing.
+-- else it is rejected, with the stated reason, and of right size the sender's login has ended all the same. Both directions, for every frame with PLOGI's code. Assumes nothing.
 use mathlib.Core.Path.{_≡_, refl, sym, ap, _∙_, subst}
-use mathlib.Core.Bool.{Bool, true, false}
+use mathlib.Core.Bool.{Bool, true, false, cond}
 use mathlib.Core.List.{List}
 use Prim.Native.Nat.{ℕ, _<_}
 use native.Mathlib.Omega.{arith}
@@ -31,6 +31,10 @@ use Rattle.link.specs.Link.{decidedAs, sizeOf, outcomeOf, newLogin, plog
 abbrev pub ended : Port → Header → Port
 ended p h = changedAll (EndLogin (h .«s_id»)) p
 
+-- the table after a rejected PLOGI: "Of right size, it ends the sender's login and exchanges first, accepted or not"; of wrong size it changes nothing
+abbrev pub leftBy : Port → Header → List ℕ → Port
+leftBy p h f = cond (eqb (length f) 140) (ended p h) p
+
 -- what an accepted PLOGI has
 pub record Accepts (p : Port) (h : Header) (f : List ℕ) : Type 0 where
   pub size : length f ≡ 140
@@ -55,23 +59,23 @@ module _ (p : Port) (h : Header) (f : List ℕ) (plogi : getD f 24 0 ≡ 3) wher
   unfolding plogiOf outcomeOf
   accepts a = sized (a .size) ∙ rw (accepts-then (paramsOf f 28) (a .tests), a .free)
 
-  of-wrong : (length f ≡ 140 → ⊥) → linkOf p h f ≡ decidedAs (reply.Reject 0x03 0x00) p
+  of-wrong : (length f ≡ 140 → ⊥) → linkOf p h f ≡ decidedAs (reply.Reject 0x03 0x00) (leftBy p h f)
   unfolding linkOf sizeOf
   of-wrong n = rw (plogi, ne-eqb (length f) 140 n)
 
-  of-test : length f ≡ 140 → (t : Fault) → verdictOf (paramsOf f 28) ≡ verdict.Reject t → linkOf p h f ≡ decidedAs (reply.Reject (reasonOf t .reason) (reasonOf t .explanation)) (ended p h)
+  of-test : length f ≡ 140 → (t : Fault) → verdictOf (paramsOf f 28) ≡ verdict.Reject t → linkOf p h f ≡ decidedAs (reply.Reject (reasonOf t .reason) (reasonOf t .explanation)) (leftBy p h f)
   unfolding plogiOf outcomeOf
-  of-test e t v = sized e ∙ rw v
+  of-test e t v = sized e ∙ rw (v, eq-eqb (length f) 140 e)
 
-  of-full : length f ≡ 140 → verdictOf (paramsOf f 28) ≡ verdict.Accept → freeLogin (ended p h) ≡ Nothing → linkOf p h f ≡ decidedAs (reply.Reject 0x09 0x29) (ended p h)
+  of-full : length f ≡ 140 → verdictOf (paramsOf f 28) ≡ verdict.Accept → freeLogin (ended p h) ≡ Nothing → linkOf p h f ≡ decidedAs (reply.Reject 0x09 0x29) (leftBy p h f)
   unfolding plogiOf outcomeOf
-  of-full e v n = sized e ∙ rw (v, n)
+  of-full e v n = sized e ∙ rw (v, n, eq-eqb (length f) 140 e)
 
-  -- rejected, with this reason
-  pub rejects : (r x : ℕ) → Rejects p h f r x → linkOf p h f .reply ≡ reply.Reject r x
-  rejects r x (wrong-size n) = ap (λ (d : Decided). d .reply) (of-wrong n)
-  rejects r x (test-fails e t b none) = ap (λ (d : Decided). d .reply) (of-test e t (rejects-then (paramsOf f 28) t b none))
-  rejects r x (no-place e t n) = ap (λ (d : Decided). d .reply) (of-full e (accepts-then (paramsOf f 28) t) n)
+  -- rejected, with this reason, and the sender's login ended where the size is right
+  pub rejects : (r x : ℕ) → Rejects p h f r x → linkOf p h f ≡ decidedAs (reply.Reject r x) (leftBy p h f)
+  rejects r x (wrong-size n) = of-wrong n
+  rejects r x (test-fails e t b none) = of-test e t (rejects-then (paramsOf f 28) t b none)
+  rejects r x (no-place e t n) = of-full e (accepts-then (paramsOf f 28) t) n
 
   -- there is no third answer
   data Answered : Reply → Type 0 where
@@ -87,19 +91,19 @@ module _ (p : Port) (h : Header) (f : List ℕ) (plogi : getD f 24 0 ≡ 3) wher
           subst Answered (sym (ap (λ (d : Decided). d .reply) (accepts a))) (yes a)
       by-room e v Nothing n =
           let a : Rejects p h f 0x09 0x29 = no-place e (accepted (paramsOf f 28) v) n in
-          subst Answered (sym (rejects 0x09 0x29 a)) (no 0x09 0x29 a)
+          subst Answered (sym (ap (λ (d : Decided). d .reply) (rejects 0x09 0x29 a))) (no 0x09 0x29 a)
 
       by-test : length f ≡ 140 → (v : Verdict) → verdictOf (paramsOf f 28) ≡ v → Answered (linkOf p h f .reply)
       by-test e verdict.Accept v = by-room e v (freeLogin (ended p h)) refl
       by-test e (verdict.Reject t) v =
           let a : Rejects p h f (reasonOf t .reason) (reasonOf t .explanation) = test-fails e t (rejected (paramsOf f 28) t v) (rejected-first (paramsOf f 28) t v) in
-          subst Answered (sym (rejects _ _ a)) (no _ _ a)
+          subst Answered (sym (ap (λ (d : Decided). d .reply) (rejects _ _ a))) (no _ _ a)
 
       by-size : (b : Bool) → eqb (length f) 140 ≡ b → Answered (linkOf p h f .reply)
       by-size true e = by-test (eqb-true (length f) 140 e) (verdictOf (paramsOf f 28)) refl
       by-size false e =
           let a : Rejects p h f 0x03 0x00 = wrong-size (eqb-false (length f) 140 e) in
-          subst Answered (sym (rejects 0x03 0x00 a)) (no 0x03 0x00 a)
+          subst Answered (sym (ap (λ (d : Decided). d .reply) (rejects 0x03 0x00 a))) (no 0x03 0x00 a)
 
   -- accepted only so
   pub accepts-only : linkOf p h f .reply ≡ reply.Accept accepted.Login → Accepts p h f
