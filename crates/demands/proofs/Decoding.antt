@@ -140,11 +140,11 @@ module _ (u : Unit) (p : Port) (a x i j k : ℕ) (W : List ℕ) where
       let n = ap length t ∙ length-take (min (f .size) 2048) source in
       omega arith
 
-  -- no next frame is longer than 2,075 bytes
-  pub few-bytes : length (frameBytes u p a x i j k W) ≤ 2075
+  -- no next frame is longer than 2,072 bytes: the header, and 2,048 of data
+  pub few-bytes : length (frameBytes u p a x i j k W) ≤ 2072
   few-bytes = by (hasMore (exchangeOf p i j)) refl
     where
-      by : (b : Bool) → hasMore (exchangeOf p i j) ≡ b → length (frameBytes u p a x i j k W) ≤ 2075
+      by : (b : Bool) → hasMore (exchangeOf p i j) ≡ b → length (frameBytes u p a x i j k W) ≤ 2072
       by true h =
           let e = more-reply h in
           let n = ap length (data-bytes _ e) ∙ framed-long (data-head _) reply-payload in

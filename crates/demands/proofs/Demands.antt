@@ -3,7 +3,8 @@
 use mathlib.Core.Path.{_≡_, refl, sym, _∙_}
 use mathlib.Core.Bool.{Bool, true, false}
 use mathlib.Core.List.{List, _++_}
-use Prim.Native.Nat.{ℕ, _*_, _≤_}
+use Prim.Native.Nat.{ℕ, _*_, _%_, _≤_, _<_}
+use native.Mathlib.Omega.{arith}
 use lib.ListN.{length, take}
 use borrow.Author.Tests.{not-true}
 use Rattle.tables.proofs.Bools.{apart}
@@ -29,6 +30,7 @@ use Rattle.drive.proofs.Made.{new-refused, new-made, event-refused, event-answe
 use Rattle.drive.proofs.Keeping.{fine}
 use Rattle.demands.proofs.Reach.{Driven, driven-fine}
 use Rattle.demands.proofs.Refusals.{frame-first, frame-refuses, FirstOut, next-first, next-refuses, next-unchanged}
+use Rattle.demands.proofs.Lengths.{frame-long, next-long}
 use Rattle.demands.proofs.Login.{LoginIn, rejected-ends, rejected-keeps}
 use Rattle.state.specs.declared.Standing.the-variants.{Open}
 use Rattle.state.specs.Changes.{loginAt}
@@ -92,6 +94,21 @@ next-never-2 {d} r a x start W l e = apart (driven-fine r) (not-true (fine d) (n
 
 pub event-never-2 : {d : Drive} → Driven d → (e : Event) → eventAnswer d e ≡ silent (afterEvent e d)
 event-never-2 {d} r e = event-answered d e (driven-fine r)
+
+-- The length of what is sent: of a reply to a frame in at most 140 bytes (PLOGI's ACC), of a next frame from 24 to 2,072, never 0; a multiple of 4 always.
+-- The accept words are a list here; in the code they are an array of 112 bytes, so every drive there has that many.
+pub frame-length : (d : Drive) (f l : List ℕ) (n : ℕ) → length (d .port .accept) ≡ 112 → frameIn d f (length l) .said ≡ Sent n → (n ≤ 140) × (n % 4 ≡ 0)
+frame-length = frame-long
+
+pub next-length : (d : Drive) (a x start : ℕ) (W l : List ℕ) (n : ℕ) → nextFrame d a x start W (length l) .said ≡ Sent n → (24 ≤ n) × (n ≤ 2072) × (n % 4 ≡ 0)
+next-length = next-long
+
+-- So a length is below 65,536, from where on the C boundary tells refusals.
+pub frame-below : (d : Drive) (f l : List ℕ) (n : ℕ) → length (d .port .accept) ≡ 112 → frameIn d f (length l) .said ≡ Sent n → n < 65536
+frame-below d f l n words e = let m = frame-long d f l n words e .0 in omega arith
+
+pub next-below : (d : Drive) (a x start : ℕ) (W l : List ℕ) (n : ℕ) → nextFrame d a x start W (length l) .said ≡ Sent n → n < 65536
+next-below d a x start W l n e = let m = next-long d a x start W l n e .1 in omega arith
 
 -- Header round trip: writing the fields that were read gives the bytes back, and reading those that were written gives the fields.
 pub header-bytes : (f : List ℕ) → AllBytes f → 24 ≤ length f → headerBytes (headerOf f) ≡ take 24 f

@@ -5,5 +5,6 @@ pub mod Judges
 pub mod Numbers
 pub mod Decoding
 pub mod Calls
+pub mod Lengths
 pub mod Reading
 pub mod Demands

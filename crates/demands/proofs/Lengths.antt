@@ -1,0 +1,126 @@
+-- How long what is sent is: a multiple of 4, at most 140 bytes for a frame in, and from 24 to 2,072 for a next frame. Assumes nothing.
+use mathlib.Core.Path.{_≡_, refl}
+use mathlib.Core.Bool.{Bool, true, false, cond}
+use mathlib.Core.List.{List, [], _++_}
+use Prim.Native.Nat.{ℕ, _+_, _%_, _≤_, min}
+use native.Mathlib.Omega.{arith}
+use lib.ListN.{length, length-append, length-take}
+use Rattle.wire.specs.Bytes.{fillCount}
+use Rattle.frame.specs.declared.Header.{Header}
+use Rattle.frame.specs.Head.{headerOf, headerBytes}
+use Rattle.state.specs.declared.Exchange.{Exchange}
+use Rattle.reply.specs.declared.Own.{Own}
+use Rattle.reply.specs.declared.Accepted.{Accepted}
+use Rattle.reply.specs.declared.Accepted.the-variants as accepted
+use Rattle.reply.specs.declared.Response.{Response}
+use Rattle.reply.specs.declared.Response.the-variants as response
+use Rattle.reply.specs.declared.Reply.{Reply}
+use Rattle.reply.specs.declared.Reply.the-variants as reply
+use Rattle.reply.specs.Payload.{shortBytes, loginBytes, addressBytes, pairBytes, unpairBytes, acceptedBytes, rejectBytes, logoutBytes, abortAcceptBytes, abortRejectBytes, statusBytes, codeBytes, senseBytes, responseBytes, payloadOf}
+use Rattle.reply.specs.Reply.{headOf, filled, silent, bytesOf}
+use Rattle.serve.specs.Next.{hasMore, nextReply, ownOf, askedBy, exchangeOf, fullOf, sourceOf, frameBytes}
+use Rattle.arrival.specs.declared.Judged.{Judged}
+use Rattle.arrival.specs.declared.Judged.the-variants as judged
+use Rattle.arrival.specs.Arrival.{judgedOf}
+use Rattle.drive.specs.declared.Drive.{Drive}
+use Rattle.drive.specs.declared.Said.the-variants.{Sent}
+use Rattle.drive.specs.Drive.{refused}
+use Rattle.drive.specs.Entry.{replyBytes, answered, onJudged, decidedIn, frameIn, nextFrame}
+use Rattle.demands.proofs.Decoding.{framed-long, few-bytes}
+use Rattle.demands.proofs.Calls.{gave}
+
+-- the payload of each reply but data has at most 116 bytes, where the accept words have their 112
+accepted-few : (own : ℕ) (words : List ℕ) (a : Accepted) → length words ≡ 112 → length (acceptedBytes own words a) ≤ 116
+unfolding shortBytes loginBytes addressBytes pairBytes unpairBytes
+accepted-few own words accepted.Short e = omega arith
+accepted-few own words accepted.Login e = let n = length-append shortBytes words in omega arith
+accepted-few own words accepted.Address e = omega arith
+accepted-few own words accepted.Pair e = omega arith
+accepted-few own words accepted.Unpair e = omega arith
+
+response-few : (x : Response) → length (responseBytes x) ≤ 116
+unfolding statusBytes codeBytes senseBytes
+response-few (response.Code c) = omega arith
+response-few (response.Status s r) = omega arith
+response-few (response.Check s r) = omega arith
+
+payload-few : (o : Own) (h : Header) (r : Reply) → length (o .accept) ≡ 112 → length (payloadOf o h r []) ≤ 116
+unfolding rejectBytes logoutBytes abortAcceptBytes abortRejectBytes
+payload-few o h reply.Nothing e = omega arith
+payload-few o h (reply.Accept a) e = accepted-few (o .address) (o .accept) a e
+payload-few o h (reply.Reject r x) e = omega arith
+payload-few o h reply.Logout e = omega arith
+payload-few o h reply.AbortAccept e = omega arith
+payload-few o h reply.AbortReject e = omega arith
+payload-few o h (reply.Respond x) e = response-few x
+payload-few o h (reply.Data d) e = let n = length-take {A = ℕ} (min (d .size) 2048) [] in omega arith
+
+-- every byte of a reply
+module _ (o : Own) (h : Header) (r : Reply) (source : List ℕ) where
+  abbrev whole : Bool → List ℕ
+  whole b = cond b [] (headerBytes (headOf h r (fillCount (length (payloadOf o h r source)))) ++ filled (payloadOf o h r source))
+
+  whole-long : length (whole false) ≡ 24 + length (payloadOf o h r source) + fillCount (length (payloadOf o h r source))
+  whole-long = framed-long (headOf h r (fillCount (length (payloadOf o h r source)))) (payloadOf o h r source)
+
+  bytes-four : length (bytesOf o h r source) % 4 ≡ 0
+  unfolding bytesOf
+  bytes-four = by (silent r)
+    where
+      by : (b : Bool) → length (whole b) % 4 ≡ 0
+      by true = refl
+      by false = let n = whole-long in omega arith
+
+  bytes-few : length (payloadOf o h r source) ≤ 116 → length (bytesOf o h r source) ≤ 140
+  unfolding bytesOf
+  bytes-few few = by (silent r)
+    where
+      by : (b : Bool) → length (whole b) ≤ 140
+      by true = omega arith
+      by false = let n = whole-long in omega arith
+
+  bytes-some : silent r ≡ false → 24 ≤ length (bytesOf o h r source)
+  unfolding bytesOf
+  bytes-some loud = let n = whole-long in rw loud (omega arith)
+
+same-length : (m n : ℕ) → Sent m ≡ Sent n → m ≡ n
+same-length m n e = cc
+
+-- a frame in
+pub frame-long : (d : Drive) (f l : List ℕ) (n : ℕ) → length (d .port .accept) ≡ 112 → frameIn d f (length l) .said ≡ Sent n → (n ≤ 140) × (n % 4 ≡ 0)
+unfolding frameIn replyBytes ownOf
+frame-long d f l n words e = by (judgedOf (d .unit) (d .port) (headerOf f) f (length l)) e
+  where
+    by : (j : Judged) → onJudged j (λ x. refused x d) (λ k. answered d (headerOf f) (decidedIn d f k)) .said ≡ Sent n → (n ≤ 140) × (n % 4 ≡ 0)
+    by (judged.Refused x) s = let z : _≡_ {A = ℕ} 0 1 = cc in absurd (omega arith)
+    by (judged.Passed k) s =
+        let o = ownOf (d .port) in
+        let r = decidedIn d f k .reply in
+        let is = same-length (length (bytesOf o (headerOf f) r [])) n s in
+        let few = bytes-few o (headerOf f) r [] (payload-few o (headerOf f) r words) in
+        let four = bytes-four o (headerOf f) r [] in
+        (omega arith, omega arith)
+
+-- a next frame: data or FCP_RSP, and so never nothing
+either-loud : (b : Bool) (r s : Reply) → silent r ≡ false → silent s ≡ false → silent (cond b r s) ≡ false
+either-loud true r s p q = p
+either-loud false r s p q = q
+
+next-loud : (full : ℕ) (e : Exchange) → silent (nextReply full e) ≡ false
+unfolding nextReply
+next-loud full e = either-loud (hasMore e) _ _ refl refl
+
+pub next-long : (d : Drive) (a x start : ℕ) (W l : List ℕ) (n : ℕ) → nextFrame d a x start W (length l) .said ≡ Sent n → (24 ≤ n) × (n ≤ 2072) × (n % 4 ≡ 0)
+unfolding frameBytes
+next-long d a x start W l n e =
+    let g = gave d a x start W l n e in
+    let p = d .port in
+    let o = ownOf p in
+    let h = askedBy (p .address) a x in
+    let r = nextReply (fullOf p (g .i)) (exchangeOf p (g .i) (g .j)) in
+    let source = sourceOf (d .unit) (exchangeOf p (g .i) (g .j)) (g .k) W in
+    let is = g .is in
+    let some = bytes-some o h r source (next-loud (fullOf p (g .i)) (exchangeOf p (g .i) (g .j))) in
+    let few = few-bytes (d .unit) p a x (g .i) (g .j) (g .k) W in
+    let four = bytes-four o h r source in
+    (omega arith, omega arith, omega arith)
