@@ -1,5 +1,5 @@
 # make: prove and build everything, judge the sample logins, and show the sample session. make test: the gate.
-.PHONY: all test fmt wrong soak mutants
+.PHONY: all test fmt wrong soak mutants peers bench
 
 all:
 	rt check
@@ -26,3 +26,12 @@ soak:
 # one-place mutants of the model, each to be told apart by the histories
 mutants:
 	tests/mutants
+
+# real software before the drive: Linux in QEMU, tshark, sg3-utils; it installs Debian packages, and is no part of the gate
+peers:
+	rt check recorder vectors
+	tests/peers/run
+
+# every kind of call timed beside the model and memcpy, in one table: bench/README.md
+bench:
+	bench/run

@@ -78,9 +78,10 @@ enum jhartupal_attention {
     JHARTUPAL_CLEARED = 0x2F /* 06/2F/00: another login cleared its exchanges */
 };
 
-/* The state, field by field: it may be read between calls, copied, kept and put back. Any bytes are a state: drive_make overwrites them, and
- * before it the other calls are refused with 2, as with every state that is not well formed. Padding (below, with its bytes) is the compiler's
- * own: it is no part of the state and is not kept, any call may change it, a refused one too. Compare states by their fields. */
+/* The state, field by field: it may be read between calls, copied, kept and put back. Any bytes are a state, and drive_make overwrites them;
+ * with a state that is not well formed, as zeros are not, the other calls are refused with 2, or with 1 before that. Padding (below, with its
+ * bytes) is the compiler's own: it is no part of the state and is not kept, any call may change it, a refused one too. Compare states by
+ * their fields. */
 
 /* A place for an open exchange. Where kind is 0 it is free, and nothing is asked of its other fields. */
 struct jhartupal_exchange {

@@ -97,9 +97,7 @@ impl Exchange {
 
     fn sent_fits(&self, full: u32) -> bool {
         let total = self.wanted.min(self.expected);
-        self.sent <= total
-            && (self.sent == total || self.sent % full == 0)
-            && self.count == self.sent.div_ceil(full) as u16
+        self.sent <= total && (self.sent == total || self.sent % full == 0) && self.count == self.sent.div_ceil(full) as u16
     }
 
     fn fine(&self, capacity: u64, full: u32, paired: bool) -> bool {
@@ -145,10 +143,7 @@ impl Login {
 }
 
 fn addresses_apart(logins: &[Login; 8]) -> bool {
-    logins
-        .iter()
-        .enumerate()
-        .all(|(i, l)| !l.is_used() || logins[i + 1..].iter().all(|m| !m.is_used() || l.address != m.address))
+    logins.iter().enumerate().all(|(i, l)| !l.is_used() || logins[i + 1..].iter().all(|m| !m.is_used() || l.address != m.address))
 }
 
 /// Whether the unit and a port are well formed.
