@@ -22,7 +22,6 @@ use state::exchange_at;
 use state::login_at;
 use state::lookup;
 use state::put_exchange;
-use state::put_login;
 use tables::Found;
 use wire::least;
 use wire::put_at;
@@ -37,7 +36,7 @@ ghost use Rattle.reply.specs.Payload.{senseBytes};
 ghost use Rattle.reply.specs.Reply.{sentOf, writtenOf};
 ghost use Rattle.formed.specs.Formed.{fullFrame, nextBytes};
 ghost use Rattle.serve.specs.Made.{inquiryFirst, inquiryBytes, capacityBytes, senseOf, madeBytes};
-ghost use Rattle.serve.specs.Next.{hasMore, readsMore, fitsAt, coverOf, placeOf, frameOf, nextReply, nextExchange, sourceOf, ownOf, askedBy, openStep, stepOf, nextOf, nextBuffer, movedOf};
+ghost use Rattle.serve.specs.Next.{hasMore, readsMore, fitsAt, coverOf, placeOf, frameOf, nextReply, nextExchange, sourceOf, ownOf, askedBy, openStep, stepOf, nextBuffer, movedOf};
 
 // What became of the call: the length of the frame, or why it was refused.
 pub enum Given {
@@ -106,26 +105,6 @@ pub fn next_login(
             }
         }
     }
-}
-
-// The same, and the port after it.
-pub fn next_frame(
-    u: Unit,
-    p: Port,
-    address: u32,
-    ox_id: u16,
-    start: u64,
-    window: &[u8],
-    reply: &mut [u8],
-) -> Next
-    ensures { λ r. ⌜ r ≡ nextOf u p address «ox_id» start (now (window .entry)) (length (now (reply .entry))) ⌝ }
-    ensures { λ _. ⌜ now (reply .exit) ≡ nextBuffer u p address «ox_id» start (now (window .entry)) (now (reply .entry)) ⌝ }
-{
-    let m = next_login(u, p, address, ox_id, start, window, reply);
-    let g = m.given;
-    let l = m.login;
-    let q = put_login(p, m.at, l);
-    Next { given: g, port: q }
 }
 
 // What a reply takes from the setup.
