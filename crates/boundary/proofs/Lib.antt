@@ -1,3 +1,5 @@
+mod Elements
 mod Events
 mod Laws
 mod Lent
+mod Logins

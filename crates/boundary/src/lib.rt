@@ -5,7 +5,7 @@ use drive::Drive;
 use drive::Event;
 use drive::Said;
 use state::Setup;
-use window::next_frame;
+use window::next_login;
 use wire::put_front;
 ghost use mathlib.Core.Path.{_≡_};
 ghost use lib.ListN.{length};
@@ -41,7 +41,7 @@ pub extern "C" fn drive_frame(d: &mut Drive, frame: &[u8], reply: &mut [u8]) -> 
     code(a.said)
 }
 
-// The next frame out of an exchange, from a window.
+// The next frame out of an exchange, from a window: the one login that it changes is stored through the reference.
 #[no_mangle]
 pub extern "C" fn drive_next(
     d: &mut Drive,
@@ -54,9 +54,9 @@ pub extern "C" fn drive_next(
     ensures { λ r. ⌜ Told (nextFrame (now (d .entry)) address «ox_id» start (now (window .entry)) (length (now (reply .entry)))) r (now (d .exit))
         × (now (reply .exit) ≡ nextFrameBuffer (now (d .entry)) address «ox_id» start (now (window .entry)) (now (reply .entry))) ⌝ }
 {
-    let a = next_frame(*d, address, ox_id, start, window, reply);
-    *d = a.drive;
-    code(a.said)
+    let t = next_login(*d, address, ox_id, start, window, reply);
+    d.port.logins[t.at] = t.login;
+    code(t.said)
 }
 
 // The loop was reset.

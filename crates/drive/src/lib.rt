@@ -15,19 +15,23 @@ use link::link;
 use reply::Reply;
 use reply::write;
 use serve::Given;
-use serve::next_frame;
+use serve::next_login;
 use serve::own_of;
 use state::Change;
+use state::Login;
 use state::Port;
 use state::Setup;
 use state::Unit;
 use state::change_all;
 use state::empty_login;
+use state::login_at;
 use state::power_on;
+use state::put_login;
 ghost use mathlib.Core.Path.{_≡_};
+ghost use Prim.Native.Nat.{_<_};
 ghost use lib.ListN.{length};
 ghost use Rattle.drive.specs.Drive.{refused, madeFrom, noDrive, newAnswer, eventAnswer};
-ghost use Rattle.drive.specs.Entry.{decidedOf, frameIn, frameInBuffer, saidOf, nextFrame, nextFrameBuffer};
+ghost use Rattle.drive.specs.Entry.{decidedOf, frameIn, frameInBuffer, saidOf, nextFrame, nextFrameBuffer, stays, nextTurn, answerTo};
 
 #[repr(C)]
 pub struct Drive {
@@ -44,6 +48,13 @@ pub enum Said {
 pub struct Answer {
     pub said: Said,
     pub drive: Drive,
+}
+
+// What a call answers that changes one login at most: its place, and what it is after it. After a refusal that login stays as it is.
+pub struct Turn {
+    pub said: Said,
+    pub at: usize,
+    pub login: Login,
 }
 
 // What the port chip reports.
@@ -107,21 +118,53 @@ impl Drive {
         ensures { λ r. ⌜ r ≡ nextFrame self address «ox_id» start (now (window .entry)) (length (now (reply .entry))) ⌝ }
         ensures { λ _. ⌜ now (reply .exit) ≡ nextFrameBuffer self address «ox_id» start (now (window .entry)) (now (reply .entry)) ⌝ }
     {
+        let t = self.next_login(address, ox_id, start, window, reply);
+        self.answer(t)
+    }
+
+    // The same, told by the one login that it changes.
+    pub fn next_login(
+        self,
+        address: u32,
+        ox_id: u16,
+        start: u64,
+        window: &[u8],
+        reply: &mut [u8],
+    ) -> Turn
+        ensures { λ r. ⌜ (r ≡ nextTurn self address «ox_id» start (now (window .entry)) (length (now (reply .entry)))) × (r .at < 8) ⌝ }
+        ensures { λ _. ⌜ now (reply .exit) ≡ nextFrameBuffer self address «ox_id» start (now (window .entry)) (now (reply .entry)) ⌝ }
+    {
         let u = self.unit;
         let p = self.port;
         if reply.len() < 2136 {
-            return refuse(Refusal::ShortBuffer, self);
+            return stay(Refusal::ShortBuffer, p);
         }
         if well_formed(u, p) {
-            let n = next_frame(u, p, address, ox_id, start, window, reply);
-            let g = n.given;
-            let q = n.port;
-            Answer {
+            let m = next_login(u, p, address, ox_id, start, window, reply);
+            let g = m.given;
+            let l = m.login;
+            Turn {
                 said: said_of(g),
-                drive: Drive { unit: u, port: q },
+                at: m.at,
+                login: l,
             }
         } else {
-            refuse(Refusal::IllFormed, self)
+            stay(Refusal::IllFormed, p)
+        }
+    }
+
+    // The answer of a turn: the drive with that login in its place.
+    pub fn answer(self, t: Turn) -> Answer
+        ensures { λ r. ⌜ r ≡ answerTo self t ⌝ }
+    {
+        let u = self.unit;
+        let p = self.port;
+        let s = t.said;
+        let l = t.login;
+        let q = put_login(p, t.at, l);
+        Answer {
+            said: s,
+            drive: Drive { unit: u, port: q },
         }
     }
 
@@ -154,6 +197,18 @@ fn refuse(x: Refusal, d: Drive) -> Answer
     Answer {
         said: Said::Refused(x),
         drive: d,
+    }
+}
+
+// A refusal, and a login that stays as it is.
+fn stay(x: Refusal, p: Port) -> Turn
+    ensures { λ r. ⌜ (r ≡ stays x p) × (r .at < 8) ⌝ }
+{
+    let l = login_at(p, 0);
+    Turn {
+        said: Said::Refused(x),
+        at: 0,
+        login: l,
     }
 }
 

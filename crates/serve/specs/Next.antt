@@ -26,6 +26,7 @@ use Rattle.reply.specs.declared.Reply.{Reply}
 use Rattle.reply.specs.declared.Reply.the-variants.{Respond, Data}
 use Rattle.reply.specs.Reply.{bytesOf}
 use Rattle.serve.specs.declared.Given.the-variants.{Sent, NoRoom, NoExchange, Unproven, WrongWindow}
+use Rattle.serve.specs.declared.Moved.{Moved}
 use Rattle.serve.specs.declared.Next.{Next}
 use Rattle.serve.specs.declared.Step.{Step}
 use Rattle.serve.specs.declared.Step.the-variants.{Refused, Frame}
@@ -124,6 +125,15 @@ frameBytes u p a x i j k W = bytesOf (ownOf p) (askedBy (p .address) a x) (nextR
 -- the port after it
 unfoldable pub portAfter : Port → ℕ → ℕ → Port
 portAfter p i j = withLogin p i (withExchange (loginAt p i) j (nextExchange (fullOf p i) (exchangeOf p i j)))
+
+-- the one login that a next frame changes: its place, and what it is after it; after a refusal a login that stays as it is
+abbrev pub movedAt : Step → Unit → Port → ℕ → ℕ → List ℕ → Moved
+movedAt (Refused g) u p a x W = record { given = g; at = 0; login = loginAt p 0 }
+movedAt (Frame i j k) u p a x W =
+    record { given = Sent (length (frameBytes u p a x i j k W)); at = i; login = withExchange (loginAt p i) j (nextExchange (fullOf p i) (exchangeOf p i j)) }
+
+unfoldable pub movedOf : Unit → Port → ℕ → ℕ → ℕ → List ℕ → ℕ → Moved
+movedOf u p a x start W room = movedAt (stepOf p a x start (length W) room) u p a x W
 
 -- a refusal leaves "the state unchanged"; otherwise the frame's "length in the answer"
 abbrev pub nextAt : Step → Unit → Port → ℕ → ℕ → List ℕ → Next

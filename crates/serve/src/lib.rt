@@ -22,14 +22,13 @@ use state::exchange_at;
 use state::login_at;
 use state::lookup;
 use state::put_exchange;
-use state::put_login;
 use tables::Found;
 use wire::least;
 use wire::put_at;
 use wire::put_front;
 ghost use mathlib.Core.Path.{_≡_};
 ghost use mathlib.Core.Bool.{cond};
-ghost use Prim.Native.Nat.{_+_, _-_, _*_, _≤_};
+ghost use Prim.Native.Nat.{_+_, _-_, _*_, _≤_, _<_};
 ghost use lib.Dec.{leb};
 ghost use lib.ListN.{length, drop};
 ghost use Rattle.tables.specs.declared.Found.the-variants.{At, Nothing};
@@ -37,7 +36,7 @@ ghost use Rattle.reply.specs.Payload.{senseBytes};
 ghost use Rattle.reply.specs.Reply.{sentOf, writtenOf};
 ghost use Rattle.formed.specs.Formed.{fullFrame, nextBytes};
 ghost use Rattle.serve.specs.Made.{inquiryFirst, inquiryBytes, capacityBytes, senseOf, madeBytes};
-ghost use Rattle.serve.specs.Next.{hasMore, readsMore, fitsAt, coverOf, placeOf, frameOf, nextReply, nextExchange, sourceOf, ownOf, askedBy, openStep, stepOf, nextOf, nextBuffer};
+ghost use Rattle.serve.specs.Next.{hasMore, readsMore, fitsAt, coverOf, placeOf, frameOf, nextReply, nextExchange, sourceOf, ownOf, askedBy, openStep, stepOf, nextBuffer, movedOf};
 
 // What became of the call: the length of the frame, or why it was refused.
 pub enum Given {
@@ -66,8 +65,15 @@ pub enum Step {
     Frame(usize, usize, usize),
 }
 
-// The next frame of the exchange of an address and an OX_ID, from a window of the unit's bytes that starts at a block.
-pub fn next_frame(
+// What a call comes to, and the one login that it changes: its place, and what it is after it. After a refusal that login stays as it is.
+pub struct Moved {
+    pub given: Given,
+    pub at: usize,
+    pub login: Login,
+}
+
+// The next frame of the exchange of an address and an OX_ID, from a window of the unit's bytes that starts at a block, and the login after it.
+pub fn next_login(
     u: Unit,
     p: Port,
     address: u32,
@@ -75,23 +81,27 @@ pub fn next_frame(
     start: u64,
     window: &[u8],
     reply: &mut [u8],
-) -> Next
-    ensures { λ r. ⌜ r ≡ nextOf u p address «ox_id» start (now (window .entry)) (length (now (reply .entry))) ⌝ }
+) -> Moved
+    ensures { λ r. ⌜ (r ≡ movedOf u p address «ox_id» start (now (window .entry)) (length (now (reply .entry)))) × (r .at < 8) ⌝ }
     ensures { λ _. ⌜ now (reply .exit) ≡ nextBuffer u p address «ox_id» start (now (window .entry)) (now (reply .entry)) ⌝ }
 {
     let s = step_of(p, address, ox_id, start, window.len(), reply.len());
     match s {
-        Step::Refused(g) => Next { given: g, port: p },
+        Step::Refused(g) => Moved {
+            given: g,
+            at: 0,
+            login: login_at(p, 0),
+        },
         Step::Frame(i, j, k) => {
             let l = login_at(p, i);
             let e = exchange_at(l, j);
             let n = put_frame(u, p, address, ox_id, l.size, e, k, window, reply);
             let f = next_exchange(l.size, e);
             let m = put_exchange(l, j, f);
-            let q = put_login(p, i, m);
-            Next {
+            Moved {
                 given: Given::Sent(n),
-                port: q,
+                at: i,
+                login: m,
             }
         }
     }

@@ -1,36 +1,22 @@
--- `drive::Drive::next_frame` meets its contract: a law for each way. Assumes nothing.
-use mathlib.Core.Path.{sym, _∙_}
-use Rattle.drive.proofs.Ways.{next-short, next-ill, next-served}
+-- `drive::Drive::next_frame` meets its contract: the answer to its turn. Assumes nothing.
+use mathlib.Core.Path.{ap, _∙_}
+use Rattle.drive.specs.Entry.{answerTo}
+use Rattle.drive.proofs.Ways.{turn-answers}
 use borrow.Author.Needs.{needs}
 use Rattle.drive.proofs.Drive.next_frame.Statement.{statement}
 use Rattle.drive.proofs.Drive.next_frame.Tie as tie
 
 returns : tie.Need-returns
 returns c =
-    let a = c .before .before .before .before .before .before .args in
-    next-short (a .self) (a .address) (a .ox-id) (a .start) (a .window .now) (a .reply .now) (c .before .if1 .taken) _ (c .refuse .ensures)
-
-returns-2 : tie.Need-returns-2
-returns-2 c =
-    let a = c .before .before .before .before .before .before .before .before .before .before .before .before .before .args in
-    let n = c .before .before .before .before .next-frame in
-    next-served (a .self) (a .address) (a .ox-id) (a .start) (a .window .now) (a .reply .now) (c .before .before .before .before .before .before .before .before .if1 .left) (sym (c .before .before .before .before .before .before .before .well-formed .ensures) ∙ c .before .before .before .before .before .before .if2 .taken) _ _ _ (n .ensures .0) (c .said-of .ensures) (n .ensures .1)
-
-returns-3 : tie.Need-returns-3
-returns-3 c =
-    let a = c .before .before .before .before .before .before .before .before .args in
-    next-ill (a .self) (a .address) (a .ox-id) (a .start) (a .window .now) (a .reply .now) (c .before .before .before .if1 .left) (sym (c .before .before .well-formed .ensures) ∙ c .before .if2 .left) _ (c .refuse2 .ensures)
+    let n = c .before .before .before .next-login in
+    let a = c .before .before .before .before .before .before .before .args in
+    (c .answer .ensures ∙ ap (answerTo (a .self)) (n .ensures .0 .0) ∙ turn-answers (a .self) (a .address) (a .ox-id) (a .start) _ (a .window .now), n .ensures .1)
 
 pub next-frame-spec : {M : Type 1} → statement M
 next-frame-spec =
     tie.close
     (tie.spec
     (λ c κs. search needs)
-    returns
-    (λ c κs. search needs)
-    (λ c κs. search needs)
-    (λ c κs. search needs)
     (λ c κs. search needs)
     (λ c. search needs)
-    returns-2
-    returns-3)
+    returns)

@@ -1,4 +1,4 @@
--- `window::next_frame_from` meets its contract: a walk of its MIR, by hand. The window is taken apart, and the drive's entry is called on the drive, the numbers, the block, the bytes and the reply.
+-- `window::next_login_from` meets its contract: a walk of its MIR, by hand. The window is taken apart, and the drive's entry is called on the drive, the numbers, the block, the bytes and the reply.
 -- The window is Copy: what it owns is had twice, one copy is kept whole for the exit, and of the other what `bytes` owns goes to the callee. `reply` goes to the callee at its own lifetime, share and ghost name, and is given up for good (`gave-slice`).
 -- The drive and the numbers are plain data: what they own is made anew from their relation (`owned`) wherever it is asked.
 -- Assumes nothing.
@@ -43,24 +43,24 @@ use denote.Triple.Table.{entered, cited}
 use denote.Triple.Walked.{says, Stays, stay-none, gave-slice, walkOf, goes-none, goes-gave-slice, Walks, ends-at, walked, walk-meets}
 use denote.Exit.{yes}
 use denote.Triple.Clauses.{ensured, lasts}
-use Rattle.drive.specs.Entry.{nextFrame, nextFrameBuffer}
+use Rattle.drive.specs.Entry.{nextTurn, nextFrameBuffer}
 use Rattle.drive.specs.declared.Drive.{Drive}
-use Rattle.drive.specs.declared.Answer.{Answer}
+use Rattle.drive.specs.declared.Turn.{Turn}
 use Rattle.drive.proofs.Drive as Dr
 use Rattle.drive.proofs.Drive.Laws as Dr′
-use Rattle.drive.proofs.Answer as An
-use Rattle.drive.proofs.Answer.Laws as An′
+use Rattle.drive.proofs.Turn as Tn
+use Rattle.drive.proofs.Turn.Laws as Tn′
 use Rattle.window.specs.declared.Window.{Window}
 use Rattle.window.proofs.Window as T
 use Rattle.window.proofs.Window.Laws as T′
-use Rattle.drive.proofs.Drive.next_frame as g
-use Rattle.drive.proofs.Drive.next_frame.Symbol as g-def
-use Rattle.drive.proofs.Drive.next_frame.Symbol.{name as #drive·Drive·next-frame}
-use Rattle.drive.proofs.Drive.next_frame.Met as g-thm
-use Rattle.window.proofs.next_frame_from.Key.{name as #window·next-frame-from}
-use Rattle.window.proofs.next_frame_from as f
-use Rattle.window.proofs.next_frame_from.Statement as stated
-use Rattle.window.proofs.next_frame_from.Code as code
+use Rattle.drive.proofs.Drive.next_login as g
+use Rattle.drive.proofs.Drive.next_login.Symbol as g-def
+use Rattle.drive.proofs.Drive.next_login.Symbol.{name as #drive·Drive·next-login}
+use Rattle.drive.proofs.Drive.next_login.Met as g-thm
+use Rattle.window.proofs.next_login_from.Key.{name as #window·next-login-from}
+use Rattle.window.proofs.next_login_from as f
+use Rattle.window.proofs.next_login_from.Statement as stated
+use Rattle.window.proofs.next_login_from.Code as code
 
 -- the struct's type, its description and its laws, over the signature's lifetimes: 'a, and that of reply
 abbrev B : Lfts 2 → RattleType
@@ -149,22 +149,22 @@ module _ {M : Type 1} (𝓤 : URA M) (H : Heap 𝓤) (A : Atoms 𝓤) (W : Given
       move ! (2 ∷ 0 ∷ []) $ use2 W (raw (G 𝓤 H A mem run .pre to)) asked $ frame ! $ done !)
 
   -- what the answer is, and what reply holds at the end
-  abbrev Gives : Answer → Type 0
-  Gives r = r ≡ nextFrame c i j (d .start) (now (d .bytes)) (length ys)
+  abbrev Gives : Turn → Type 0
+  Gives r = (r ≡ nextTurn c i j (d .start) (now (d .bytes)) (length ys)) × (r .at < 8)
 
   abbrev Leaves : List ℕ → Type 0
   Leaves zs = zs ≡ nextFrameBuffer c i j (d .start) (now (d .bytes)) ys
 
-  exits : (r : Answer) (u : Val) (zs : List ℕ) → Gives r × Leaves zs → length zs ≡ length ys
-      → ent 𝓤 (⋆ 𝓤 H A ((‵ (flft κ q) ⊛ ‵ (flft κ′ q′) ⊛ ‵ ftrue) ∷ ‵ (finally u8 γ zs) ∷ ‵ Own ∷ ‵ (An.the-row .own r (u ∷ [])) ∷ [])) (Post u)
+  exits : (r : Turn) (u : Val) (zs : List ℕ) → Gives r × Leaves zs → length zs ≡ length ys
+      → ent 𝓤 (⋆ 𝓤 H A ((‵ (flft κ q) ⊛ ‵ (flft κ′ q′) ⊛ ‵ ftrue) ∷ ‵ (finally u8 γ zs) ∷ ‵ Own ∷ ‵ (Tn.the-row .own r (u ∷ [])) ∷ [])) (Post u)
   exits r u zs e l =
-      qed W ((‵ (flft κ q) ⊛ ‵ (flft κ′ q′) ⊛ ‵ ftrue) ∷ ‵ (finally u8 γ zs) ∷ ‵ Own ∷ ‵ (An.the-row .own r (u ∷ [])) ∷ []) ∵
+      qed W ((‵ (flft κ q) ⊛ ‵ (flft κ′ q′) ⊛ ‵ ftrue) ∷ ‵ (finally u8 γ zs) ∷ ‵ Own ∷ ‵ (Tn.the-row .own r (u ∷ [])) ∷ []) ∵
       suffices ! _ (ends-at 𝓤 H A f.ended stayed (f.clauses 𝓤 H A mem run) W ((κs, (q, (q′, tt)), tt, a, vals), tt) u r (tt, (tt, (tt, (tt, (zs, tt))))) (tt, (tt, (tt, (tt, (l, tt)))))) $ says ! e $ frame ! $
       -- [the last list; what the window owns; the result]
       nothing ! $ move ! (1 ∷ 0 ∷ []) $ fjoin ! $ move ! (1 ∷ 0 ∷ []) $ fjoin ! $ owned ! u16 (Is u16) (uint-makes 𝓤 H A W w16) j _ (refl, j-fits) $ fjoin ! $ owned ! u32 (Is u32) (uint-makes 𝓤 H A W w32) i _ (refl, i-fits) $ fjoin ! $
       owned ! Dr.the-row (Is Dr.the-row) (LL.makes Dr.the-type Dr′.the-plain 𝓤 H A) c _ is-c $ fjoin ! $ done !
 
-  module _ (C : Calls 𝓤 H) (Λ : Loops 𝓤 H) (fm : FmC 𝓤 H (W .laws) C) (known : Triple 𝓤 (C #drive·Drive·next-frame) (G 𝓤 H A mem run)) where
+  module _ (C : Calls 𝓤 H) (Λ : Loops 𝓤 H) (fm : FmC 𝓤 H (W .laws) C) (known : Triple 𝓤 (C #drive·Drive·next-login) (G 𝓤 H A mem run)) where
     walk : Holds (hasTy (T′.mir (named 0)) mach) × WT mach → Room u8 (length ys) → ent 𝓤 (onEntry 𝓤 H A f.signature κs (q, (q′, tt)) a vals) (WpFn 𝓤 H C Λ code.function (dval c ∷ vint w32 i ∷ vint w16 j ∷ mach ∷ s ∷ []) Post)
     walk wt room =
         qed W (raw (onEntry 𝓤 H A f.signature κs (q, (q′, tt)) a vals) ∷ []) ∵ enter ! C Λ code.function (dval c ∷ vint w32 i ∷ vint w16 j ∷ mach ∷ s ∷ []) _ $
@@ -178,20 +178,20 @@ module _ {M : Type 1} (𝓤 : URA M) (H : Heap 𝓤) (A : Atoms 𝓤) (W : Given
         move ! (20 ∷ []) $ use1 W (raw (G 𝓤 H A mem run .pre to) ⊛ ‵ Own) (apart (wt .1 .0 .fits)) $ split ! $
         -- [what the callee asks; what the window owns; _9; …]
         calls-at ! fm (G 𝓤 H A mem run) known to (and-then ! (load ! (from ! (stop !)) (look ! 18 refl)) (and-then ! (load ! (from ! (stop !)) (look ! 16 refl)) (and-then ! (load ! (from ! (stop !)) (look ! 14 refl)) (and-then ! (load ! (from ! (stop !)) (look ! 8 refl)) (and-then ! (load ! (from ! (stop !)) (look ! 6 refl)) (and-then ! (load ! (from ! (stop !)) (look ! 2 refl)) (no-more !))))))) (λ u.
-        use1 W (later (some (λ (r : Answer). ((‵ (flft κ q) ⊛ ‵ (flft κ′ q′) ⊛ ‵ ftrue) ⊛ ‵ (An.the-row .own r (u ∷ []))) ⊛ raw (ensured 𝓤 H A g.ended (g.clauses 𝓤 H A mem run) κs ga tt r)))) (id⊢ 𝓤 _) $ await ! tt $ pick ! (λ r.
+        use1 W (later (some (λ (r : Turn). ((‵ (flft κ q) ⊛ ‵ (flft κ′ q′) ⊛ ‵ ftrue) ⊛ ‵ (Tn.the-row .own r (u ∷ []))) ⊛ raw (ensured 𝓤 H A g.ended (g.clauses 𝓤 H A mem run) κs ga tt r)))) (id⊢ 𝓤 _) $ await ! tt $ pick ! (λ r.
         -- what the entry ensures, at some last list of reply
         split ! $ move ! (1 ∷ []) $ use1 W (some (λ (zs : Unit {0} × (Unit {0} × (Unit {0} × (Unit {0} × (Unit {0} × (List ℕ × Unit {0})))))). ‵ (lasts g.ended κs ga zs) ⊛ (raw (fact 𝓤 (Gives r)) ⊛ raw (fact 𝓤 (Leaves (zs .1 .1 .1 .1 .1 .0)))))) (id⊢ 𝓤 _) $ pick ! (λ zs.
         split ! $ move ! (1 ∷ []) $ split ! $ heard ! (Gives r) (λ e₁. heard ! (Leaves (zs .1 .1 .1 .1 .1 .0)) (λ e₂. fsplit ! $ drop ! $ fsplit ! $ drop ! $ fsplit ! $ drop ! $ fsplit ! $ drop ! $ fsplit ! $ drop ! $ fsplit ! $ fsplit ! $ move ! (1 ∷ []) $ feqL ! (λ l.
         -- [the last list; true; the tokens and the result; what the window owns; _9; …]
-        move ! (2 ∷ []) $ split ! $ move ! (1 ∷ []) $ peeks ! An.the-row (Is An.the-row) (shows 𝓤 H A An.the-row) r (u ∷ []) (λ is.
+        move ! (2 ∷ []) $ split ! $ move ! (1 ∷ []) $ peeks ! Tn.the-row (Is Tn.the-row) (shows 𝓤 H A Tn.the-row) r (u ∷ []) (λ is.
         -- [the result; the tokens; the last list; true; what the window owns; _9; …]
-        land ! (from ! (stop !)) (init ! 23 refl (LL.lawful An.the-type An′.the-laws 𝓤 H A W .typed r _ is .0)) $
+        land ! (from ! (stop !)) (init ! 23 refl (LL.lawful Tn.the-type Tn′.the-laws 𝓤 H A W .typed r _ is .0)) $
         returns ! (look ! 23 refl) $ forget ! 5 refl $ forget ! 7 refl $ forget ! 9 refl $ forget ! 11 refl $ forget ! 13 refl $ forget ! 15 refl $ forget ! 17 refl $ forget ! 19 refl $ forget ! 21 refl $ forget ! 23 refl $
         move ! (23 ∷ 24 ∷ []) $ free1 ! $ move ! (21 ∷ 22 ∷ []) $ free1 ! $ move ! (19 ∷ 20 ∷ []) $ free1 ! $ move ! (17 ∷ 18 ∷ []) $ free1 ! $ move ! (15 ∷ 16 ∷ []) $ free1 ! $ move ! (13 ∷ 14 ∷ []) $ free1 ! $ move ! (11 ∷ 12 ∷ []) $ free1 ! $ move ! (9 ∷ 10 ∷ []) $ free1 ! $ move ! (7 ∷ 8 ∷ []) $ free1 ! $ move ! (5 ∷ 6 ∷ []) $ free1 ! $ free0 ! $
         keep ! (1 ∷ 2 ∷ 4 ∷ 0 ∷ []) $ by ! (exits r u (zs .1 .1 .1 .1 .1 .0) (e₁, e₂) l))))))))))))))))))
 
 module _ {M : Type 1} (𝓤 : URA M) (H : Heap 𝓤) (A : Atoms 𝓤) (W : Given 𝓤 H A) (mem : Memory → SProp 𝓤) (run : Routine → Fun 𝓤) where
-  f-walks : (C : Calls 𝓤 H) (Λ : Loops 𝓤 H) → FmC 𝓤 H (W .laws) C → Triple 𝓤 (C #drive·Drive·next-frame) (G 𝓤 H A mem run)
+  f-walks : (C : Calls 𝓤 H) (Λ : Loops 𝓤 H) → FmC 𝓤 H (W .laws) C → Triple 𝓤 (C #drive·Drive·next-login) (G 𝓤 H A mem run)
       → Walks 𝓤 H A f.ended stayed (WpFn 𝓤 H C Λ code.function) (f.clauses 𝓤 H A mem run)
   f-walks C Λ fm known = walked 𝓤 H A f.ended stayed (f.clauses 𝓤 H A mem run) (WpFn 𝓤 H C Λ code.function)
       (λ κs. (LL.vals Dr.the-type Dr′.the-laws, (uint-vals w32, (uint-vals w16, (LL.vals (D κs) (L κs), (slice-vals, tt)))))) (λ κs. (LL.tells Dr.the-type Dr′.the-laws, (uint-tells w32, (uint-tells w16, (LL.tells (D κs) (L κs), (mut-slice-tells (named 1) (κs .1 .0) u8, tt))))))
@@ -199,15 +199,15 @@ module _ {M : Type 1} (𝓤 : URA M) (H : Heap 𝓤) (A : Atoms 𝓤) (W : Given
       (LL.lawful (D κs) (L κs) 𝓤 H A W .typed (a .1 .1 .1 .0) _ (are .1 .1 .1 .0) .0) (are .1 .1 .1 .1 .0 .0 .1)))
 
 f-meets : {M : Type 1} (𝓤 : URA M) (H : Heap 𝓤) (A : Atoms 𝓤) (W : Given 𝓤 H A) (mem : Memory → SProp 𝓤) (run : Routine → Fun 𝓤) (𝓣 : Tables 𝓤 H)
-    → Triple 𝓤 (𝓣 .C #drive·Drive·next-frame) (G 𝓤 H A mem run)
+    → Triple 𝓤 (𝓣 .C #drive·Drive·next-login) (G 𝓤 H A mem run)
     → Meets 𝓤 H A f.signature (WpFn 𝓤 H (𝓣 .C) (𝓣 .Λ) code.function) (f.spec 𝓤 H A mem run)
 f-meets 𝓤 H A W mem run 𝓣 known = walk-meets 𝓤 H A f.ended stayed W (goes-none 𝓤 H A W 2 (λ _. Dr.the-row) yes (λ κs x f. refl), (goes-none 𝓤 H A W 2 (λ _. u32) yes (λ κs x f. refl), (goes-none 𝓤 H A W 2 (λ _. u16) yes (λ κs x f. refl), (goes-none 𝓤 H A W 2 B yes (λ κs x f. refl), (goes-gave-slice 𝓤 H A W 2 1 tt (plain (λ _. u8)), tt))))) (f.clauses 𝓤 H A mem run) (WpFn 𝓤 H (𝓣 .C) (𝓣 .Λ) code.function) (WpFn-mono 𝓤 H (W .laws) 𝓣 code.function)
     (f-walks 𝓤 H A W mem run (𝓣 .C) (𝓣 .Λ) (fmOf 𝓤 H (W .laws) 𝓣) known)
 
-pub next-frame-from-spec : {M : Type 1} → stated.statement M
+pub next-login-from-spec : {M : Type 1} → stated.statement M
 unfolding code.routine tablesOf
-next-frame-from-spec 𝓤 H 𝓜 𝓖 𝓡 =
+next-login-from-spec 𝓤 H 𝓜 𝓖 𝓡 =
     entered 𝓤 H (tripleOf 𝓤 H (𝓖 .A) f.signature (f.spec 𝓤 H (𝓖 .A) (𝓜 .mem) (𝓡 .run)))
-    (tables 𝓤 H 𝓜 𝓡 code.env .C) (tables 𝓤 H 𝓜 𝓡 code.env .Λ) #window·next-frame-from code.function (code.unfolded 𝓤 H 𝓜 𝓡)
+    (tables 𝓤 H 𝓜 𝓡 code.env .C) (tables 𝓤 H 𝓜 𝓡 code.env .Λ) #window·next-login-from code.function (code.unfolded 𝓤 H 𝓜 𝓡)
     (f-meets 𝓤 H (𝓖 .A) (givenOf 𝓤 H 𝓜 𝓖) (𝓜 .mem) (𝓡 .run) (tablesOf 𝓤 H 𝓜 (tables 𝓤 H 𝓜 𝓡 code.env))
-    (cited 𝓤 H (G 𝓤 H (𝓖 .A) (𝓜 .mem) (𝓡 .run)) 𝓜 𝓡 code.env #drive·Drive·next-frame g-def.routine code.calls-drive·Drive·next-frame (g-thm.met 𝓤 H 𝓜 𝓖 𝓡)))
+    (cited 𝓤 H (G 𝓤 H (𝓖 .A) (𝓜 .mem) (𝓡 .run)) 𝓜 𝓡 code.env #drive·Drive·next-login g-def.routine code.calls-drive·Drive·next-login (g-thm.met 𝓤 H 𝓜 𝓖 𝓡)))
