@@ -18,7 +18,6 @@ ghost use mathlib.Core.List.{map};
 ghost use lib.Dec.{leb, eqb};
 ghost use lib.ListN.{drop};
 ghost use Rattle.tables.specs.Lists.{all};
-ghost use Rattle.state.specs.Changes.{isClosed};
 ghost use Rattle.formed.specs.Formed.{setupRules, fullFrame, total, readFits, wantedFits, sentFits, exchangeFine, paramsFine, flagsFine, addressFine, usedFine, loginFine, wellFormed};
 ghost use Rattle.formed.specs.Keys.{keyOf, apartKey, keyFine, keysFine, exchangeKey, loginKey};
 

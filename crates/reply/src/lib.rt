@@ -9,7 +9,7 @@ ghost use Prim.Native.Nat.{_+_, _≤_, _<_};
 ghost use mathlib.Core.Bool.{cond};
 ghost use lib.ListN.{length};
 ghost use Rattle.wire.specs.Bytes.{Wrote, onto, fillCount};
-ghost use Rattle.reply.specs.Payload.{shortBytes, loginBytes, addressBytes, pairBytes, unpairBytes, acceptedBytes, rejectBytes, logoutBytes, abortAcceptBytes, abortRejectBytes, residualFlag, residualSize, statusBytes, codeBytes, senseWith, senseBytes, responseBytes, dataBytes, payloadOf};
+ghost use Rattle.reply.specs.Payload.{shortBytes, loginBytes, addressBytes, pairBytes, unpairBytes, acceptedBytes, rejectBytes, logoutBytes, abortAcceptBytes, abortRejectBytes, residualFlag, residualSize, statusBytes, senseWith, senseBytes, responseBytes, dataBytes, payloadOf};
 ghost use Rattle.reply.specs.Reply.{answerHead, logoutHead, dataHead, headOf, filled, silent, bytesOf, sentOf, writtenOf};
 
 // What a reply takes from the setup: the own address and the accept words.

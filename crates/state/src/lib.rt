@@ -3,7 +3,7 @@
 use tables::Found;
 ghost use mathlib.Core.Path.{_≡_};
 ghost use Rattle.tables.specs.Lists.{Within, all};
-ghost use Rattle.state.specs.Tables.{isFree, hasId, findLogin, freeLogin, findExchange, freeExchange, lookupOf, LookedUp};
+ghost use Rattle.state.specs.Tables.{isFree, hasId, findLogin, freeLogin, findExchange, freeExchange, LookedUp};
 ghost use Rattle.state.specs.Changes.{emptyExchange, emptyLogin, loginAt, exchangeAt, withLogin, withExchange, withoutExchanges, withAttention, advanced, endedAt, hasAddress, endedOf, unproven, verified, abortedOf, resetOf, losesTo, clearedBy, changedOf, changedAll, poweredOn, isClosed};
 
 // A place for an open exchange of a login. What it sends is told by kind; a free place has kind 0.
