@@ -1,5 +1,6 @@
 // Whether a state is well formed: every field is tested, so that any bytes may be handed in.
 use address::valid_address;
+use frame::Header;
 use params::Params;
 use params::size_fails;
 use params::zero_name;
@@ -63,7 +64,11 @@ pub fn well_formed(u: Unit, p: Port) -> bool
 pub fn full_frame(size: u16) -> u32
     ensures { λ r. ⌜ r ≡ fullFrame size ⌝ }
 {
-    if size < 2048 { size as u32 } else { 2048 }
+    if (size as usize) < Header::MOST_DATA {
+        size as u32
+    } else {
+        Header::MOST_DATA as u32
+    }
 }
 
 // The bytes that an exchange sends in all.
@@ -84,7 +89,7 @@ fn read_fits(capacity: u64, e: Exchange) -> bool
     if blocks < 1 {
         return false;
     }
-    if 65535 < blocks {
+    if Exchange::MOST_READ < blocks {
         return false;
     }
     if e.wanted as u64 != 512 * blocks {

@@ -83,7 +83,7 @@ pub fn write(o: Own, h: Header, r: Reply, source: &[u8], reply: &mut [u8]) -> us
     ensures { λ n. ⌜ n ≡ sentOf o h r (now (source .entry)) (length (now (reply .entry))) ⌝ }
     ensures { λ _. ⌜ now (reply .exit) ≡ writtenOf o h r (now (source .entry)) (now (reply .entry)) ⌝ }
 {
-    if reply.len() < 2136 {
+    if reply.len() < Header::MOST_FRAME {
         return 0;
     }
     put_reply(o, h, r, source, reply)
@@ -450,7 +450,7 @@ fn put_abort_reject(out: &mut [u8]) -> usize
 fn put_data(size: u16, source: &[u8], out: &mut [u8]) -> usize
     ensures { λ n. ⌜ Wrote (dataBytes size (now (source .entry))) (now (out .entry)) (now (out .exit)) n 2048 ⌝ }
 {
-    let n = least(least(size as usize, 2048), source.len());
+    let n = least(least(size as usize, Header::MOST_DATA), source.len());
     put_front(out, &source[..n]);
     n
 }

@@ -40,6 +40,8 @@ impl Exchange {
     pub const SENSE_CLEARED: u8 = 7;
 
     pub const SENSE_OTHER_UNIT: u8 = 8;
+    // the blocks of a READ at most
+    pub const MOST_READ: u64 = 65535;
 }
 
 // A place for a login. Flags are 0 or 1; attention is 0, 29h or 2Fh.
