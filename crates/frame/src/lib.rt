@@ -54,7 +54,7 @@ pub fn read_header(frame: &[u8]) -> Header
 }
 
 // The 24 bytes of a header; of a 24-bit field the low three bytes.
-pub fn header_bytes(h: Header) -> [u8; 24]
+fn header_bytes(h: Header) -> [u8; 24]
     ensures { λ r. ⌜ r ≡ headerBytes h ⌝ }
 {
     let d = h.d_id;

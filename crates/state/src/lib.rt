@@ -129,7 +129,7 @@ pub enum Change {
 }
 
 // Whether a login is used and has this address.
-pub fn has_address(l: Login, address: u32) -> bool
+fn has_address(l: Login, address: u32) -> bool
     ensures { λ r. ⌜ r ≡ hasAddress address l ⌝ }
 {
     if l.used == 1 {
@@ -147,7 +147,7 @@ pub fn is_free(l: Login) -> bool
 }
 
 // Whether an exchange is open and has this OX_ID.
-pub fn has_id(e: Exchange, ox_id: u16) -> bool
+fn has_id(e: Exchange, ox_id: u16) -> bool
     ensures { λ r. ⌜ r ≡ hasId «ox_id» e ⌝ }
 {
     if e.kind == Exchange::FREE {
@@ -381,7 +381,7 @@ pub fn set_attention(l: Login, attention: u8) -> Login
 }
 
 // What a change makes of one login. A free place stays free.
-pub fn changed(l: Login, c: Change) -> Login
+fn changed(l: Login, c: Change) -> Login
     ensures { λ r. ⌜ r ≡ changedOf c l ⌝ }
 {
     match c {
