@@ -35,7 +35,9 @@ static void setups(void) {
     for (size_t i = 0; i < sizeof lengths / sizeof lengths[0]; i++) {
         refused("lengths", make(&d, 100, OWN, long_bytes, lengths[i][0], long_bytes, lengths[i][1]), JHARTUPAL_BAD_SETUP);
     }
-    check(make(&d, JHARTUPAL_LEAST_BLOCKS, 0x01, long_bytes, JHARTUPAL_IDENTITY, long_bytes, JHARTUPAL_ACCEPT) == 0 && d.unit.capacity == JHARTUPAL_LEAST_BLOCKS && d.port.address == 0x01, "a drive of one block is made");
+    check(make(&d, JHARTUPAL_LEAST_BLOCKS, 0x01, long_bytes, JHARTUPAL_IDENTITY, long_bytes, JHARTUPAL_ACCEPT) == 0 && d.unit.capacity == JHARTUPAL_LEAST_BLOCKS
+              && d.port.address == 0x01,
+          "a drive of one block is made");
 }
 
 static struct frame with(struct frame f, size_t at, uint8_t value) {
@@ -49,8 +51,8 @@ static void breaks(struct jhartupal_drive *d, const char *what, struct frame f, 
 
 /* "Frame in: 1 to 7 in order" */
 static void frames(void) {
-    static const size_t sizes[] = {0, 1, JHARTUPAL_LEAST_FRAME - 4, JHARTUPAL_LEAST_FRAME - 1, JHARTUPAL_LEAST_FRAME + 1, JHARTUPAL_LEAST_FRAME + 2, JHARTUPAL_LEAST_FRAME + 3,
-                                   JHARTUPAL_MOST_FRAME + 1, JHARTUPAL_MOST_FRAME + 2, JHARTUPAL_MOST_FRAME + 3, JHARTUPAL_MOST_FRAME + 4};
+    static const size_t sizes[] = {0, 1, JHARTUPAL_LEAST_FRAME - 4, JHARTUPAL_LEAST_FRAME - 1, JHARTUPAL_LEAST_FRAME + 1, JHARTUPAL_LEAST_FRAME + 2,
+                                   JHARTUPAL_LEAST_FRAME + 3, JHARTUPAL_MOST_FRAME + 1, JHARTUPAL_MOST_FRAME + 2, JHARTUPAL_MOST_FRAME + 3, JHARTUPAL_MOST_FRAME + 4};
     struct jhartupal_drive d, ill;
     struct frame ours = test_unit(hosts[0]), from = with(ours, 8, 0x01), to = with(from, 7, 0x03), worst = with(to, 3, 0xEE), login = plogi(hosts[0], JHARTUPAL_LEAST_SIZE);
     full(&d);

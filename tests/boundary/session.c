@@ -99,15 +99,16 @@ static void no_wrap(void) {
     struct jhartupal_drive d;
     struct frame f = reading(0x02, 0x0B01, ACROSS, 4, 2048), g = data(&f, 4, 1024, unit_bytes(8388608, JHARTUPAL_LEAST_SIZE), JHARTUPAL_LEAST_SIZE, false);
     size_t short_by_one = JHARTUPAL_BLOCK + JHARTUPAL_LEAST_SIZE - 1;
+    uint64_t refused = JHARTUPAL_REFUSED + JHARTUPAL_BAD_WINDOW;
     made(&d, CAPACITY);
     paired(&d, 0x02, JHARTUPAL_LEAST_SIZE);
     silent("READ", take(&d, &f));
     for (int i = 0; i < 4; i++) {
         check(next_out(&d, 0x02, 0x0B01, ACROSS, unit_bytes(ACROSS, 1024), 1024, ROOM) == 24 + JHARTUPAL_LEAST_SIZE, "READ: frame %d", i);
     }
-    check(next_out(&d, 0x02, 0x0B01, 0, unit_bytes(0, 2048), 2048, ROOM) == JHARTUPAL_REFUSED + JHARTUPAL_BAD_WINDOW, "block 0 stands for block 8,388,608");
-    check(next_out(&d, 0x02, 0x0B01, 8388608 + (UINT64_C(1) << 55), unit_bytes(0, 2048), 2048, ROOM) == JHARTUPAL_REFUSED + JHARTUPAL_BAD_WINDOW, "block 2^55 + 8,388,608 stands for 8,388,608");
-    check(next_out(&d, 0x02, 0x0B01, 8388607, unit_bytes(8388607, short_by_one), short_by_one, ROOM) == JHARTUPAL_REFUSED + JHARTUPAL_BAD_WINDOW, "a window that ends a byte early covers");
+    check(next_out(&d, 0x02, 0x0B01, 0, unit_bytes(0, 2048), 2048, ROOM) == refused, "block 0 stands for block 8,388,608");
+    check(next_out(&d, 0x02, 0x0B01, 8388608 + (UINT64_C(1) << 55), unit_bytes(0, 2048), 2048, ROOM) == refused, "block 2^55 + 8,388,608 stands for 8,388,608");
+    check(next_out(&d, 0x02, 0x0B01, 8388607, unit_bytes(8388607, short_by_one), short_by_one, ROOM) == refused, "a window that ends a byte early covers");
     replies("from block 8,388,608 on", next_out(&d, 0x02, 0x0B01, 8388608, unit_bytes(8388608, JHARTUPAL_LEAST_SIZE), JHARTUPAL_LEAST_SIZE, ROOM), &g);
 }
 
