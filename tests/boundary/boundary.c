@@ -57,10 +57,10 @@ static void mark_all(size_t base, const struct field *table, size_t n) {
 static void mark_state(void) {
     mark_all(0, unit_fields, COUNT(unit_fields));
     mark_all(40, port_fields, COUNT(port_fields));
-    for (size_t i = 0; i < 8; i++) {
+    for (size_t i = 0; i < JHARTUPAL_LOGINS; i++) {
         size_t login = 40 + 120 + 288 * i;
         mark_all(login, login_fields, COUNT(login_fields));
-        for (size_t j = 0; j < 8; j++) {
+        for (size_t j = 0; j < JHARTUPAL_PLACES; j++) {
             mark_all(login + 32 + 32 * j, exchange_fields, COUNT(exchange_fields));
         }
     }
@@ -79,6 +79,7 @@ static void layout(void) {
 
 int main(void) {
     lend_start();
+    header();
     layout();
     session();
     example();

@@ -39,14 +39,14 @@ static uint8_t window[JHARTUPAL_MOST_WINDOW + 1];
 static void good_states(void) {
     made(&good[0], CAPACITY);
     made(&good[1], CAPACITY);
-    paired(&good[1], hosts[0], 2112);
+    paired(&good[1], hosts[0], JHARTUPAL_MOST_SIZE);
     full(&good[2]);
     full(&good[3]);
     event(&good[3], LOOP_RESET);
     full(&good[4]);
     for (size_t i = 0; i < JHARTUPAL_LOGINS; i++) {
         const struct jhartupal_exchange *e = &good[4].port.logins[i].places[i];
-        next_out(&good[4], hosts[i], e->ox_id, e->start, window, 2048, ROOM);
+        next_out(&good[4], hosts[i], e->ox_id, e->start, window, JHARTUPAL_MOST_DATA, ROOM);
     }
     scatter(window, sizeof window);
 }
@@ -61,7 +61,8 @@ static uint16_t some_id(void) {
 }
 
 static uint16_t some_size(void) {
-    static const uint16_t sizes[] = {256, 260, 300, 2048, 2108, 2112, 252, 258, 2116};
+    static const uint16_t sizes[] = {JHARTUPAL_LEAST_SIZE, JHARTUPAL_LEAST_SIZE + 4, 300, JHARTUPAL_MOST_DATA, JHARTUPAL_MOST_SIZE - 4, JHARTUPAL_MOST_SIZE,
+                                     JHARTUPAL_LEAST_SIZE - 4, JHARTUPAL_LEAST_SIZE + 2, JHARTUPAL_MOST_SIZE + 4};
     return sizes[below(9)];
 }
 
@@ -70,7 +71,7 @@ static struct frame some_command(void) {
     static const uint8_t codes[] = {0x00, 0x03, 0x12, 0x25, 0x2A, 0xA0};
     uint8_t from = host(), code = codes[below(6)], byte_4 = (uint8_t)chance(), lun = below(4) == 0;
     uint16_t id = some_id(), count = (uint16_t)(below(4) == 0 ? chance() : below(12));
-    uint32_t block = below(4) == 0 ? CAPACITY - below(8) : below(CAPACITY), few = below(300), dl = below(3) == 0 ? below(9000) : 512u * count;
+    uint32_t block = below(4) == 0 ? CAPACITY - below(8) : below(CAPACITY), few = below(300), dl = below(3) == 0 ? below(9000) : (uint32_t)JHARTUPAL_BLOCK * count;
     switch (below(8)) {
     case 0:
         return task(from, id, (uint8_t)(1 << byte_4 % 8));
@@ -162,7 +163,7 @@ static void some_state(struct jhartupal_drive *d) {
 }
 
 enum { FRAME, NEXT, EVENT, MAKE, FUNCTIONS };
-static unsigned tally[FUNCTIONS][11]; /* of each function: the answers, and each refusal */
+static unsigned tally[FUNCTIONS][LAST_REFUSAL + 1]; /* of each function: the answers, and each refusal */
 
 static uint64_t some_next(struct jhartupal_drive *d, size_t room) {
     const struct jhartupal_login *l;
@@ -174,7 +175,7 @@ static uint64_t some_next(struct jhartupal_drive *d, size_t room) {
     } while (e->kind == JHARTUPAL_FREE && ++tries < 32);
     uint32_t address = below(8) == 0 ? (uint32_t)chance() : l->address;
     uint16_t id = below(8) == 0 ? some_id() : e->ox_id;
-    uint64_t start = below(8) == 0 ? chance() : e->start + e->sent / 512 - (below(4) == 0);
+    uint64_t start = below(8) == 0 ? chance() : e->start + e->sent / JHARTUPAL_BLOCK - (below(4) == 0);
     return next_out(d, address, id, start, window, some_length(), room);
 }
 
@@ -204,7 +205,7 @@ static void one_call(struct jhartupal_drive *d) {
     promise(two == (!formed && room >= ROOM && function != MAKE), "function %d answers %llu, and the state is%s well formed", function, (unsigned long long)said,
             formed ? "" : " not");
     promise(room >= ROOM || said == JHARTUPAL_REFUSED + JHARTUPAL_SHORT_BUFFER, "function %d answers %llu with a room of %zu", function, (unsigned long long)said, room);
-    tally[function][said < JHARTUPAL_REFUSED ? 0 : (said - JHARTUPAL_REFUSED) % 11]++;
+    tally[function][said < JHARTUPAL_REFUSED ? 0 : (said - JHARTUPAL_REFUSED) % (LAST_REFUSAL + 1)]++;
     if (said < JHARTUPAL_REFUSED) {
         struct jhartupal_drive after;
         memcpy(&after, d, sizeof after);
@@ -216,9 +217,9 @@ static void one_call(struct jhartupal_drive *d) {
 /* That the calls were not all of one sort: each function answers often, and so does each refusal that it can have. */
 static void varied(void) {
     static const char *const names[FUNCTIONS] = {"drive_frame", "drive_next", "events", "drive_make"};
-    static const unsigned can[FUNCTIONS] = {0xFF, 0x687, 0x05, 0x101}; /* bit 0: answered */
+    static const unsigned can[FUNCTIONS] = {ANSWERED | OF_FRAME, ANSWERED | OF_NEXT, ANSWERED | OF_EVENT, ANSWERED | OF_MAKE};
     for (size_t i = 0; i < FUNCTIONS; i++) {
-        for (unsigned k = 0; k <= 10; k++) {
+        for (unsigned k = 0; k <= LAST_REFUSAL; k++) {
             if (can[i] >> k & 1) {
                 check(tally[i][k] >= 100, "%s: refusal %u (0: answered) only %u times by chance", names[i], k, tally[i][k]);
             }
@@ -239,8 +240,8 @@ void chances(void) {
     varied();
     say("%u calls by chance, seed %u; answered and refused with 1 to 10:\n", (unsigned)CALLS, (unsigned)SEED);
     for (size_t i = 0; i < FUNCTIONS; i++) {
-        for (unsigned k = 0; k <= 10; k++) {
-            say(k == 10 ? "%u\n" : "%u ", tally[i][k]);
+        for (unsigned k = 0; k <= LAST_REFUSAL; k++) {
+            say(k == LAST_REFUSAL ? "%u\n" : "%u ", tally[i][k]);
         }
     }
 }

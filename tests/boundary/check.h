@@ -6,6 +6,17 @@
 
 #include <stdbool.h>
 
+/* Refusals as bits, with an answer as bit 0: those that each function can have. */
+#define BIT(refusal) (1u << JHARTUPAL_##refusal)
+enum {
+    ANSWERED = 1,
+    OF_FRAME = BIT(SHORT_BUFFER) | BIT(ILL_FORMED) | BIT(BAD_SIZE) | BIT(NOT_OURS) | BIT(BAD_SOURCE) | BIT(UNKNOWN_FORM) | BIT(UNPROVEN),
+    OF_NEXT = BIT(SHORT_BUFFER) | BIT(ILL_FORMED) | BIT(NO_EXCHANGE) | BIT(UNPROVEN) | BIT(BAD_WINDOW),
+    OF_EVENT = BIT(ILL_FORMED),
+    OF_MAKE = BIT(BAD_SETUP),
+    LAST_REFUSAL = JHARTUPAL_BAD_WINDOW
+};
+
 /* libc's, declared here: where the kit's clang compiles for another machine than this one there are no headers of a libc for it. */
 void *memcpy(void *to, const void *from, size_t n);
 void *memset(void *to, int byte, size_t n);
@@ -21,7 +32,7 @@ int close_checks(void);
 /* A frame, in or out. */
 struct frame {
     size_t n;
-    uint8_t b[2140];
+    uint8_t b[JHARTUPAL_MOST_FRAME + 4];
 };
 
 enum { OWN = 0xEF, ROOM = JHARTUPAL_REPLY, MOST_ROOM = 4096 };
@@ -67,7 +78,7 @@ uint64_t next_out(struct jhartupal_drive *d, uint32_t address, uint16_t ox_id, u
 uint64_t event(struct jhartupal_drive *d, int number);
 enum { LOOP_RESET, TIME_OVER, POWER_ON };
 
-/* session.c: a call with a reply buffer of 2,136 bytes, and that its reply is the wanted one */
+/* session.c: a call with a reply buffer of just the room that is asked for, and that its reply is the wanted one */
 uint64_t take(struct jhartupal_drive *d, const struct frame *f);
 void replies(const char *what, uint64_t said, const struct frame *wanted);
 /* a made drive; a login, paired, its attention taken; eight of them with eight exchanges each */
@@ -78,6 +89,7 @@ void full(struct jhartupal_drive *d);
 bool well_formed(const struct jhartupal_drive *d);
 
 /* the parts of the test */
+void header(void);
 void session(void);
 void refusals(void);
 void damages(void);

@@ -10,11 +10,11 @@ static bool valid_address(uint32_t n) {
 
 /* "from 256 to 2,112 and a multiple of 4" */
 static bool size_fits(unsigned size) {
-    return 256 <= size && size <= 2112 && size % 4 == 0;
+    return JHARTUPAL_LEAST_SIZE <= size && size <= JHARTUPAL_MOST_SIZE && size % 4 == 0;
 }
 
 static bool named(const uint8_t *name) {
-    for (size_t i = 0; i < 8; i++) {
+    for (size_t i = 0; i < JHARTUPAL_NAME; i++) {
         if (name[i] != 0) {
             return true;
         }
@@ -33,17 +33,17 @@ static bool words_pass(const uint8_t *words) {
 /* "each exchange is one an accepted command could open" */
 static bool could_open(const struct jhartupal_exchange *e, uint64_t capacity) {
     switch (e->kind) {
-    case 1: /* READ(10): "address not below capacity, or address plus count above it" is refused; "count x 512" */
-        return 1 <= e->blocks && e->blocks <= 65535 && e->wanted == 512 * e->blocks && e->start < capacity && e->blocks <= capacity - e->start;
-    case 2: /* INQUIRY: "36 or byte 4 if smaller", and so of another LUN */
-    case 3:
+    case JHARTUPAL_READ: /* READ(10): "address not below capacity, or address plus count above it" is refused; "count x 512" */
+        return 1 <= e->blocks && e->blocks <= JHARTUPAL_MOST_READ && e->wanted == JHARTUPAL_BLOCK * e->blocks && e->start < capacity && e->blocks <= capacity - e->start;
+    case JHARTUPAL_INQUIRY: /* INQUIRY: "36 or byte 4 if smaller", and so of another LUN */
+    case JHARTUPAL_INQUIRY_OTHER_UNIT:
         return 1 <= e->wanted && e->wanted <= 36;
-    case 4: /* READ CAPACITY: "8" */
+    case JHARTUPAL_READ_CAPACITY: /* READ CAPACITY: "8" */
         return e->wanted == 8;
-    case 5: /* REQUEST SENSE: "18 or byte 4 if smaller", with 00/00/00, 29h, 2Fh, or of another LUN */
-    case 6:
-    case 7:
-    case 8:
+    case JHARTUPAL_SENSE_NONE: /* REQUEST SENSE: "18 or byte 4 if smaller", with 00/00/00, 29h, 2Fh, or of another LUN */
+    case JHARTUPAL_SENSE_RESET:
+    case JHARTUPAL_SENSE_CLEARED:
+    case JHARTUPAL_SENSE_OTHER_UNIT:
         return 1 <= e->wanted && e->wanted <= 18;
     default:
         return false;
@@ -53,22 +53,22 @@ static bool could_open(const struct jhartupal_exchange *e, uint64_t capacity) {
 /* "with bytes sent at most its total and, short of it, a whole number of full frames"; and the frames counted modulo 65,536 */
 static bool sent_fits(const struct jhartupal_exchange *e, unsigned size) {
     uint32_t total = e->wanted < e->expected ? e->wanted : e->expected;
-    uint32_t frame = size < 2048 ? size : 2048;
+    uint32_t frame = size < JHARTUPAL_MOST_DATA ? size : JHARTUPAL_MOST_DATA;
     uint32_t frames = e->sent / frame + (e->sent % frame != 0);
     return 1 <= e->expected && e->sent <= total && (e->sent == total || e->sent % frame == 0) && e->count == (frames & 0xFFFF);
 }
 
 static bool places_fit(const struct jhartupal_login *l, uint64_t capacity) {
-    for (size_t j = 0; j < 8; j++) {
+    for (size_t j = 0; j < JHARTUPAL_PLACES; j++) {
         const struct jhartupal_exchange *e = &l->places[j];
-        if (e->kind == 0) {
+        if (e->kind == JHARTUPAL_FREE) {
             continue;
         }
         if (l->used == 0 || l->paired == 0 || !could_open(e, capacity) || !sent_fits(e, l->size)) {
             return false; /* "exchanges only at paired logins" */
         }
         for (size_t k = 0; k < j; k++) { /* "OX_IDs distinct within a login" */
-            if (l->places[k].kind != 0 && l->places[k].ox_id == e->ox_id) {
+            if (l->places[k].kind != JHARTUPAL_FREE && l->places[k].ox_id == e->ox_id) {
                 return false;
             }
         }
@@ -78,17 +78,17 @@ static bool places_fit(const struct jhartupal_login *l, uint64_t capacity) {
 
 /* "login addresses valid, .. not ours; stored parameters pass the PLOGI rules"; flags are 0 or 1, the attention none, 29h or 2Fh */
 static bool login_fits(const struct jhartupal_login *l, uint32_t own) {
-    bool flags = l->proven <= 1 && l->paired <= 1 && (l->attention == 0 || l->attention == 0x29 || l->attention == 0x2F);
+    bool flags = l->proven <= 1 && l->paired <= 1 && (l->attention == JHARTUPAL_NO_ATTENTION || l->attention == JHARTUPAL_RESET || l->attention == JHARTUPAL_CLEARED);
     return flags && valid_address(l->address) && l->address != own && named(l->port) && named(l->node) && size_fits(l->size) && l->concurrent != 0
         && l->sequences != 0;
 }
 
 bool well_formed(const struct jhartupal_drive *d) {
     const struct jhartupal_port *p = &d->port;
-    if (d->unit.capacity < 1 || d->unit.capacity > 4294967295 || !valid_address(p->address) || !words_pass(p->accept)) {
+    if (d->unit.capacity < JHARTUPAL_LEAST_BLOCKS || d->unit.capacity > JHARTUPAL_MOST_BLOCKS || !valid_address(p->address) || !words_pass(p->accept)) {
         return false; /* "setup rules hold" */
     }
-    for (size_t i = 0; i < 8; i++) {
+    for (size_t i = 0; i < JHARTUPAL_LOGINS; i++) {
         const struct jhartupal_login *l = &p->logins[i];
         if (l->used > 1 || (l->used == 1 && !login_fits(l, p->address)) || !places_fit(l, d->unit.capacity)) {
             return false;

@@ -133,12 +133,11 @@ struct call {
     size_t least, most;
     bool writes;
 };
-enum { ONE = 1 << 1, TWO = 1 << 2, SEVEN = 1 << 7, EIGHT = 1 << 8, NINE = 1 << 9, TEN = 1 << 10, ONE_TO_SEVEN = 0xFE };
-static const struct call make_call = {"drive_make", EIGHT, 0, 0, false};
-static const struct call frame_call = {"drive_frame", ONE_TO_SEVEN, 0, 24 + 116, true};
-static const struct call next_call = {"drive_next", ONE | TWO | NINE | SEVEN | TEN, 28, 24 + JHARTUPAL_MOST_DATA, true};
+static const struct call make_call = {"drive_make", OF_MAKE, 0, 0, false};
+static const struct call frame_call = {"drive_frame", OF_FRAME, 0, 24 + 4 + JHARTUPAL_ACCEPT, true};
+static const struct call next_call = {"drive_next", OF_NEXT, 28, 24 + JHARTUPAL_MOST_DATA, true};
 static const struct call event_calls[] = {
-    {"drive_loop_reset", TWO, 0, 0, false}, {"drive_time_over", TWO, 0, 0, false}, {"drive_power_on", TWO, 0, 0, false}};
+    {"drive_loop_reset", OF_EVENT, 0, 0, false}, {"drive_time_over", OF_EVENT, 0, 0, false}, {"drive_power_on", OF_EVENT, 0, 0, false}};
 
 static void buffer_kept(const struct call *c, unsigned long long said, size_t n, size_t room) {
     promise(guarded(reply_end, room), "%s: wrote before the reply buffer", c->name);
@@ -152,7 +151,7 @@ static uint64_t told(const struct call *c, unsigned long long said, struct jhart
     bool refused = said >= JHARTUPAL_REFUSED;
     size_t n = refused ? 0 : (size_t)said;
     if (refused) {
-        promise(said <= JHARTUPAL_REFUSED + 10 && (c->refusals >> (said - JHARTUPAL_REFUSED) & 1) == 1, "%s: answers %llu", c->name, said);
+        promise(said <= JHARTUPAL_REFUSED + LAST_REFUSAL && (c->refusals >> (said - JHARTUPAL_REFUSED) & 1) == 1, "%s: answers %llu", c->name, said);
         promise(same(after, d), "%s: answers %llu and the state is changed", c->name, said);
     } else {
         promise((n == 0 || n >= 28) && c->least <= n && n <= c->most && n % 4 == 0, "%s: answers %llu", c->name, said);

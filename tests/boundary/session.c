@@ -52,8 +52,8 @@ static void stored(void) {
     l->sequences = 0x05;
     l->size = 2048;
     l->address = 0x01;
-    memcpy(l->port, f.b + 44, 8);
-    memcpy(l->node, f.b + 52, 8);
+    memcpy(l->port, f.b + 44, JHARTUPAL_NAME);
+    memcpy(l->node, f.b + 52, JHARTUPAL_NAME);
     check(same(&d, &wanted), "PLOGI: keeps the login at the first place");
     take(&d, &g);
     l->paired = 1;
@@ -65,7 +65,7 @@ static void stored(void) {
 
 /* The exchange that is open at a login's first place. */
 static void stands(const char *what, const struct jhartupal_exchange *e, uint64_t start, uint32_t blocks, uint32_t expected, uint32_t sent, unsigned count) {
-    check(e->start == start && e->blocks == blocks && e->wanted == 512 * blocks && e->expected == expected && e->sent == sent && e->ox_id == 0x0B01
+    check(e->start == start && e->blocks == blocks && e->wanted == JHARTUPAL_BLOCK * blocks && e->expected == expected && e->sent == sent && e->ox_id == 0x0B01
               && e->count == count && e->kind == JHARTUPAL_READ,
           "%s: after %u bytes in %u frames the exchange is %llu, %u, %u, %u, %u, %04X, %u, %u", what, sent, count, (unsigned long long)e->start, e->blocks, e->wanted,
           e->expected, e->sent, e->ox_id, e->count, e->kind);
@@ -75,14 +75,14 @@ static void stands(const char *what, const struct jhartupal_exchange *e, uint64_
 static void reads(const char *what, uint64_t capacity, uint16_t size, uint32_t block, uint16_t count, uint32_t dl, uint8_t flags, uint32_t residual) {
     struct jhartupal_drive d, before;
     struct frame f = reading(0x02, 0x0B01, block, count, dl), wanted = response(&f, flags, residual);
-    uint32_t total = dl < 512u * count ? dl : 512u * count, most = size < 2048 ? size : 2048, number = 0;
+    uint32_t all = (uint32_t)JHARTUPAL_BLOCK * count, total = dl < all ? dl : all, most = size < JHARTUPAL_MOST_DATA ? size : JHARTUPAL_MOST_DATA, number = 0;
     made(&d, capacity);
     paired(&d, 0x02, size);
     memcpy(&before, &d, sizeof d);
     silent(what, take(&d, &f));
     for (uint32_t offset = 0; offset < total; offset += most) {
-        uint32_t n = total - offset < most ? total - offset : most, ahead = offset % 512;
-        uint64_t start = (uint64_t)block + offset / 512;
+        uint32_t n = total - offset < most ? total - offset : most, ahead = offset % JHARTUPAL_BLOCK;
+        uint64_t start = (uint64_t)block + offset / JHARTUPAL_BLOCK;
         struct frame g = data(&f, (uint16_t)number, offset, unit_bytes(start, ahead + n) + ahead, n, offset + n == total);
         stands(what, &d.port.logins[0].places[0], block, count, dl, offset, number);
         replies(what, next_out(&d, 0x02, 0x0B01, start, unit_bytes(start, ahead + n), ahead + n, ROOM), &g);
@@ -91,23 +91,25 @@ static void reads(const char *what, uint64_t capacity, uint16_t size, uint32_t b
     stands(what, &d.port.logins[0].places[0], block, count, dl, total, number);
     replies(what, next_out(&d, 0x02, 0x0B01, 0, identity, 0, ROOM), &wanted);
     check(same(&d, &before), "%s: the place is free again", what);
-    check(next_out(&d, 0x02, 0x0B01, block, unit_bytes(block, 2048), 2048, ROOM) == 65536 + 9, "%s: no exchange any more", what);
+    check(next_out(&d, 0x02, 0x0B01, block, unit_bytes(block, 2048), 2048, ROOM) == JHARTUPAL_REFUSED + JHARTUPAL_NO_EXCHANGE, "%s: no exchange any more", what);
 }
 
 /* Windows that stand for others where a byte's place is held in 32 bits: block 8,388,608 is no block 0. */
 static void no_wrap(void) {
     struct jhartupal_drive d;
-    struct frame f = reading(0x02, 0x0B01, ACROSS, 4, 2048), g = data(&f, 4, 1024, unit_bytes(8388608, 256), 256, false);
+    struct frame f = reading(0x02, 0x0B01, ACROSS, 4, 2048), g = data(&f, 4, 1024, unit_bytes(8388608, JHARTUPAL_LEAST_SIZE), JHARTUPAL_LEAST_SIZE, false);
+    size_t short_by_one = JHARTUPAL_BLOCK + JHARTUPAL_LEAST_SIZE - 1;
+    uint64_t refused = JHARTUPAL_REFUSED + JHARTUPAL_BAD_WINDOW;
     made(&d, CAPACITY);
-    paired(&d, 0x02, 256);
+    paired(&d, 0x02, JHARTUPAL_LEAST_SIZE);
     silent("READ", take(&d, &f));
     for (int i = 0; i < 4; i++) {
-        check(next_out(&d, 0x02, 0x0B01, ACROSS, unit_bytes(ACROSS, 1024), 1024, ROOM) == 24 + 256, "READ: frame %d", i);
+        check(next_out(&d, 0x02, 0x0B01, ACROSS, unit_bytes(ACROSS, 1024), 1024, ROOM) == 24 + JHARTUPAL_LEAST_SIZE, "READ: frame %d", i);
     }
-    check(next_out(&d, 0x02, 0x0B01, 0, unit_bytes(0, 2048), 2048, ROOM) == 65536 + 10, "block 0 stands for block 8,388,608");
-    check(next_out(&d, 0x02, 0x0B01, 8388608 + (UINT64_C(1) << 55), unit_bytes(0, 2048), 2048, ROOM) == 65536 + 10, "block 2^55 + 8,388,608 stands for 8,388,608");
-    check(next_out(&d, 0x02, 0x0B01, 8388607, unit_bytes(8388607, 512 + 255), 512 + 255, ROOM) == 65536 + 10, "a window that ends a byte early covers");
-    replies("from block 8,388,608 on", next_out(&d, 0x02, 0x0B01, 8388608, unit_bytes(8388608, 256), 256, ROOM), &g);
+    check(next_out(&d, 0x02, 0x0B01, 0, unit_bytes(0, 2048), 2048, ROOM) == refused, "block 0 stands for block 8,388,608");
+    check(next_out(&d, 0x02, 0x0B01, 8388608 + (UINT64_C(1) << 55), unit_bytes(0, 2048), 2048, ROOM) == refused, "block 2^55 + 8,388,608 stands for 8,388,608");
+    check(next_out(&d, 0x02, 0x0B01, 8388607, unit_bytes(8388607, short_by_one), short_by_one, ROOM) == refused, "a window that ends a byte early covers");
+    replies("from block 8,388,608 on", next_out(&d, 0x02, 0x0B01, 8388608, unit_bytes(8388608, JHARTUPAL_LEAST_SIZE), JHARTUPAL_LEAST_SIZE, ROOM), &g);
 }
 
 static void fetched(const char *what, struct jhartupal_drive *d, struct frame f, const uint8_t *content, size_t n) {
@@ -130,7 +132,7 @@ static void made_data(void) {
     uint8_t inquiry[36] = {0x00, 0x00, 0x02, 0x02, 0x1F, 0x00, 0x00, 0x02}, last[8];
     struct frame f = plogi(0x01, 2048), g = prli(0x01), h = reading(0x01, 0x0C03, 0, 1, 512), i = task(0x02, 0x0C04, 0x04);
     memcpy(inquiry + 8, identity, sizeof identity);
-    put(last, (uint64_t)(CAPACITY - 1) << 32 | 512, 8);
+    put(last, (uint64_t)(CAPACITY - 1) << 32 | JHARTUPAL_BLOCK, 8);
     made(&d, CAPACITY);
     take(&d, &f);
     take(&d, &g);
@@ -141,7 +143,7 @@ static void made_data(void) {
     senses("REQUEST SENSE", &d, 0, 0x00, 0x00);
     senses("REQUEST SENSE of another LUN", &d, 1, 0x05, 0x25);
     fetched("READ CAPACITY", &d, command(0x01, 0x0C01, 0x25, 0, 0, 8), last, 8);
-    paired(&d, 0x02, 256);
+    paired(&d, 0x02, JHARTUPAL_LEAST_SIZE);
     silent("READ that is cleared", take(&d, &h));
     check(take(&d, &i) == 24 + 32 && d.port.logins[0].attention == JHARTUPAL_CLEARED, "clear task set: attention 2Fh");
     senses("REQUEST SENSE with 2Fh", &d, 0, 0x06, 0x2F);
@@ -169,7 +171,7 @@ static struct frame opening(uint8_t host, unsigned place) {
 void full(struct jhartupal_drive *d) {
     made(d, CAPACITY);
     for (size_t i = 0; i < JHARTUPAL_LOGINS; i++) {
-        paired(d, hosts[i], 256);
+        paired(d, hosts[i], JHARTUPAL_LEAST_SIZE);
         for (unsigned j = 0; j < JHARTUPAL_PLACES; j++) {
             struct frame f = opening(hosts[i], j);
             silent("opens", take(d, &f));
@@ -183,13 +185,13 @@ static struct frame first_data(uint8_t host, unsigned place) {
     uint8_t made_bytes[36] = {0};
     struct frame f = opening(host, place);
     if (kinds[place] == 0) {
-        return data(&f, 0, 0, unit_bytes(ACROSS + host + place, 256), 256, false);
+        return data(&f, 0, 0, unit_bytes(ACROSS + host + place, JHARTUPAL_LEAST_SIZE), JHARTUPAL_LEAST_SIZE, false);
     }
     if (kinds[place] == 36) {
         put(made_bytes, place == 2 ? 0x000002021F000002 : 0x7F0002021F000002, 8);
         memcpy(made_bytes + 8, identity, sizeof identity);
     } else if (kinds[place] == 8) {
-        put(made_bytes, (uint64_t)(CAPACITY - 1) << 32 | 512, 8);
+        put(made_bytes, (uint64_t)(CAPACITY - 1) << 32 | JHARTUPAL_BLOCK, 8);
     } else {
         put(made_bytes, place == 5 ? 0x700000000000000A : 0x700005000000000A, 8);
         made_bytes[12] = place == 5 ? 0x00 : 0x25;
@@ -199,7 +201,8 @@ static struct frame first_data(uint8_t host, unsigned place) {
 
 /* Every place of every login: what the drive stores there, and that the next frame of an exchange moves it alone. */
 static void every_place(void) {
-    static const uint8_t kinds[JHARTUPAL_PLACES] = {1, 1, 2, 3, 4, 5, 8, 1};
+    static const uint8_t kinds[JHARTUPAL_PLACES] = {JHARTUPAL_READ,          JHARTUPAL_READ,       JHARTUPAL_INQUIRY,          JHARTUPAL_INQUIRY_OTHER_UNIT,
+                                                  JHARTUPAL_READ_CAPACITY, JHARTUPAL_SENSE_NONE, JHARTUPAL_SENSE_OTHER_UNIT, JHARTUPAL_READ};
     static const uint32_t wanted[JHARTUPAL_PLACES] = {2048, 2048, 36, 36, 8, 18, 18, 2048};
     struct jhartupal_drive d, after;
     full(&d);
@@ -210,11 +213,11 @@ static void every_place(void) {
             struct frame g = first_data(hosts[i], j);
             uint64_t block = e->start;
             check(e->kind == kinds[j] && e->ox_id == 0x1000 + j && e->wanted == wanted[j] && e->expected == wanted[j] && e->sent == 0 && e->count == 0
-                      && e->start == (kinds[j] == 1 ? ACROSS + hosts[i] + j : 0) && e->blocks == (kinds[j] == 1 ? 4 : 0),
+                      && e->start == (kinds[j] == JHARTUPAL_READ ? ACROSS + hosts[i] + j : 0) && e->blocks == (kinds[j] == JHARTUPAL_READ ? 4 : 0),
                   "exchange %u of login %zu stands at its place", j, i);
             memcpy(&after, &d, sizeof d);
-            replies("one of 64", next_out(&after, hosts[i], e->ox_id, block, unit_bytes(block, 256), 256, ROOM), &g);
-            e->sent = wanted[j] < 256 ? wanted[j] : 256;
+            replies("one of 64", next_out(&after, hosts[i], e->ox_id, block, unit_bytes(block, JHARTUPAL_LEAST_SIZE), JHARTUPAL_LEAST_SIZE, ROOM), &g);
+            e->sent = wanted[j] < JHARTUPAL_LEAST_SIZE ? wanted[j] : JHARTUPAL_LEAST_SIZE;
             e->count = 1;
             check(same(&after, &d), "the next frame moves exchange %u of login %zu alone", j, i);
         }
@@ -250,12 +253,12 @@ static void events(void) {
 void session(void) {
     stored();
     reads("one frame across", CAPACITY, 2048, ACROSS, 4, 2048, 0, 0);
-    reads("eight frames across", CAPACITY, 256, ACROSS, 4, 2048, 0, 0);
-    reads("frames of 2,048 across, a size of 2,112", CAPACITY, 2112, ACROSS, 9, 4608, 0, 0);
+    reads("eight frames across", CAPACITY, JHARTUPAL_LEAST_SIZE, ACROSS, 4, 2048, 0, 0);
+    reads("frames of 2,048 across, a size of 2,112", CAPACITY, JHARTUPAL_MOST_SIZE, ACROSS, 9, 4608, 0, 0);
     reads("frames of 300 across, no whole blocks", CAPACITY, 300, ACROSS - 1, 7, 3584, 0, 0);
     reads("1,001 of 1,024 bytes", CAPACITY, 2048, ACROSS + 1, 2, 1001, 0x04, 23);
-    reads("1,024 of 2,048 bytes", CAPACITY, 256, ACROSS + 1, 2, 2048, 0x08, 1024);
-    reads("the last block of all", JHARTUPAL_MOST_BLOCKS, 2048, 4294967294, 1, 512, 0, 0);
+    reads("1,024 of 2,048 bytes", CAPACITY, JHARTUPAL_LEAST_SIZE, ACROSS + 1, 2, 2048, 0x08, 1024);
+    reads("the last block of all", JHARTUPAL_MOST_BLOCKS, 2048, (uint32_t)(JHARTUPAL_MOST_BLOCKS - 1), 1, 512, 0, 0);
     no_wrap();
     made_data();
     every_place();

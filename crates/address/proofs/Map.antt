@@ -1,13 +1,13 @@
 -- The map of bits has the valid addresses, and there are exactly 126 of them. Assumes nothing.
-use mathlib.Core.Path.{_≡_, refl, sym, ap, _∙_}
-use mathlib.Core.Bool.{Bool, true, false, Bool·beq}
-use mathlib.Core.List.{List, [], _∷_}
+use mathlib.Core.Path.{_≡_, refl, ap, _∙_}
+use mathlib.Core.Bool.{Bool, false}
+use mathlib.Core.List.{[], _∷_}
 use Prim.Native.Nat.{ℕ, _+_, _-_, _≤_, _<_, _/_, _%_, _^_}
 use native.Mathlib.Omega.{arith}
 use lib.Dec.{eqb}
 use lib.ListN.{length, getD}
 use borrow.Author.Tests.{ne-eqb}
-use Rattle.tables.specs.Lists.{allBelow, countBelow}
+use Rattle.tables.specs.Lists.{countBelow}
 use Rattle.tables.proofs.Below.{agree, count-from}
 use Rattle.address.specs.Address.{loopAddresses, validAddress}
 

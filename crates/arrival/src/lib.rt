@@ -63,7 +63,7 @@ pub enum Judged {
 pub fn judge(u: Unit, p: Port, h: Header, frame: &[u8], room: usize) -> Judged
     ensures { λ r. ⌜ r ≡ judgedOf u p h (now (frame .entry)) room ⌝ }
 {
-    if room < 2136 {
+    if room < Header::MOST_FRAME {
         return Judged::Refused(Refusal::ShortBuffer);
     }
     if ill_formed(u, p) {
@@ -97,10 +97,10 @@ fn ill_formed(u: Unit, p: Port) -> bool
 fn bad_size(size: usize) -> bool
     ensures { λ r. ⌜ r ≡ badSize size ⌝ }
 {
-    if size < 24 {
+    if size < Header::LEAST_FRAME {
         return true;
     }
-    if 2136 < size {
+    if Header::MOST_FRAME < size {
         return true;
     }
     size % 4 != 0

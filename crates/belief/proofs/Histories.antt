@@ -1,7 +1,7 @@
 -- Demand 3 is not empty: a host that keeps its rules logs in and pairs; after power on it is sure and wrong, until the next frame puts it right. Assumes nothing.
-use Prim.Native.Nat.{ℕ, _<_}
-use mathlib.Core.Path.{_≡_, refl, sym, ap, _∙_}
-use mathlib.Core.Bool.{Bool, true, false}
+use Prim.Native.Nat.{ℕ}
+use mathlib.Core.Path.{_≡_, refl}
+use mathlib.Core.Bool.{true}
 use mathlib.Core.List.{List, [], _∷_}
 use native.Mathlib.Decide.{decLe}
 use native.Mathlib.Omega.{arith}
@@ -15,27 +15,23 @@ use Rattle.wire.specs.Layout.{AllBytes}
 use Rattle.frame.specs.Head.{headerOf, headerBytes}
 use Rattle.address.specs.Address.{validAddress}
 use Rattle.params.specs.Words.{paramsOf, sizeFails, zeroName, verdictOf, setupPasses}
-use Rattle.state.specs.Changes.{loginAt, exchangeAt, withLogin, withExchange, hasAddress, endedOf, changedAll, poweredOn}
-use Rattle.state.specs.Tables.{hasId, findLogin, freeLogin, findExchange, freeExchange, lookupOf}
-use Rattle.formed.specs.Formed.{setupRules, readFits, wantedFits, sentFits, exchangeFine, apartId, paramsFine, flagsFine, addressFine, usedFine, loginFine, apartAddress, wellFormed}
-use Rattle.reply.specs.Payload.{shortBytes, loginBytes, pairBytes, rejectBytes, logoutBytes, statusBytes, codeBytes, senseBytes}
-use Rattle.reply.specs.Reply.{answerHead, logoutHead, dataHead, filled, bytesOf}
-use Rattle.residual.specs.Residual.{residualOf}
+use Rattle.state.specs.Changes.{loginAt, withLogin, hasAddress, endedOf, changedAll, poweredOn}
+use Rattle.state.specs.Tables.{hasId, findLogin, freeLogin, findExchange}
+use Rattle.formed.specs.Formed.{setupRules, exchangeFine, apartId, paramsFine, flagsFine, addressFine, usedFine, loginFine, apartAddress, wellFormed}
+use Rattle.reply.specs.Payload.{shortBytes, loginBytes, pairBytes, logoutBytes}
+use Rattle.reply.specs.Reply.{answerHead, logoutHead, filled, bytesOf}
 use Rattle.link.specs.Link.{sizeOf, newLogin, outcomeOf, plogiOf, pageFine, pairFine, prliOf, serviceOf, linkOf}
-use Rattle.link.specs.Record.{Kept, Record, out, held, keptFrom, recordOf}
-use Rattle.command.specs.Cmnd.{cmndOf, malformed, taskFor, taskOf}
-use Rattle.command.specs.Tests.{skips, otherUnit, attends, unknownCode, inquiryField, capacityField, fieldSet, outside, exchangeFor, askedOf}
-use Rattle.command.specs.Command.{refusedWith, toldOf, answerOf, executeOf, commandedAt, loggedOut, commandOf}
+use Rattle.link.specs.Record.{Kept, out, held, keptFrom, recordOf}
+use Rattle.command.specs.Command.{loggedOut, commandOf}
 use Rattle.serve.specs.Next.{ownOf}
 use Rattle.arrival.specs.Arrival.{badSize, badSource, knownPair, unknownForm, spared, unprovenLogin, unprovenCall, kindOf, judgedOf}
-use Rattle.drive.specs.declared.Drive.{Drive}
 use Rattle.drive.specs.Drive.{madeFrom, afterEvent, eventAnswer}
 use Rattle.drive.specs.Entry.{replyBytes, frameIn, frameInBuffer}
-use Rattle.demands.proofs.Numbers.{words, made, plogi, prli, ready}
+use Rattle.demands.proofs.Numbers.{made, plogi, prli, ready}
 use Rattle.belief.specs.Host as host
-use Rattle.belief.specs.Host.{Belief, unsure, sure, Request}
+use Rattle.belief.specs.Host.{sure}
 use Rattle.belief.specs.Demand3.{Event, send, heard, lapse, World, run, start, Keeps}
-use Rattle.belief.specs.Wire.{FromHost, Linked, Framed, Makes, power-on, theDrive}
+use Rattle.belief.specs.Wire.{FromHost, power-on, theDrive}
 
 -- elements that are bytes, by one test
 pub bytes-known : (s : List ℕ) → all (λ b. ltb b 256) s ≡ true → AllBytes s

@@ -1,12 +1,12 @@
 -- Drives that the laws keep out.
 -- Assumes nothing.
 use mathlib.Core.Path.{_≡_, refl, sym, _∙_, ap, subst}
-use mathlib.Core.Bool.{Bool, true, false}
-use mathlib.Core.List.{List, [], _∷_}
-use Rattle.link.specs.Record.{Kept, Record, out, held}
-use Rattle.belief.specs.Host.{Belief, unsure, sure, Request, plogi, logo, Answer, none, acc, rjt, dlogo, other, MayOut, hears}
+use mathlib.Core.Bool.{true, false}
+use mathlib.Core.List.{[]}
+use Rattle.link.specs.Record.{Kept, out, held}
+use Rattle.belief.specs.Host.{Belief, unsure, sure, Request, plogi, logo, Answer, acc, rjt, MayOut, hears}
 use Rattle.belief.specs.Side.{Side, Laws, Held, OnPlogi, OnLogo, Meets}
-use Rattle.belief.specs.Demand3.{send, heard, some, History, Demand3}
+use Rattle.belief.specs.Demand3.{some, Demand3}
 
 module _ (D : Side) (laws : Laws D) where
   -- the record after an accepted PLOGI, and after an accepted LOGO

@@ -4,25 +4,18 @@ use mathlib.Core.Path.{_≡_, refl, sym, ap, _∙_, subst}
 use mathlib.Core.Bool.{Bool, true, false, cond, not}
 use mathlib.Core.List.{List}
 use mathlib.Core.Logic.{_⊎_, inl, inr}
-use native.Mathlib.Omega.{arith}
-use lib.Dec.{eqb}
 use lib.ListN.{length}
 use Rattle.tables.specs.declared.Found.the-variants.{At}
-use Rattle.tables.specs.Lists.{pairs}
 use Rattle.tables.proofs.Bools.{apart}
-use Rattle.wire.specs.Layout.{AllBytes}
 use Rattle.frame.specs.Head.{headerOf}
-use Rattle.state.specs.declared.Exchange.{Exchange}
 use Rattle.state.specs.declared.Port.{Port}
 use Rattle.state.specs.declared.Unit.{Unit}
-use Rattle.state.specs.declared.Standing.{Standing}
-use Rattle.state.specs.declared.Standing.the-variants as standing
-use Rattle.state.specs.Changes.{hasAddress, loginAt, withLogin, withExchange}
-use Rattle.state.specs.Tables.{findLogin, lookupOf}
+use Rattle.state.specs.Changes.{hasAddress, loginAt, withExchange}
+use Rattle.state.specs.Tables.{findLogin}
 use Rattle.state.proofs.Places.{found-has, open-place}
-use Rattle.formed.specs.Formed.{apartAddress, wellFormed}
+use Rattle.formed.specs.Formed.{wellFormed}
 use Rattle.formed.proofs.Parts.{formed-parts}
-use Rattle.link.specs.Record.{Kept, Record, out, held, recordAt, recordOf, doubted}
+use Rattle.link.specs.Record.{Record, out, held, recordOf, doubted}
 use Rattle.link.proofs.Records.{expired, found-record, power-record, reset-record, over-record}
 use Rattle.link.proofs.Services.{same-kept}
 use Rattle.link.proofs.Requests.{others-kept, abts-records}
@@ -31,7 +24,7 @@ use Rattle.serve.specs.declared.Given.{Given}
 use Rattle.serve.specs.declared.Given.the-variants as given
 use Rattle.serve.specs.declared.Step.{Step}
 use Rattle.serve.specs.declared.Step.the-variants as step
-use Rattle.serve.specs.Next.{exchangeOf, fullOf, nextExchange, openStep, stepAt, stepOf, portAfter, nextAt, nextOf}
+use Rattle.serve.specs.Next.{exchangeOf, fullOf, nextExchange, stepOf, portAfter, nextAt, nextOf}
 use Rattle.serve.specs.Whole.{isSent as given-sent}
 use Rattle.serve.proofs.Steps.{passed}
 use Rattle.serve.proofs.Moving.{next-only}
@@ -44,16 +37,15 @@ use Rattle.arrival.specs.Arrival.{shortBuffer, kindOf, judgedOf}
 use Rattle.arrival.proofs.Passes as arrives
 use Rattle.drive.specs.declared.Drive.{Drive}
 use Rattle.drive.specs.declared.Answer.{Answer}
-use Rattle.drive.specs.declared.Said.{Said}
 use Rattle.drive.specs.declared.Said.the-variants.{Sent, Refused}
 use Rattle.drive.specs.declared.Event.the-variants.{LoopReset, TimeOver, PowerOn}
 use Rattle.drive.specs.Drive.{refused, afterEvent, eventAnswer}
 use Rattle.drive.specs.Entry.{decidedOf, decidedIn, answered, onJudged, frameIn, saidOf, served, nextFrame}
 use Rattle.drive.proofs.Made.{event-answered}
 use Rattle.drive.proofs.Keeping.{frame-kept, next-frame-kept, event-fine}
-use Rattle.belief.specs.Side.{Held, Side, Laws}
+use Rattle.belief.specs.Side.{Held, Laws}
 use Rattle.belief.specs.Demand3.{Demand3}
-use Rattle.belief.specs.Wire.{FromHost, ForHost, isSent, Others, frame, answer, next, others, Loss, power-on, time-over, afterLoss, theDrive}
+use Rattle.belief.specs.Wire.{isSent, Others, frame, answer, next, others, Loss, power-on, time-over, afterLoss, theDrive}
 use Rattle.belief.proofs.Keep.{demand3}
 use Rattle.belief.proofs.Takes.{host-takes}
 

@@ -1,14 +1,14 @@
 -- Demand 3 for every drive that keeps the laws of `specs/Side`.
 -- Assumes nothing.
 use mathlib.Core.Path.{_≡_, refl, sym, _∙_, ap, subst}
-use mathlib.Core.Bool.{Bool, true, false, true≢false, false≢true}
+use mathlib.Core.Bool.{Bool, true, false, false≢true}
 use mathlib.Core.List.{List, [], _∷_}
 use mathlib.Core.Logic.{_⊎_, inl, inr}
 use Rattle.link.specs.Record.{Kept, Record, out, held, proved, paired, unpaired, doubted}
 use Rattle.belief.specs.Host.{Belief, unsure, sure, Request, plogi, pdisc, logo, adisc, prli, prlo, rrq, command, abts}
 use Rattle.belief.specs.Host.{Answer, none, acc, rjt, dlogo, other, same, think, May, MayOut, hears, afterPlogi, afterLogo, afterLink, afterCommand}
 use Rattle.belief.specs.Side.{Side, Laws, Held, Paired, OnPlogi, OnLogo, OnLink, OnCommand, Meets}
-use Rattle.belief.specs.Demand3.{Fate, lost, mute, heard, Event, send, next, pass, reset, lapse, forget, World, sees, lands, step, run, Follows, Keeps, Free, Agrees, Fine, both, some, reaches, start, History, Demand3}
+use Rattle.belief.specs.Demand3.{Fate, lost, mute, heard, Event, send, next, pass, reset, lapse, forget, World, sees, step, run, Follows, Keeps, Free, Agrees, Fine, both, some, reaches, start, History, Demand3}
 
 -- The invariant. d: a loss of memory may have come since the last frame that reached the host.
 abbrev Fits : Bool → Belief → Record → Type 0

@@ -1,14 +1,14 @@
 -- What the host reads off the front of the buffer is the kind of the reply. Assumes nothing.
 use Prim.Native.Nat.{ℕ, _+_, _≤_, _<_}
-use mathlib.Core.Path.{_≡_, refl, sym, ap, _∙_}
-use mathlib.Core.Bool.{Bool, true, false, cond}
-use mathlib.Core.List.{List, [], _∷_, _++_}
+use mathlib.Core.Path.{_≡_, refl, ap, _∙_}
+use mathlib.Core.Bool.{false, cond}
+use mathlib.Core.List.{List, [], _++_}
 use native.Mathlib.Decide.{decLe}
 use native.Mathlib.Omega.{arith}
 use lib.Dec.{eqb}
 use lib.ListN.{length, getD, take, drop, List·getD-append}
 use lib.Seq.{length-take-le, getD-take}
-use borrow.Author.Tests.{ne-eqb, eq-eqb}
+use borrow.Author.Tests.{ne-eqb}
 use Rattle.wire.specs.Bytes.{onto}
 use Rattle.wire.proofs.Fronts.{onto-fits}
 use Rattle.frame.specs.declared.Header.{Header}
@@ -18,8 +18,8 @@ use Rattle.reply.specs.declared.Accepted.{Accepted}
 use Rattle.reply.specs.declared.Accepted.the-variants as accepted
 use Rattle.reply.specs.declared.Reply.{Reply}
 use Rattle.reply.specs.declared.Reply.the-variants as reply
-use Rattle.reply.specs.Payload.{shortBytes, loginBytes, addressBytes, pairBytes, unpairBytes, acceptedBytes, rejectBytes, payloadOf}
-use Rattle.reply.specs.Reply.{answerHead, logoutHead, dataHead, headOf, filled, bytesOf}
+use Rattle.reply.specs.Payload.{shortBytes, loginBytes, addressBytes, pairBytes, unpairBytes, acceptedBytes, rejectBytes}
+use Rattle.reply.specs.Reply.{answerHead, logoutHead, dataHead, filled, bytesOf}
 use Rattle.belief.specs.Host.{Answer, none, acc, rjt, dlogo, other}
 use Rattle.belief.specs.Wire.{answerOf}
 

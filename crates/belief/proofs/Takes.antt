@@ -1,10 +1,9 @@
 -- A frame of the host: what each kind of request is answered with, and the record after it, from the record before it. Assumes nothing.
 use Prim.Native.Nat.{ℕ, _+_, _≤_}
 use mathlib.Core.Path.{_≡_, refl, sym, ap, _∙_, subst}
-use mathlib.Core.Bool.{Bool, true, false, cond}
-use mathlib.Core.List.{List, []}
+use mathlib.Core.Bool.{Bool, true, false}
+use mathlib.Core.List.{List}
 use native.Mathlib.Omega.{arith}
-use lib.Dec.{eqb}
 use lib.ListN.{length, getD}
 use borrow.Author.Tests.{ltb-false, eq-eqb}
 use Rattle.tables.specs.Lists.{pairs}
@@ -24,7 +23,7 @@ use Rattle.reply.specs.declared.Accepted.the-variants as accepted
 use Rattle.serve.specs.Next.{ownOf}
 use Rattle.link.specs.declared.Decided.{Decided}
 use Rattle.link.specs.Link.{decidedAs, sizeOf, logoOf, linkOf, abtsOf}
-use Rattle.link.specs.Record.{Kept, Record, out, held, keptFrom, recordOf, proved, paired, unpaired}
+use Rattle.link.specs.Record.{Kept, Record, out, held, keptFrom, recordOf}
 use Rattle.link.proofs.Ways.{is-logo}
 use Rattle.link.proofs.Records.{end-record}
 use Rattle.link.proofs.Services.{AfterPlogi, AfterService, AfterAbort, effectOf}
@@ -33,16 +32,15 @@ use Rattle.command.specs.Command.{loggedOut, commandOf}
 use Rattle.command.proofs.Records.{Spoken, silent, responds, isPaired, command-paired, command-spoken, command-unpaired}
 use Rattle.arrival.specs.declared.Refusal.{Refusal}
 use Rattle.arrival.specs.declared.Kind.{Kind}
-use Rattle.arrival.specs.declared.Kind.the-variants.{Link, Done, Abort, Command}
 use Rattle.arrival.specs.declared.Judged.{Judged}
 use Rattle.arrival.specs.declared.Judged.the-variants as judged
 use Rattle.arrival.specs.Arrival.{kindOf, judgedOf}
 use Rattle.arrival.proofs.Passes.{passed}
 use Rattle.drive.specs.declared.Drive.{Drive}
-use Rattle.drive.specs.Entry.{decidedOf, decidedIn, replyBytes, frameIn, frameInBuffer}
-use Rattle.belief.specs.Host.{Request, plogi, pdisc, logo, adisc, prli, prlo, rrq, command, abts, Answer, none, acc, rjt, dlogo, other, same}
-use Rattle.belief.specs.Side.{Held, Paired, OnPlogi, OnLogo, OnLink, OnCommand, Meets}
-use Rattle.belief.specs.Wire.{Framed, Linked, Makes, heardOf}
+use Rattle.drive.specs.Entry.{decidedIn, replyBytes, frameIn, frameInBuffer}
+use Rattle.belief.specs.Host.{Request, plogi, pdisc, logo, adisc, prli, prlo, rrq, command, abts, none}
+use Rattle.belief.specs.Side.{OnPlogi, OnLogo, OnLink, OnCommand, Meets}
+use Rattle.belief.specs.Wire.{Linked, Makes, heardOf}
 use Rattle.belief.proofs.Reading.{sounds, reads}
 
 -- each reply as the host hears it

@@ -4,7 +4,7 @@ use mathlib.Core.Path.{_≡_}
 use mathlib.Core.Bool.{Bool, true, false}
 use mathlib.Core.List.{List, [], _∷_}
 use Rattle.link.specs.Record.{Record, doubted}
-use Rattle.belief.specs.Host.{Belief, unsure, sure, Request, Answer, none, acc, rjt, dlogo, other, think, May, MayOut, hears}
+use Rattle.belief.specs.Host.{Belief, unsure, sure, Answer, none, acc, rjt, dlogo, other, think, May, MayOut, hears}
 use Rattle.belief.specs.Side.{Side}
 
 -- The loop's choice: the request is lost; it arrives and its answer is lost; both arrive.

@@ -10,7 +10,7 @@ use Rattle.wire.specs.Layout.{AllBytes}
 use Rattle.frame.specs.Head.{headerOf}
 use Rattle.params.specs.Words.{paramsOf}
 use Rattle.formed.specs.Formed.{wellFormed}
-use Rattle.link.specs.Record.{Kept, Record, keptFrom, recordOf}
+use Rattle.link.specs.Record.{keptFrom, recordOf}
 use Rattle.drive.specs.declared.Drive.{Drive}
 use Rattle.drive.specs.declared.Said.{Said}
 use Rattle.drive.specs.declared.Said.the-variants.{Sent, Refused}

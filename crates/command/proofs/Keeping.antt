@@ -1,12 +1,11 @@
 -- No FCP_CMND makes a state ill formed. Assumes nothing.
-use mathlib.Core.Path.{_≡_, refl, sym, ap, _∙_}
-use mathlib.Core.Bool.{Bool, true, false, cond, _&&_, _||_, or-true}
+use mathlib.Core.Path.{_≡_, refl}
+use mathlib.Core.Bool.{Bool, true, false, cond, or-true}
 use mathlib.Core.List.{List}
-use Prim.Native.Nat.{ℕ, _≤_, _<_, min}
+use Prim.Native.Nat.{ℕ, _≤_}
 use native.Mathlib.Omega.{arith}
 use lib.Dec.{eqb}
 use lib.ListN.{length, getD}
-use borrow.Author.Tests.{eqb-true, eqb-false}
 use Rattle.tables.specs.declared.Found.{Found}
 use Rattle.tables.specs.declared.Found.the-variants.{At, Nothing}
 use Rattle.tables.specs.Lists.{onFound}
@@ -18,25 +17,21 @@ use Rattle.state.specs.declared.Login.{Login}
 use Rattle.state.specs.declared.Port.{Port}
 use Rattle.state.specs.declared.Unit.{Unit}
 use Rattle.state.specs.declared.Change.the-variants.{EndLogin}
-use Rattle.state.specs.Changes.{isUsed, isClosed, loginAt, withLogin, withAttention, withExchange, endedAt}
-use Rattle.state.specs.Tables.{findLogin, findExchange, freeExchange}
-use Rattle.formed.specs.Formed.{total, fullFrame, openable, sentFits, exchangeFine, wellFormed}
+use Rattle.state.specs.Changes.{isClosed, loginAt, withAttention, withExchange}
+use Rattle.state.specs.Tables.{findLogin, findExchange}
+use Rattle.formed.specs.Formed.{total, fullFrame, openable, exchangeFine, wellFormed}
 use Rattle.formed.proofs.Parts.{Used}
 use Rattle.formed.proofs.Sizes.{stored-size}
 use Rattle.formed.proofs.Keeping.{attention-used, open-used, end-used, change-kept}
 use Rattle.link.specs.declared.Decided.{Decided}
-use Rattle.link.specs.declared.Served.{Served}
 use Rattle.link.specs.Link.{servedAt}
-use Rattle.link.proofs.Keeping.{Keeps, gone, stays, stored-kept}
+use Rattle.link.proofs.Keeping.{Keeps, stays, stored-kept}
 use Rattle.command.specs.declared.Cmnd.{Cmnd}
 use Rattle.command.specs.declared.Task.{Task}
 use Rattle.command.specs.declared.Task.the-variants as task
-use Rattle.command.specs.declared.Asked.{Asked}
-use Rattle.command.specs.declared.Asked.the-variants as asked
-use Rattle.command.specs.Cmnd.{cmndOf, readBit, taskOf}
-use Rattle.command.specs.Tests.{otherUnit, attends, unknownCode, fieldSet, outside, exchangeFor, askedOf}
-use Rattle.command.specs.Command.{refusedWith, reports, toldOf, answerOf, answeredAs, executeOf, doneAs, commandedAt, loggedOut, commandOf}
-use Rattle.command.proofs.Moves.{Passed, Moves, same, ends, tells, opens, execute-moves}
+use Rattle.command.specs.Cmnd.{cmndOf, taskOf}
+use Rattle.command.specs.Command.{executeOf, doneAs, commandedAt, loggedOut, commandOf}
+use Rattle.command.proofs.Moves.{Moves, same, ends, tells, opens, execute-moves}
 use Rattle.command.proofs.Opens.{New, exchange-new, sent-none, wants-opens}
 
 -- what a command on a paired login makes of it is fine

@@ -1,5 +1,5 @@
 -- The exchange that a command opens is fine: the tests let only such through, and nothing is sent yet. Assumes nothing.
-use mathlib.Core.Path.{_≡_, refl, sym, ap, _∙_}
+use mathlib.Core.Path.{_≡_, refl}
 use mathlib.Core.Bool.{Bool, true, false, cond, not, _&&_, _||_}
 use Prim.Native.Nat.{ℕ, _+_, _*_, _%_, _≤_, _<_, min}
 use native.Mathlib.Nat.{mod-eq-of-lt, div-eq-of-lt}
@@ -10,7 +10,7 @@ use borrow.Author.Tests.{le-leb, lt-ltb, leb-false, ltb-false, eq-eqb}
 use Rattle.tables.proofs.Bools.{or-left, or-right}
 use Rattle.wire.specs.Bytes.{num}
 use Rattle.state.specs.declared.Exchange.{Exchange}
-use Rattle.formed.specs.Formed.{total, framesOf, readFits, wantedFits, openable, sentFits, exchangeFine}
+use Rattle.formed.specs.Formed.{total, framesOf, readFits, wantedFits, openable, sentFits}
 use Rattle.command.specs.declared.Cmnd.{Cmnd}
 use Rattle.command.specs.Tests.{outside, senseKind, inquiryKind, fresh, exchangeFor}
 

@@ -3,7 +3,6 @@ use mathlib.Core.Path.{_≡_, refl, sym, ap, _∙_}
 use mathlib.Core.Bool.{Bool, true, false, cond}
 use mathlib.Core.List.{List}
 use Prim.Native.Nat.{ℕ}
-use native.Mathlib.Omega.{arith}
 use lib.Dec.{eqb}
 use lib.ListN.{length}
 use Rattle.tables.specs.declared.Found.{Found}
@@ -11,11 +10,10 @@ use Rattle.tables.specs.declared.Found.the-variants.{At, Nothing}
 use Rattle.tables.specs.Lists.{onFound, pairs}
 use Rattle.tables.proofs.Bools.{apart}
 use Rattle.frame.specs.declared.Header.{Header}
-use Rattle.state.specs.declared.Change.{Change}
 use Rattle.state.specs.declared.Change.the-variants.{EndExchangesOf, Reset, Clear}
 use Rattle.state.specs.declared.Login.{Login}
 use Rattle.state.specs.declared.Port.{Port}
-use Rattle.state.specs.Changes.{hasAddress, loginAt, withLogin, withExchange, changedAll}
+use Rattle.state.specs.Changes.{hasAddress, loginAt, withExchange}
 use Rattle.state.specs.Tables.{findLogin, findExchange, freeExchange}
 use Rattle.formed.specs.Formed.{total, apartAddress}
 use Rattle.reply.specs.declared.Reply.{Reply}

@@ -1,6 +1,6 @@
 -- What an FCP_CMND answers, and what is stored (document 01, "Commands").
 use Prim.Native.Nat.{ℕ}
-use mathlib.Core.Bool.{Bool, cond, not, _||_}
+use mathlib.Core.Bool.{Bool, cond, _||_}
 use mathlib.Core.List.{List}
 use lib.Dec.{eqb}
 use lib.ListN.{length}
@@ -10,7 +10,7 @@ use Rattle.state.specs.declared.Exchange.{Exchange}
 use Rattle.state.specs.declared.Login.{Login}
 use Rattle.state.specs.declared.Port.{Port}
 use Rattle.state.specs.declared.Change.the-variants.{EndLogin}
-use Rattle.state.specs.Changes.{loginAt, withLogin, withAttention, withExchange, endedAt, changedAll}
+use Rattle.state.specs.Changes.{loginAt, withAttention, withExchange, endedAt, changedAll}
 use Rattle.state.specs.Tables.{findLogin, findExchange, freeExchange}
 use Rattle.formed.specs.Formed.{total}
 use Rattle.reply.specs.declared.Reply.the-variants as reply

@@ -1,7 +1,7 @@
 -- Demands 1 and 2 over the four entries, each theorem stated where a reader finds it. `frameIn`, `nextFrame`, `eventAnswer` and `newAnswer` are the definitions of record:
 -- the entries' contracts say that their answers are these, for all input. Assumes nothing.
-use mathlib.Core.Path.{_≡_, refl, sym, _∙_}
-use mathlib.Core.Bool.{Bool, true, false}
+use mathlib.Core.Path.{_≡_, sym, _∙_}
+use mathlib.Core.Bool.{true, false}
 use mathlib.Core.List.{List, _++_}
 use Prim.Native.Nat.{ℕ, _*_, _%_, _≤_, _<_}
 use native.Mathlib.Omega.{arith}
@@ -23,7 +23,7 @@ use Rattle.arrival.proofs.Exactly.{First}
 use Rattle.drive.specs.declared.Drive.{Drive}
 use Rattle.drive.specs.declared.Event.{Event}
 use Rattle.drive.specs.declared.Answer.{Answer}
-use Rattle.drive.specs.declared.Said.the-variants.{Sent, Refused}
+use Rattle.drive.specs.declared.Said.the-variants.{Refused}
 use Rattle.drive.specs.Drive.{madeFrom, noDrive, silent, refused, newAnswer, afterEvent, eventAnswer}
 use Rattle.drive.specs.Entry.{frameIn, frameInBuffer, nextFrame, nextFrameBuffer}
 use Rattle.drive.proofs.Made.{new-refused, new-made, event-refused, event-answered}

@@ -1,13 +1,13 @@
 -- What judges finds of a login record is what the drive answers to a PLOGI of that payload, where it has no logins. Assumes nothing.
 use mathlib.Core.Path.{_≡_, refl, sym, ap, _∙_}
-use mathlib.Core.Bool.{Bool, true, false, cond, not, _&&_}
+use mathlib.Core.Bool.{true, false, _&&_}
 use mathlib.Core.List.{List, _++_}
 use Prim.Native.Nat.{ℕ, _+_, _≤_, _<_}
 use native.Mathlib.Omega.{arith}
 use native.Mathlib.Decide.{decLe}
-use lib.Dec.{eqb, leb, ltb}
+use lib.Dec.{leb}
 use lib.ListN.{length, getD}
-use borrow.Author.Tests.{le-ltb, lt-ltb, eq-eqb}
+use borrow.Author.Tests.{le-ltb, eq-eqb}
 use Rattle.tables.specs.declared.Found.the-variants.{At}
 use Rattle.frame.specs.declared.Header.{Header}
 use Rattle.frame.specs.Head.{Fits, headerOf, headerBytes}
@@ -15,16 +15,14 @@ use Rattle.frame.proofs.Trips.{read-write}
 use Rattle.tables.proofs.Bools.{and-left, and-right, apart}
 use Rattle.address.specs.Address.{validAddress}
 use Rattle.address.proofs.Map.{none-above}
-use Rattle.params.specs.declared.Params.{Params}
 use Rattle.params.specs.declared.Verdict.{Verdict}
 use Rattle.params.specs.declared.Verdict.the-variants as verdict
 use Rattle.params.specs.Words.{paramsOf, verdictOf, reasonOf, setupPasses}
 use Rattle.state.specs.declared.Setup.{Setup}
-use Rattle.state.specs.declared.Port.{Port}
 use Rattle.state.specs.declared.Change.the-variants.{EndLogin}
 use Rattle.state.specs.Changes.{hasAddress, endedOf, changedAll}
 use Rattle.state.specs.Tables.{freeLogin}
-use Rattle.formed.specs.Formed.{setupRules, wellFormed}
+use Rattle.formed.specs.Formed.{setupRules}
 use Rattle.reply.specs.declared.Reply.{Reply}
 use Rattle.reply.specs.declared.Reply.the-variants as reply
 use Rattle.reply.specs.declared.Accepted.the-variants as accepted
@@ -32,8 +30,8 @@ use Rattle.link.specs.declared.Decided.{Decided}
 use Rattle.link.specs.Link.{sizeOf, outcomeAfter, outcomeOf, outcomeReply, plogiOf, linkOf}
 use Rattle.arrival.specs.declared.Kind.the-variants.{Link}
 use Rattle.arrival.specs.declared.Judged.the-variants.{Passed}
-use Rattle.arrival.specs.Arrival.{badSize, badSource, knownPair, unknownForm, spared, unprovenLogin, unprovenCall, kindOf, judgedOf}
-use Rattle.arrival.proofs.Passes.{Passes, passes}
+use Rattle.arrival.specs.Arrival.{badSize, badSource, knownPair, unknownForm, spared, unprovenCall, kindOf, judgedOf}
+use Rattle.arrival.proofs.Passes.{passes}
 use Rattle.judging.specs.declared.Judgement.{Judgement}
 use Rattle.judging.specs.declared.Judgement.the-variants as judgement
 use Rattle.judging.specs.Judgement.{judged, judgementOf}

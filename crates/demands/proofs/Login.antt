@@ -1,5 +1,5 @@
 -- A port login that is not refused is accepted or rejected at the entry exactly as document 01 says, with the stated reason. Assumes nothing.
-use mathlib.Core.Path.{_≡_, refl, sym, ap, _∙_}
+use mathlib.Core.Path.{_≡_, refl, ap, _∙_}
 use mathlib.Core.List.{List}
 use Prim.Native.Nat.{ℕ}
 use lib.ListN.{length, getD}
@@ -8,7 +8,6 @@ use Rattle.wire.specs.Bytes.{onto}
 use Rattle.frame.specs.Head.{headerOf}
 use Rattle.params.specs.Words.{paramsOf}
 use Rattle.state.specs.Changes.{withLogin}
-use Rattle.reply.specs.declared.Reply.{Reply}
 use Rattle.reply.specs.declared.Reply.the-variants as reply
 use Rattle.reply.specs.declared.Accepted.the-variants as accepted
 use Rattle.link.specs.Link.{decidedAs, newLogin, linkOf}

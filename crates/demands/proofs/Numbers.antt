@@ -1,14 +1,13 @@
 -- Document 01's known numbers that are marked P, at the entries, by computation: one theorem. Assumes nothing.
-use Prim.Native.Nat.{ℕ, _*_, _+_, _/_, _%_}
+use Prim.Native.Nat.{ℕ, _*_, _+_}
 use mathlib.Core.Path.{_≡_, refl}
 use mathlib.Core.List.{List, [], _∷_, _++_}
-use lib.ListN.{length, getD, take, drop, replicate}
+use lib.ListN.{take, drop, replicate}
 use Rattle.wire.specs.Bytes.{onto, bytes}
 use Rattle.frame.specs.Head.{headerOf, headerBytes}
 use Rattle.address.specs.Address.{validAddress}
 use Rattle.params.specs.Words.{paramsOf, sizeFails, zeroName, verdictOf, setupPasses}
-use Rattle.state.specs.declared.Setup.{Setup}
-use Rattle.state.specs.Changes.{loginAt, exchangeAt, withLogin, withExchange, withoutExchanges, hasAddress, endedOf, changedAll}
+use Rattle.state.specs.Changes.{loginAt, exchangeAt, withLogin, withExchange, hasAddress, endedOf, changedAll}
 use Rattle.state.specs.Tables.{hasId, findLogin, freeLogin, findExchange, freeExchange, lookupOf}
 use Rattle.formed.specs.Formed.{setupRules, readFits, wantedFits, sentFits, exchangeFine, apartId, paramsFine, flagsFine, addressFine, usedFine, loginFine, apartAddress, wellFormed}
 use Rattle.reply.specs.Payload.{shortBytes, loginBytes, pairBytes, rejectBytes, statusBytes, codeBytes, senseBytes}

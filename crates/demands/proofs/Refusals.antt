@@ -1,15 +1,12 @@
 -- Each refusal is given exactly when it applies and none before it in the entry's order does; it hands back the drive unchanged and changes no byte of the buffer.
 -- Assumes nothing.
-use mathlib.Core.Path.{_≡_, refl, sym, ap, _∙_, subst}
+use mathlib.Core.Path.{_≡_, refl, sym, ap, _∙_}
 use mathlib.Core.Bool.{Bool, true, false, cond, not, _&&_, _||_}
 use mathlib.Core.List.{List}
 use Prim.Native.Nat.{ℕ, _+_, _*_, _<_}
 use native.Mathlib.Omega.{arith}
 use lib.Dec.{eqb, leb, ltb}
 use lib.ListN.{length}
-use borrow.Author.Tests.{not-true}
-use Rattle.tables.specs.declared.Found.{Found}
-use Rattle.tables.specs.declared.Found.the-variants.{At, Nothing}
 use Rattle.tables.specs.Lists.{onFound}
 use Rattle.tables.proofs.Bools.{apart}
 use Rattle.frame.specs.Head.{headerOf}
@@ -24,12 +21,10 @@ use Rattle.serve.specs.declared.Given.{Given}
 use Rattle.serve.specs.declared.Given.the-variants as given
 use Rattle.serve.specs.Whole.{isSent}
 use Rattle.serve.proofs.Moving.{next-stays, next-untouched}
-use Rattle.serve.specs.declared.Step.{Step}
 use Rattle.serve.specs.declared.Step.the-variants as step
-use Rattle.serve.specs.Next.{hasMore, readsMore, position, coverOf, placeOf, openStep, stepAt, stepOf, nextAt, nextOf, bufferAt, nextBuffer}
+use Rattle.serve.specs.Next.{readsMore, position, coverOf, placeOf, openStep, stepAt, stepOf, nextAt, nextOf, nextBuffer}
 use Rattle.arrival.specs.declared.Refusal.{Refusal}
 use Rattle.arrival.specs.declared.Refusal.the-variants.{ShortBuffer, IllFormed, BadSize, NotOurs, BadSource, UnknownForm, Unproven, BadSetup, NoExchange, BadWindow}
-use Rattle.arrival.specs.declared.Kind.{Kind}
 use Rattle.arrival.specs.declared.Judged.{Judged}
 use Rattle.arrival.specs.declared.Judged.the-variants as judged
 use Rattle.arrival.specs.Arrival.{shortBuffer, judgedOf}
@@ -39,7 +34,7 @@ use Rattle.drive.specs.declared.Answer.{Answer}
 use Rattle.drive.specs.declared.Said.{Said}
 use Rattle.drive.specs.declared.Said.the-variants.{Sent, Refused}
 use Rattle.drive.specs.Drive.{refused}
-use Rattle.drive.specs.Entry.{decidedIn, answered, replyBytes, onJudged, frameIn, frameInBuffer, saidOf, served, nextFrame, nextFrameBuffer}
+use Rattle.drive.specs.Entry.{decidedIn, answered, onJudged, frameIn, frameInBuffer, saidOf, served, nextFrame, nextFrameBuffer}
 
 same-refusal : (x y : Refusal) → Refused y ≡ Refused x → y ≡ x
 same-refusal x y e = cc

@@ -1,14 +1,14 @@
 -- What each change keeps of the rule, under its stated condition. Assumes nothing.
-use mathlib.Core.Path.{_≡_, refl, sym, ap, _∙_}
+use mathlib.Core.Path.{_≡_, refl, sym, ap}
 use mathlib.Core.Bool.{Bool, true, false, cond, not, _&&_, _||_, or-true}
-use mathlib.Core.List.{List, map}
-use Prim.Native.Nat.{ℕ, _≤_}
+use mathlib.Core.List.{List}
+use Prim.Native.Nat.{ℕ}
 use lib.Dec.{eqb, leb}
-use lib.ListN.{getD, set, replicate}
+use lib.ListN.{set, replicate}
 use borrow.Author.Tests.{eqb-false, ne-eqb, not-true}
 use Rattle.tables.specs.declared.Found.the-variants.{Nothing}
 use Rattle.tables.specs.Lists.{all, pairs}
-use Rattle.tables.proofs.Bools.{and-left, and-right, and-both, apart}
+use Rattle.tables.proofs.Bools.{and-left, and-right, apart}
 use Rattle.tables.proofs.Searches.{missed}
 use Rattle.tables.proofs.Keeping.{all-always, all-map, all-than, all-set, all-update, pairs-map, pairs-set, pairs-update}
 use Rattle.state.specs.declared.Exchange.{Exchange}
@@ -17,7 +17,7 @@ use Rattle.state.specs.declared.Port.{Port}
 use Rattle.state.specs.declared.Unit.{Unit}
 use Rattle.state.specs.declared.Change.{Change}
 use Rattle.state.specs.declared.Change.the-variants.{EndLogin, Unprove, EndUnproven, EndExchangesOf, Reset, Clear}
-use Rattle.state.specs.Changes.{emptyExchange, emptyLogin, isUsed, loginAt, exchangeAt, withLogin, withLogins, withState, withProven, withPaired, withAttention, withPlaces, withExchange, withoutExchanges, hasAddress, endedOf, unproven, verified, abortedOf, resetOf, losesTo, clearedBy, changedOf, changedAll, poweredOn, isClosed}
+use Rattle.state.specs.Changes.{emptyExchange, emptyLogin, isUsed, loginAt, exchangeAt, withLogin, withState, withProven, withPaired, withAttention, withPlaces, withExchange, withoutExchanges, hasAddress, endedOf, unproven, verified, abortedOf, resetOf, losesTo, clearedBy, changedOf, changedAll, poweredOn, isClosed}
 use Rattle.state.specs.Tables.{isFree, hasId, findExchange}
 use Rattle.formed.specs.Formed.{fullFrame, openable, sentFits, exchangeFine, apartId, paramsFine, flagsFine, addressFine, loginFine, apartAddress, wellFormed}
 use Rattle.formed.proofs.Parts.{Used, fine-used, used-fine, Formed, formed-parts, formed-whole}

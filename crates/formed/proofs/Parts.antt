@@ -1,16 +1,13 @@
 -- The parts of the rule, each by its name: taken out of the whole, and put together again. Assumes nothing.
-use mathlib.Core.Path.{_≡_, refl, sym, _∙_}
-use mathlib.Core.Bool.{Bool, true, false, cond, not, _&&_, _||_}
-use mathlib.Core.List.{List}
+use mathlib.Core.Path.{_≡_}
+use mathlib.Core.Bool.{true, _&&_}
 use Prim.Native.Nat.{ℕ}
-use lib.Dec.{eqb}
 use Rattle.tables.specs.Lists.{all, pairs}
-use Rattle.tables.proofs.Bools.{and-left, and-right, and-both, apart}
-use Rattle.state.specs.declared.Exchange.{Exchange}
+use Rattle.tables.proofs.Bools.{and-left, and-right}
 use Rattle.state.specs.declared.Login.{Login}
 use Rattle.state.specs.declared.Port.{Port}
 use Rattle.state.specs.declared.Unit.{Unit}
-use Rattle.state.specs.Changes.{isUsed, isClosed}
+use Rattle.state.specs.Changes.{isUsed}
 use Rattle.formed.specs.Formed.{setupRules, fullFrame, exchangeFine, apartId, paramsFine, flagsFine, addressFine, usedFine, loginFine, apartAddress, wellFormed}
 
 -- what is asked of a login that is used

@@ -1,11 +1,11 @@
 -- The two round trips of the header, and what a frame that is too short reads as. Assumes nothing.
-use mathlib.Core.Path.{_≡_, refl, sym, ap, _∙_}
+use mathlib.Core.Path.{_≡_, refl}
 use mathlib.Core.List.{List, [], _∷_, _++_}
-use Prim.Native.Nat.{ℕ, _^_, _≤_, _<_}
+use Prim.Native.Nat.{ℕ, _≤_}
 use native.Mathlib.Nat.{mod-eq-of-lt}
 use native.Mathlib.Omega.{arith}
-use lib.ListN.{length, take, getD, replicate}
-use Rattle.wire.specs.Layout.{AllBytes, encode, decode}
+use lib.ListN.{length, take, replicate}
+use Rattle.wire.specs.Layout.{AllBytes}
 use Rattle.wire.proofs.Digits.{encode-decode, num-bytes, num-zeros}
 use Rattle.frame.specs.declared.Header.{Header}
 use Rattle.frame.specs.Head.{headerOf, headerBytes, Fits}

@@ -1,6 +1,6 @@
 -- The frame header of document 01: 24 bytes.
 use Prim.Native.Nat.{ℕ, _<_, _^_}
-use mathlib.Core.List.{List, [], _∷_, _++_}
+use mathlib.Core.List.{List, _∷_, _++_}
 use lib.ListN.{getD}
 use Rattle.wire.specs.Bytes.{num, bytes}
 use Rattle.frame.specs.declared.Header.{Header}

@@ -24,6 +24,15 @@ pub struct Header {
     pub offset: u32,
 }
 
+impl Header {
+    // the bytes of a frame: its header alone at least; a reply buffer has room for the most
+    pub const LEAST_FRAME: usize = 24;
+
+    pub const MOST_FRAME: usize = 2136;
+    // the bytes of data that a frame carries at most, also where the login's size is larger
+    pub const MOST_DATA: usize = 2048;
+}
+
 // The header of any frame; a frame of fewer than 24 bytes reads as if zeros followed it.
 pub fn read_header(frame: &[u8]) -> Header
     ensures { λ r. ⌜ r ≡ headerOf (now (frame .entry)) ⌝ }
@@ -45,7 +54,7 @@ pub fn read_header(frame: &[u8]) -> Header
 }
 
 // The 24 bytes of a header; of a 24-bit field the low three bytes.
-pub fn header_bytes(h: Header) -> [u8; 24]
+fn header_bytes(h: Header) -> [u8; 24]
     ensures { λ r. ⌜ r ≡ headerBytes h ⌝ }
 {
     let d = h.d_id;

@@ -1,7 +1,7 @@
 -- The fewest digits of a number, as `io::decimal` gives them, are the number in decimal. Assumes nothing.
-use mathlib.Core.Path.{_≡_, refl, sym, ap, _∙_}
-use mathlib.Core.List.{List, [], _∷_, _++_}
-use Prim.Native.Nat.{ℕ, zero, suc, _+_, _*_, _-_, _/_, _%_, _^_, _≤_, _<_}
+use mathlib.Core.Path.{_≡_, refl, _∙_}
+use mathlib.Core.List.{[], _∷_}
+use Prim.Native.Nat.{ℕ, zero, suc, _*_, _-_, _/_, _%_, _^_, _≤_, _<_}
 use native.Mathlib.Nat.{pow-suc, div-lt-iff-lt-mul, le-div-iff-mul-le, mod-eq-of-lt, one-le-pow, pow-le-pow-right, le-trans}
 use native.Mathlib.Decide.{decLe}
 use native.Mathlib.Numerals.{add-one}

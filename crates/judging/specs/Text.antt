@@ -4,7 +4,6 @@ use mathlib.Core.Bool.{cond}
 use mathlib.Core.List.{List, [], _∷_, _++_}
 use lib.Dec.{ltb}
 use Rattle.io.specs.Digits.{glyph}
-use Rattle.params.specs.declared.Fault.{Fault}
 use Rattle.params.specs.Words.{reasonOf}
 use Rattle.judging.specs.declared.Judgement.{Judgement}
 use Rattle.judging.specs.declared.Judgement.the-variants.{Accept, Reject, NotPlogi, Short}

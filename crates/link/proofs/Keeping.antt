@@ -1,16 +1,13 @@
 -- No link service makes a state ill formed. Assumes nothing.
-use mathlib.Core.Path.{_≡_, refl, sym, ap, _∙_, subst}
-use mathlib.Core.Bool.{Bool, true, false, cond, not, _&&_, _||_}
-use mathlib.Core.List.{List, map}
+use mathlib.Core.Path.{_≡_, refl, ap, _∙_}
+use mathlib.Core.Bool.{Bool, true, false, cond, not}
+use mathlib.Core.List.{List}
 use Prim.Native.Nat.{ℕ, _+_}
-use native.Mathlib.Omega.{arith}
 use lib.Dec.{eqb}
-use lib.ListN.{length, getD, replicate}
+use lib.ListN.{length, getD}
 use Rattle.tables.specs.declared.Found.{Found}
 use Rattle.tables.specs.declared.Found.the-variants.{At, Nothing}
-use Rattle.tables.specs.Lists.{all, first, onFound}
-use Rattle.tables.proofs.Bools.{and-left, and-right, and-both}
-use Rattle.tables.proofs.Searches.{found-passes}
+use Rattle.tables.specs.Lists.{all, onFound}
 use Rattle.tables.proofs.Keeping.{all-always, all-map}
 use Rattle.wire.specs.Bytes.{num, part}
 use Rattle.frame.specs.declared.Header.{Header}
@@ -28,18 +25,15 @@ use Rattle.state.specs.declared.Unit.{Unit}
 use Rattle.state.specs.declared.Change.the-variants.{EndLogin}
 use Rattle.state.specs.declared.Standing.{Standing}
 use Rattle.state.specs.declared.Standing.the-variants.{Open, NoExchange, NoLogin}
-use Rattle.state.specs.Changes.{emptyExchange, emptyLogin, isUsed, hasAddress, loginAt, withLogin, withExchange, withoutExchanges, endedOf, endedAt, changedAll}
+use Rattle.state.specs.Changes.{emptyLogin, isUsed, hasAddress, loginAt, withLogin, withExchange, withoutExchanges, endedOf, endedAt, changedAll}
 use Rattle.state.specs.Tables.{findLogin, freeLogin, findExchange, lookupOf}
 use Rattle.state.proofs.Places.{found-used, open-place}
-use Rattle.formed.specs.Formed.{fullFrame, exchangeFine, apartId, paramsFine, flagsFine, addressFine, loginFine, wellFormed}
+use Rattle.formed.specs.Formed.{fullFrame, paramsFine, flagsFine, addressFine, loginFine, wellFormed}
 use Rattle.formed.proofs.Parts.{Used, fine-used, used-fine}
 use Rattle.formed.proofs.Keeping.{none-fine, none-apart, proven-used, paired-used, unpaired-used, end-used, change-kept, store-kept, update-kept, end-kept}
-use Rattle.reply.specs.declared.Reply.{Reply}
 use Rattle.link.specs.declared.Decided.{Decided}
 use Rattle.link.specs.declared.Served.{Served}
-use Rattle.link.specs.declared.Outcome.{Outcome}
-use Rattle.link.specs.declared.Outcome.the-variants.{Place, Rejected}
-use Rattle.link.specs.Link.{sizeOf, newLogin, roomFor, outcomeAfter, outcomeOf, outcomePort, plogiOf, provenBy, namesDiffer, pdiscOf, adiscOf, logoOf, pairFine, pageFine, prliOf, prloOf, rrqOf, serviceOf, linkOf, abortedAt, abtsOf}
+use Rattle.link.specs.Link.{sizeOf, newLogin, outcomeAfter, outcomeOf, outcomePort, plogiOf, provenBy, namesDiffer, pdiscOf, adiscOf, logoOf, pairFine, pageFine, prliOf, prloOf, rrqOf, serviceOf, linkOf, abortedAt, abtsOf}
 
 -- what a service makes of a login: none, or one of the same address that is fine where the old one was
 pub data Keeps (capacity own : ℕ) (l : Login) : Login → Type 0 where

@@ -63,14 +63,6 @@ module _ (p : Port) (a ox rx : ℕ) where
       outer (At i) e = inner i e (findExchange (loginAt p i) ox)
       outer Nothing e = missing-out p a e
 
-  -- and so: a drive LOGO exactly when the record is `out`
-  pub abts-out : recordOf p a ≡ out → abtsOf p a ox rx ≡ decidedAs reply.Logout p
-  unfolding abtsOf lookupOf
-  abts-out e = rw (out-missing p a e)
-
-  pub abts-logout : abtsOf p a ox rx .reply ≡ reply.Logout → recordOf p a ≡ out
-  abts-logout e = subst (AfterAbort (recordOf p a)) e abts-reply
-
 module _ (p : Port) (h : Header) (f : List ℕ) where
   -- a code that needs a login, in a frame of its size, where the record of the sender is `out`: a drive LOGO, and the port as it was
   pub link-out : (sizeOf (getD f 24 0) ≡ 0 → ⊥) → length f ≡ 24 + sizeOf (getD f 24 0) → (getD f 24 0 ≡ 3 → ⊥) → (getD f 24 0 ≡ 5 → ⊥) → recordOf p (h .«s_id») ≡ out
@@ -78,15 +70,6 @@ module _ (p : Port) (h : Header) (f : List ℕ) where
   unfolding linkOf
   link-out c s np nl e =
       rw (ne-eqb (sizeOf (getD f 24 0)) 0 c, eq-eqb (length f) (24 + sizeOf (getD f 24 0)) s, ne-eqb (getD f 24 0) 3 np, ne-eqb (getD f 24 0) 5 nl, out-missing p (h .«s_id») e)
-
-  -- another code, or a frame of another size than its code's: LS_RJT, and the port as it was
-  pub link-other-code : sizeOf (getD f 24 0) ≡ 0 → linkOf p h f ≡ decidedAs (reply.Reject 0x0b 0x00) p
-  unfolding linkOf
-  link-other-code c = rw (eq-eqb (sizeOf (getD f 24 0)) 0 c)
-
-  pub link-wrong-size : (sizeOf (getD f 24 0) ≡ 0 → ⊥) → (length f ≡ 24 + sizeOf (getD f 24 0) → ⊥) → linkOf p h f ≡ decidedAs (reply.Reject 0x03 0x00) p
-  unfolding linkOf
-  link-wrong-size c s = rw (ne-eqb (sizeOf (getD f 24 0)) 0 c, ne-eqb (length f) (24 + sizeOf (getD f 24 0)) s)
 
   module _ (d : pairs apartAddress (p .logins) ≡ true) where
     -- every frame leaves the record of every address but the sender's as it was

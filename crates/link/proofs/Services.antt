@@ -190,30 +190,6 @@ module _ (p : Port) (a i : ℕ) (at : findLogin p a ≡ At i) where
   exchange-kept j b = same-kept (endedAt (loginAt p i) j) (found-has p a i at) refl b
 
   module _ (d : pairs apartAddress (p .logins) ≡ true) where
-    -- PDISC: ACC proves the record, LS_RJT keeps it, and a drive LOGO ends it
-    pub pdisc-record : (q : Params) → AfterService proved (recordOf p a) (servedAt p i (pdiscOf (loginAt p i) q) .reply) (recordOf (servedAt p i (pdiscOf (loginAt p i) q) .port) a)
-    pdisc-record q = does-record d (pdisc-does (loginAt p i) q)
-
-    -- ADISC: the same
-    pub adisc-record : (named : ℕ) (port node : List ℕ)
-        → AfterService proved (recordOf p a) (servedAt p i (adiscOf (loginAt p i) a named port node) .reply) (recordOf (servedAt p i (adiscOf (loginAt p i) a named port node) .port) a)
-    adisc-record named port node = does-record d (adisc-does (loginAt p i) a named port node)
-
-    -- PRLI: ACC pairs the record, LS_RJT keeps it
-    pub prli-record : (page kind flags roles : ℕ)
-        → AfterService paired (recordOf p a) (servedAt p i (prliOf (loginAt p i) page kind flags roles) .reply) (recordOf (servedAt p i (prliOf (loginAt p i) page kind flags roles) .port) a)
-    prli-record page kind flags roles = does-record d (prli-does (loginAt p i) page kind flags roles)
-
-    -- PRLO: ACC unpairs the record, LS_RJT keeps it
-    pub prlo-record : (page kind : ℕ)
-        → AfterService unpaired (recordOf p a) (servedAt p i (prloOf (loginAt p i) page kind) .reply) (recordOf (servedAt p i (prloOf (loginAt p i) page kind) .port) a)
-    prlo-record page kind = does-record d (prlo-does (loginAt p i) page kind)
-
-    -- RRQ: ACC and LS_RJT keep the record
-    pub rrq-record : (named ox : ℕ)
-        → AfterService (λ r. r) (recordOf p a) (servedAt p i (rrqOf (loginAt p i) a named ox) .reply) (recordOf (servedAt p i (rrqOf (loginAt p i) a named ox) .port) a)
-    rrq-record named ox = does-record d (rrq-does (loginAt p i) a named ox)
-
     -- the service of any code
     pub service-record : (code : ℕ) (f : List ℕ)
         → AfterService (effectOf code) (recordOf p a) (servedAt p i (serviceOf code (loginAt p i) a f) .reply) (recordOf (servedAt p i (serviceOf code (loginAt p i) a f) .port) a)

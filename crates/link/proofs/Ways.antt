@@ -1,12 +1,9 @@
 -- A law over plain variables for each way through the dispatch and through PLOGI. Assumes nothing.
-use mathlib.Core.Path.{_≡_, refl, sym, ap, _∙_}
-use mathlib.Core.Bool.{Bool, true, false}
+use mathlib.Core.Path.{_≡_, sym, ap, _∙_}
 use mathlib.Core.List.{List}
 use Prim.Native.Nat.{ℕ, _+_}
-use lib.Dec.{eqb}
 use lib.ListN.{length, getD}
 use borrow.Author.Tests.{eq-eqb, ne-eqb}
-use Rattle.tables.specs.declared.Found.{Found}
 use Rattle.tables.specs.declared.Found.the-variants.{At, Nothing}
 use Rattle.wire.specs.Bytes.{num}
 use Rattle.frame.specs.declared.Header.{Header}
@@ -24,7 +21,7 @@ use Rattle.link.specs.declared.Decided.{Decided}
 use Rattle.link.specs.declared.Served.{Served}
 use Rattle.link.specs.declared.Outcome.{Outcome}
 use Rattle.link.specs.declared.Outcome.the-variants.{Place, Rejected}
-use Rattle.link.specs.Link.{decidedAs, sizeOf, outcomeOf, outcomeReply, outcomePort, newLogin, plogiOf, logoOf, serviceOf, linkOf, abtsOf}
+use Rattle.link.specs.Link.{decidedAs, sizeOf, outcomeOf, outcomeReply, newLogin, plogiOf, logoOf, serviceOf, linkOf, abtsOf}
 
 module _ (p n : Port) (from : ℕ) (q : Params) (o : Outcome) (r : Reply) (en : n ≡ changedAll (EndLogin from) p) (eo : o ≡ outcomeOf n q) (er : r ≡ outcomeReply o) where
   told : o ≡ outcomeOf (changedAll (EndLogin from) p) q

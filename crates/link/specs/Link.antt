@@ -1,7 +1,7 @@
 -- What each link service answers and what it stores (document 01, "Link services").
 use Prim.Native.Nat.{ℕ, _+_, _/_, _%_}
-use mathlib.Core.Bool.{Bool, true, false, cond, not, _&&_, _||_}
-use mathlib.Core.List.{List, []}
+use mathlib.Core.Bool.{Bool, cond, not, _&&_, _||_}
+use mathlib.Core.List.{List}
 use lib.Dec.{eqb}
 use lib.ListN.{length, getD, replicate}
 use Rattle.tables.specs.declared.Found.{Found}
@@ -10,7 +10,6 @@ use Rattle.tables.specs.Lists.{onFound, same}
 use Rattle.wire.specs.Bytes.{num, part}
 use Rattle.frame.specs.declared.Header.{Header}
 use Rattle.params.specs.declared.Params.{Params}
-use Rattle.params.specs.declared.Fault.{Fault}
 use Rattle.params.specs.declared.Verdict.{Verdict}
 use Rattle.params.specs.declared.Verdict.the-variants as verdict
 use Rattle.params.specs.Words.{paramsOf, verdictOf, reasonOf}

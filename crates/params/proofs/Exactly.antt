@@ -1,7 +1,7 @@
 -- Accepted exactly when no test fails, and rejected by a test exactly when it fails and none before it does; once over the field.
 -- Assumes nothing.
-use mathlib.Core.Path.{_≡_, refl, sym, ap, _∙_, subst}
-use mathlib.Core.Bool.{Bool, true, false, cond, not, _&&_}
+use mathlib.Core.Path.{_≡_, refl, sym, ap, subst}
+use mathlib.Core.Bool.{Bool, true, false, cond, not}
 use mathlib.Core.List.{List, [], _∷_}
 use Prim.Native.Nat.{ℕ, zero, suc, _<_}
 use native.Mathlib.Omega.{arith}
@@ -14,7 +14,6 @@ use Rattle.tables.proofs.Keeping.{all-at}
 use Rattle.params.specs.declared.Params.{Params}
 use Rattle.params.specs.declared.Fault.{Fault}
 use Rattle.params.specs.declared.Fault.the-variants.{BufferSize, PortName, NodeName, ClassThree, DataSize, ConcurrentSequences, OpenSequences}
-use Rattle.params.specs.declared.Verdict.{Verdict}
 use Rattle.params.specs.declared.Verdict.the-variants.{Accept, Reject}
 use Rattle.params.specs.Words.{fails, inOrder, firstFault, verdictOf, rank}
 

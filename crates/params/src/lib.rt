@@ -113,7 +113,7 @@ impl Params {
 }
 
 impl Verdict {
-    pub fn is_accept(self) -> bool
+    fn is_accept(self) -> bool
         ensures { λ r. ⌜ r ≡ accepts self ⌝ }
     {
         match self {

@@ -1,14 +1,14 @@
 -- Laws over plain variables for the writers: one payload after another, the fill, and the header at the front. Assumes nothing.
-use mathlib.Core.Path.{_≡_, refl, sym, ap, _∙_}
-use mathlib.Core.Bool.{true, false, cond}
-use mathlib.Core.List.{List, [], _∷_, _++_}
-use Prim.Native.Nat.{ℕ, _+_, _-_, _≤_, _<_, min}
+use mathlib.Core.Path.{_≡_, sym, ap, _∙_}
+use mathlib.Core.Bool.{false}
+use mathlib.Core.List.{List, _++_}
+use Prim.Native.Nat.{ℕ, _+_, _-_, _≤_, min}
 use native.Mathlib.Decide.{decLe}
 use native.Mathlib.Omega.{arith}
-use lib.ListN.{length, take, drop, replicate, length-append, length-replicate, length-take}
+use lib.ListN.{length, take, length-append, length-replicate}
 use lib.Seq.{take-all}
 use borrow.Rule.Slice.PartMut.{midOf, putMid}
-use Rattle.wire.specs.Bytes.{onto, over, Wrote, fillCount, fillOf}
+use Rattle.wire.specs.Bytes.{onto, Wrote, fillCount, fillOf}
 use Rattle.wire.proofs.Fronts.{length-onto}
 use Rattle.wire.proofs.Parts.{over-part, onto-after, wrote-then, wrote-within}
 use Rattle.frame.specs.declared.Header.{Header}

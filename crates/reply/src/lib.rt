@@ -9,7 +9,7 @@ ghost use Prim.Native.Nat.{_+_, _≤_, _<_};
 ghost use mathlib.Core.Bool.{cond};
 ghost use lib.ListN.{length};
 ghost use Rattle.wire.specs.Bytes.{Wrote, onto, fillCount};
-ghost use Rattle.reply.specs.Payload.{shortBytes, loginBytes, addressBytes, pairBytes, unpairBytes, acceptedBytes, rejectBytes, logoutBytes, abortAcceptBytes, abortRejectBytes, residualFlag, residualSize, statusBytes, codeBytes, senseWith, senseBytes, responseBytes, dataBytes, payloadOf};
+ghost use Rattle.reply.specs.Payload.{shortBytes, loginBytes, addressBytes, pairBytes, unpairBytes, acceptedBytes, rejectBytes, logoutBytes, abortAcceptBytes, abortRejectBytes, residualFlag, residualSize, statusBytes, senseWith, senseBytes, responseBytes, dataBytes, payloadOf};
 ghost use Rattle.reply.specs.Reply.{answerHead, logoutHead, dataHead, headOf, filled, silent, bytesOf, sentOf, writtenOf};
 
 // What a reply takes from the setup: the own address and the accept words.
@@ -83,7 +83,7 @@ pub fn write(o: Own, h: Header, r: Reply, source: &[u8], reply: &mut [u8]) -> us
     ensures { λ n. ⌜ n ≡ sentOf o h r (now (source .entry)) (length (now (reply .entry))) ⌝ }
     ensures { λ _. ⌜ now (reply .exit) ≡ writtenOf o h r (now (source .entry)) (now (reply .entry)) ⌝ }
 {
-    if reply.len() < 2136 {
+    if reply.len() < Header::MOST_FRAME {
         return 0;
     }
     put_reply(o, h, r, source, reply)
@@ -450,7 +450,7 @@ fn put_abort_reject(out: &mut [u8]) -> usize
 fn put_data(size: u16, source: &[u8], out: &mut [u8]) -> usize
     ensures { λ n. ⌜ Wrote (dataBytes size (now (source .entry))) (now (out .entry)) (now (out .exit)) n 2048 ⌝ }
 {
-    let n = least(least(size as usize, 2048), source.len());
+    let n = least(least(size as usize, Header::MOST_DATA), source.len());
     put_front(out, &source[..n]);
     n
 }

@@ -1,11 +1,9 @@
 -- What owning a port or a login tells of the lengths of its tables. Assumes nothing.
-use Prim.Native.Nat.{ℕ, _<_}
 use mathlib.Core.Path.{_≡_, sym, _∙_}
 use mathlib.Core.List.{List}
 use lib.ListN.{length, length-map}
 use mir.Val.{Val}
 use denote.Shadow.{shadow}
-use Rattle.state.specs.declared.Exchange.{Exchange}
 use Rattle.state.specs.declared.Login.{Login}
 use Rattle.state.specs.declared.Port.{Port}
 use Rattle.state.proofs.Login as login

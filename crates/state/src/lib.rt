@@ -3,7 +3,7 @@
 use tables::Found;
 ghost use mathlib.Core.Path.{_≡_};
 ghost use Rattle.tables.specs.Lists.{Within, all};
-ghost use Rattle.state.specs.Tables.{isFree, hasId, findLogin, freeLogin, findExchange, freeExchange, lookupOf, LookedUp};
+ghost use Rattle.state.specs.Tables.{isFree, hasId, findLogin, freeLogin, findExchange, freeExchange, LookedUp};
 ghost use Rattle.state.specs.Changes.{emptyExchange, emptyLogin, loginAt, exchangeAt, withLogin, withExchange, withoutExchanges, withAttention, advanced, endedAt, hasAddress, endedOf, unproven, verified, abortedOf, resetOf, losesTo, clearedBy, changedOf, changedAll, poweredOn, isClosed};
 
 // A place for an open exchange of a login. What it sends is told by kind; a free place has kind 0.
@@ -40,6 +40,8 @@ impl Exchange {
     pub const SENSE_CLEARED: u8 = 7;
 
     pub const SENSE_OTHER_UNIT: u8 = 8;
+    // the blocks of a READ at most
+    pub const MOST_READ: u64 = 65535;
 }
 
 // A place for a login. Flags are 0 or 1; attention is 0, 29h or 2Fh.
@@ -127,7 +129,7 @@ pub enum Change {
 }
 
 // Whether a login is used and has this address.
-pub fn has_address(l: Login, address: u32) -> bool
+fn has_address(l: Login, address: u32) -> bool
     ensures { λ r. ⌜ r ≡ hasAddress address l ⌝ }
 {
     if l.used == 1 {
@@ -145,7 +147,7 @@ pub fn is_free(l: Login) -> bool
 }
 
 // Whether an exchange is open and has this OX_ID.
-pub fn has_id(e: Exchange, ox_id: u16) -> bool
+fn has_id(e: Exchange, ox_id: u16) -> bool
     ensures { λ r. ⌜ r ≡ hasId «ox_id» e ⌝ }
 {
     if e.kind == Exchange::FREE {
@@ -379,7 +381,7 @@ pub fn set_attention(l: Login, attention: u8) -> Login
 }
 
 // What a change makes of one login. A free place stays free.
-pub fn changed(l: Login, c: Change) -> Login
+fn changed(l: Login, c: Change) -> Login
     ensures { λ r. ⌜ r ≡ changedOf c l ⌝ }
 {
     match c {

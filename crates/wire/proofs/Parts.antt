@@ -1,11 +1,11 @@
 -- A part of a slice that was lent from a place to the end: what it is, and what the whole is once it is back. Assumes nothing.
-use mathlib.Core.Path.{_≡_, refl, sym, ap, _∙_}
-use mathlib.Core.List.{List, [], _∷_, _++_, append-assoc, append-nil}
-use Prim.Native.Nat.{ℕ, _+_, _-_, _≤_, _<_}
+use mathlib.Core.Path.{_≡_, sym, ap, _∙_}
+use mathlib.Core.List.{List, _++_, append-assoc, append-nil}
+use Prim.Native.Nat.{ℕ, _+_, _-_, _≤_}
 use native.Mathlib.Omega.{arith}
-use lib.ListN.{length, take, drop, length-take, length-drop, drop-of-length-le, length-append}
+use lib.ListN.{length, take, drop, length-drop, drop-of-length-le, length-append}
 use lib.Seq.{take-all, take-at, drop-at, drop-drop, take-append-add, length-take-le}
-use borrow.Rule.Slice.PartMut.{midOf, postOf, putMid}
+use borrow.Rule.Slice.PartMut.{midOf, putMid}
 use Rattle.wire.specs.Bytes.{onto, over, Wrote}
 use Rattle.wire.proofs.Fronts.{onto-fits, length-onto}
 

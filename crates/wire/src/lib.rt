@@ -1,8 +1,8 @@
-// Big-endian numbers read from a lent slice and written into one. Reading past the end gives 0, and what does not fit is not written.
+// Big-endian numbers read from a lent slice, and bytes copied into one. Reading past the end gives 0, and what does not fit is not written.
 ghost use mathlib.Core.Path.{_≡_};
 ghost use Prim.Native.Nat.{_≤_, _<_, min};
 ghost use lib.ListN.{getD};
-ghost use Rattle.wire.specs.Bytes.{bytes, num, part, onto, over, fillCount, fillOf};
+ghost use Rattle.wire.specs.Bytes.{num, part, onto, over, fillCount, fillOf};
 
 // The byte at a place, 0 past the end.
 pub fn byte_at(s: &[u8], i: usize) -> u8
@@ -11,13 +11,7 @@ pub fn byte_at(s: &[u8], i: usize) -> u8
     if i < s.len() { s[i] } else { 0 }
 }
 
-// The numbers of 8 to 64 bits at a place. A place of 16 bits leaves no sum that wraps.
-pub fn be8(s: &[u8], at: u16) -> u8
-    ensures { λ r. ⌜ r ≡ num 1 (now (s .entry)) at ⌝ }
-{
-    byte_at(s, at as usize)
-}
-
+// The numbers of 16 to 64 bits at a place. A place of 16 bits leaves no sum that wraps.
 pub fn be16(s: &[u8], at: u16) -> u16
     ensures { λ r. ⌜ r ≡ num 2 (now (s .entry)) at ⌝ }
 {
@@ -106,61 +100,6 @@ pub fn put_at(out: &mut [u8], at: u16, src: &[u8])
     if a <= out.len() {
         put_front(&mut out[a..], src);
     }
-}
-
-// The numbers of 8 to 64 bits, written at a place.
-pub fn put8(out: &mut [u8], at: u16, n: u8)
-    ensures { λ _. ⌜ now (out .exit) ≡ over (now (out .entry)) at (bytes 1 n) ⌝ }
-{
-    let b = [n];
-    put_at(out, at, &b);
-}
-
-pub fn put16(out: &mut [u8], at: u16, n: u16)
-    ensures { λ _. ⌜ now (out .exit) ≡ over (now (out .entry)) at (bytes 2 n) ⌝ }
-{
-    let b = [(n / 256 % 256) as u8, (n % 256) as u8];
-    put_at(out, at, &b);
-}
-
-// The low three bytes of n.
-pub fn put24(out: &mut [u8], at: u16, n: u32)
-    ensures { λ _. ⌜ now (out .exit) ≡ over (now (out .entry)) at (bytes 3 n) ⌝ }
-{
-    let b = [
-        (n / 256 / 256 % 256) as u8,
-        (n / 256 % 256) as u8,
-        (n % 256) as u8,
-    ];
-    put_at(out, at, &b);
-}
-
-pub fn put32(out: &mut [u8], at: u16, n: u32)
-    ensures { λ _. ⌜ now (out .exit) ≡ over (now (out .entry)) at (bytes 4 n) ⌝ }
-{
-    let b = [
-        (n / 256 / 256 / 256 % 256) as u8,
-        (n / 256 / 256 % 256) as u8,
-        (n / 256 % 256) as u8,
-        (n % 256) as u8,
-    ];
-    put_at(out, at, &b);
-}
-
-pub fn put64(out: &mut [u8], at: u16, n: u64)
-    ensures { λ _. ⌜ now (out .exit) ≡ over (now (out .entry)) at (bytes 8 n) ⌝ }
-{
-    let b = [
-        (n / 256 / 256 / 256 / 256 / 256 / 256 / 256 % 256) as u8,
-        (n / 256 / 256 / 256 / 256 / 256 / 256 % 256) as u8,
-        (n / 256 / 256 / 256 / 256 / 256 % 256) as u8,
-        (n / 256 / 256 / 256 / 256 % 256) as u8,
-        (n / 256 / 256 / 256 % 256) as u8,
-        (n / 256 / 256 % 256) as u8,
-        (n / 256 % 256) as u8,
-        (n % 256) as u8,
-    ];
-    put_at(out, at, &b);
 }
 
 // The zeros that fill a payload of this size to a multiple of 4, over the front of out; answers how many there are.

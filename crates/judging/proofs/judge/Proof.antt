@@ -1,6 +1,5 @@
 -- `judging::judge` meets its contract: the tests that were made are the definition's. Assumes nothing.
 use mathlib.Core.Path.{sym, ap, _∙_}
-use lib.Dec.{eqb}
 use borrow.Author.Tests.{lt-ltb, le-ltb, eq-eqb, ne-eqb}
 use Rattle.params.specs.Words.{verdictOf}
 use Rattle.judging.specs.Judgement.{judgementOf}

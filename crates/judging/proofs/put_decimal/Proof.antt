@@ -1,7 +1,6 @@
 -- `judging::put_decimal` meets its contract: the digits of `io::decimal`, copied. Assumes nothing.
 use mathlib.Core.Path.{_≡_, sym, ap, _∙_}
 use Prim.Native.Nat.{_≤_, _<_, _^_}
-use native.Mathlib.Omega.{arith}
 use lib.ListN.{length}
 use Rattle.judging.proofs.Decimal.{length-digits, at-most-20, decimal-is}
 use Rattle.judging.specs.Text.{decimal}

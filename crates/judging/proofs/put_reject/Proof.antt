@@ -1,5 +1,5 @@
 -- `judging::put_reject` meets its contract: fourteen bytes, copied. Assumes nothing.
-use mathlib.Core.Path.{refl, sym, ap, _∙_}
+use mathlib.Core.Path.{refl}
 use native.Mathlib.Omega.{arith}
 use Rattle.judging.specs.Text.{rejectText}
 use borrow.Author.Needs.{needs}

@@ -1,6 +1,5 @@
 -- `link::link` meets its contract: a law for each way through the dispatch. Assumes nothing.
 use mathlib.Core.Path.{sym, ap, _∙_}
-use Rattle.params.specs.Words.{paramsOf}
 use Rattle.link.specs.Link.{plogiOf, logoOf}
 use Rattle.link.proofs.Ways.{other-code, wrong-size, is-plogi, is-logo, no-login, at-login}
 use borrow.Author.Needs.{needs}

@@ -1,11 +1,8 @@
 -- `recording::start` meets its contract: no drive is made of zeros. Assumes nothing.
-use mathlib.Core.Path.{_≡_, refl, ap, _∙_}
+use mathlib.Core.Path.{refl, _∙_}
 use mathlib.Core.Bool.{false}
 use Rattle.formed.specs.Formed.{setupRules}
-use Rattle.drive.specs.declared.Answer.{Answer}
-use Rattle.drive.specs.declared.Drive.{Drive}
 use Rattle.drive.proofs.Made.{new-refused}
-use Rattle.recording.specs.declared.Session.{Session}
 use Rattle.recording.specs.Calls.{unmade}
 use borrow.Author.Needs.{needs}
 use Rattle.recording.proofs.start.Statement.{statement}

@@ -1,5 +1,4 @@
 -- `reply::data_head` meets its contract. Assumes nothing.
-use mathlib.Core.Path.{refl}
 use Rattle.reply.specs.Reply.{answerHead, dataHead}
 use borrow.Author.Needs.{needs}
 use Rattle.reply.proofs.data_head.Statement.{statement}

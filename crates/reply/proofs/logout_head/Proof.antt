@@ -1,5 +1,4 @@
 -- `reply::logout_head` meets its contract. Assumes nothing.
-use mathlib.Core.Path.{refl}
 use Rattle.reply.specs.Reply.{answerHead, logoutHead}
 use borrow.Author.Needs.{needs}
 use Rattle.reply.proofs.logout_head.Statement.{statement}

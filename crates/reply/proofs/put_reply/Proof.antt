@@ -1,7 +1,6 @@
 -- `reply::put_reply` meets its contract: nothing, or the header before the payload and its fill. Assumes nothing.
-use mathlib.Core.Path.{_≡_, refl, sym, ap, _∙_}
+use mathlib.Core.Path.{refl, sym, _∙_}
 use native.Mathlib.Omega.{arith}
-use lib.ListN.{length}
 use Rattle.wire.proofs.Fronts.{onto-nil}
 use Rattle.reply.proofs.Laws.{framed}
 use Rattle.reply.specs.Reply.{bytesOf}

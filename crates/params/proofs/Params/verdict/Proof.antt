@@ -1,6 +1,5 @@
 -- `params::Params::verdict` meets its contract: each test that was made is the definition's, in its order. Assumes nothing.
-use mathlib.Core.Path.{_≡_, sym, _∙_}
-use mathlib.Core.Bool.{false}
+use mathlib.Core.Path.{sym, _∙_}
 use borrow.Author.Needs.{needs}
 use borrow.Author.Tests.{lt-ltb, le-ltb, eq-eqb, ne-eqb}
 use Rattle.params.specs.Words.{verdictOf}
