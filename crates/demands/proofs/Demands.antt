@@ -19,7 +19,7 @@ use Rattle.link.specs.Link.{linkOf}
 use Rattle.link.proofs.Exactly.{ended}
 use Rattle.arrival.specs.declared.Refusal.{Refusal}
 use Rattle.arrival.specs.declared.Refusal.the-variants.{IllFormed, BadSetup}
-use Rattle.arrival.proofs.Exactly.{First}
+use Rattle.arrival.specs.First.{First}
 use Rattle.drive.specs.declared.Drive.{Drive}
 use Rattle.drive.specs.declared.Event.{Event}
 use Rattle.drive.specs.declared.Answer.{Answer}

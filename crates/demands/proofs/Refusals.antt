@@ -33,7 +33,8 @@ use Rattle.arrival.specs.declared.Kind.{Kind}
 use Rattle.arrival.specs.declared.Judged.{Judged}
 use Rattle.arrival.specs.declared.Judged.the-variants as judged
 use Rattle.arrival.specs.Arrival.{shortBuffer, judgedOf}
-use Rattle.arrival.proofs.Exactly.{First, given-first, first-given}
+use Rattle.arrival.specs.First.{First}
+use Rattle.arrival.proofs.Exactly.{given-first, first-given}
 use Rattle.drive.specs.declared.Drive.{Drive}
 use Rattle.drive.specs.declared.Answer.{Answer}
 use Rattle.drive.specs.declared.Said.{Said}
