@@ -16,7 +16,7 @@ use Rattle.state.specs.declared.Setup.{Setup}
 use Rattle.formed.specs.Formed.{setupRules, wellFormed}
 use Rattle.reply.specs.declared.Reply.the-variants.{Reject}
 use Rattle.link.specs.Link.{linkOf}
-use Rattle.link.proofs.Exactly.{ended}
+use Rattle.link.specs.Login.{ended}
 use Rattle.arrival.specs.declared.Refusal.{Refusal}
 use Rattle.arrival.specs.declared.Refusal.the-variants.{IllFormed, BadSetup}
 use Rattle.arrival.specs.First.{First}

@@ -12,7 +12,8 @@ use Rattle.reply.specs.declared.Reply.{Reply}
 use Rattle.reply.specs.declared.Reply.the-variants as reply
 use Rattle.reply.specs.declared.Accepted.the-variants as accepted
 use Rattle.link.specs.Link.{decidedAs, newLogin, linkOf}
-use Rattle.link.proofs.Exactly.{ended, leftBy, Accepts, Rejects, accepts, accepts-only, rejects, rejects-only}
+use Rattle.link.specs.Login.{ended, leftBy, Accepts, Rejects}
+use Rattle.link.proofs.Exactly.{accepts, accepts-only, rejects, rejects-only}
 use Rattle.arrival.specs.declared.Kind.the-variants.{Link}
 use Rattle.arrival.specs.declared.Judged.the-variants.{Passed}
 use Rattle.arrival.specs.Arrival.{judgedOf}
