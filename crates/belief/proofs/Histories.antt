@@ -31,7 +31,7 @@ use Rattle.arrival.specs.Arrival.{badSize, badSource, knownPair, unknownForm, s
 use Rattle.drive.specs.declared.Drive.{Drive}
 use Rattle.drive.specs.Drive.{madeFrom, afterEvent, eventAnswer}
 use Rattle.drive.specs.Entry.{replyBytes, frameIn, frameInBuffer}
-use Rattle.demands.proofs.Numbers.{words, made, plogi, prli, ready}
+use Rattle.demands.specs.Numbers.{words, made, plogi, prli, ready}
 use Rattle.belief.specs.Host as host
 use Rattle.belief.specs.Host.{Belief, unsure, sure, Request}
 use Rattle.belief.specs.Demand3.{Event, send, heard, lapse, World, run, start, Keeps}
