@@ -17,6 +17,7 @@ use Rattle.arrival.specs.declared.Kind.{Kind}
 use Rattle.arrival.specs.declared.Judged.{Judged}
 use Rattle.arrival.specs.declared.Judged.the-variants.{Refused, Passed}
 use Rattle.arrival.specs.Arrival.{numberOf, shortBuffer, badSize, badSource, unknownForm, unprovenCall, kindOf, judgedOf}
+use Rattle.arrival.specs.First.{appliesIn, First}
 
 -- a test on the way to a refusal: this one, or a later one
 on : {A : Type 0} (b : Bool) (y x : Refusal) (rest : Judged) → (b ≡ true → x ≡ y → A) → (b ≡ false → rest ≡ Refused x → A) → cond b (Refused y) rest ≡ Refused x → A
@@ -27,23 +28,8 @@ passed-not : {A : Type 0} (x : Refusal) (k : Kind) → Passed k ≡ Refused x �
 passed-not x k e = let z : _≡_ {A = ℕ} 0 1 = cc in absurd (omega arith)
 
 module _ (u : Unit) (p : Port) (h : Header) (f : List ℕ) (room : ℕ) where
-  -- "When", of each number; 8, 9 and 10 are not given to a frame in
-  abbrev pub applies : Refusal → Bool
-  applies ShortBuffer = shortBuffer room
-  applies IllFormed = not (wellFormed u p)
-  applies BadSize = badSize (length f)
-  applies NotOurs = not (eqb (h .«d_id») (p .address))
-  applies BadSource = badSource (p .address) (h .«s_id»)
-  applies UnknownForm = unknownForm h (length f)
-  applies Unproven = unprovenCall p h (getD f 24 0)
-  applies BadSetup = false
-  applies NoExchange = false
-  applies BadWindow = false
-
-  -- the first of them that applies
-  pub record First (x : Refusal) : Type 0 where
-    pub this : applies x ≡ true
-    pub before : (y : Refusal) → numberOf y < numberOf x → applies y ≡ false
+  abbrev applies : Refusal → Bool
+  applies = appliesIn u p h f room
 
   -- the numbers below n, each by its own fact
   below : (n : ℕ) → (1 < n → applies ShortBuffer ≡ false) → (2 < n → applies IllFormed ≡ false) → (3 < n → applies BadSize ≡ false) → (4 < n → applies NotOurs ≡ false) → (5 < n → applies BadSource ≡ false) → (6 < n → applies UnknownForm ≡ false) → (7 < n → applies Unproven ≡ false) → (y : Refusal) → numberOf y < n → applies y ≡ false
@@ -58,11 +44,11 @@ module _ (u : Unit) (p : Port) (h : Header) (f : List ℕ) (room : ℕ) where
   below n a b c d e g v NoExchange l = refl
   below n a b c d e g v BadWindow l = refl
 
-  at : {x : Refusal} (y : Refusal) → x ≡ y → First y → First x
+  at : {x : Refusal} (y : Refusal) → x ≡ y → First u p h f room y → First u p h f room x
   at y e z = rw e z
 
   -- given: it applies, and none before it does
-  pub given-first : (x : Refusal) → judgedOf u p h f room ≡ Refused x → First x
+  pub given-first : (x : Refusal) → judgedOf u p h f room ≡ Refused x → First u p h f room x
   unfolding judgedOf
   given-first x =
       on (shortBuffer room) ShortBuffer x _ (λ t is. at ShortBuffer is record { this = t; before = below 1 (λ l. absurd (omega arith)) (λ l. absurd (omega arith)) (λ l. absurd (omega arith)) (λ l. absurd (omega arith)) (λ l. absurd (omega arith)) (λ l. absurd (omega arith)) (λ l. absurd (omega arith)) })
@@ -75,7 +61,7 @@ module _ (u : Unit) (p : Port) (h : Header) (f : List ℕ) (room : ℕ) where
       (λ v e. passed-not x (kindOf (h .«r_ctl»)) e)))))))
 
   -- where it applies, and none before it does: given
-  pub first-given : (x : Refusal) → First x → judgedOf u p h f room ≡ Refused x
+  pub first-given : (x : Refusal) → First u p h f room x → judgedOf u p h f room ≡ Refused x
   unfolding judgedOf
   first-given ShortBuffer z = rw (z .this)
   first-given IllFormed z = rw (z .before ShortBuffer (omega arith), z .this)

@@ -27,7 +27,7 @@ use Rattle.serve.specs.Next.{ownOf}
 use Rattle.arrival.specs.Arrival.{badSize, badSource, knownPair, unknownForm, spared, unprovenLogin, unprovenCall, kindOf, judgedOf}
 use Rattle.drive.specs.Drive.{madeFrom, afterEvent, eventAnswer}
 use Rattle.drive.specs.Entry.{replyBytes, frameIn, frameInBuffer}
-use Rattle.demands.proofs.Numbers.{made, plogi, prli, ready}
+use Rattle.demands.specs.Numbers.{made, plogi, prli, ready}
 use Rattle.belief.specs.Host as host
 use Rattle.belief.specs.Host.{sure}
 use Rattle.belief.specs.Demand3.{Event, send, heard, lapse, World, run, start, Keeps}

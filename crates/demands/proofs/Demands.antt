@@ -16,10 +16,10 @@ use Rattle.state.specs.declared.Setup.{Setup}
 use Rattle.formed.specs.Formed.{setupRules, wellFormed}
 use Rattle.reply.specs.declared.Reply.the-variants.{Reject}
 use Rattle.link.specs.Link.{linkOf}
-use Rattle.link.proofs.Exactly.{ended}
+use Rattle.link.specs.Login.{ended}
 use Rattle.arrival.specs.declared.Refusal.{Refusal}
 use Rattle.arrival.specs.declared.Refusal.the-variants.{IllFormed, BadSetup}
-use Rattle.arrival.proofs.Exactly.{First}
+use Rattle.arrival.specs.First.{First}
 use Rattle.drive.specs.declared.Drive.{Drive}
 use Rattle.drive.specs.declared.Event.{Event}
 use Rattle.drive.specs.declared.Answer.{Answer}
@@ -27,18 +27,22 @@ use Rattle.drive.specs.declared.Said.the-variants.{Refused}
 use Rattle.drive.specs.Drive.{madeFrom, noDrive, silent, refused, newAnswer, afterEvent, eventAnswer}
 use Rattle.drive.specs.Entry.{frameIn, frameInBuffer, nextFrame, nextFrameBuffer}
 use Rattle.drive.proofs.Made.{new-refused, new-made, event-refused, event-answered}
-use Rattle.drive.proofs.Keeping.{fine}
-use Rattle.demands.proofs.Reach.{Driven, driven-fine}
-use Rattle.demands.proofs.Refusals.{frame-first, frame-refuses, FirstOut, next-first, next-refuses, next-unchanged}
-use Rattle.demands.proofs.Lengths.{frame-long, next-long}
-use Rattle.demands.proofs.Login.{LoginIn, rejected-ends, rejected-keeps}
 use Rattle.state.specs.declared.Standing.the-variants.{Open}
 use Rattle.state.specs.Changes.{loginAt}
 use Rattle.state.specs.Tables.{lookupOf}
 use Rattle.serve.specs.Next.{exchangeOf, fullOf}
 use Rattle.serve.specs.Whole.{Piece}
-use Rattle.demands.proofs.Reading.{Reads, OpenRead, Delivered, freed, Comes, reads-whole, reads-come}
-use Rattle.demands.proofs.Numbers.{KnownNumbers, known-numbers}
+use Rattle.demands.specs.Driven.{Driven}
+use Rattle.demands.specs.Refusals.{FirstOut}
+use Rattle.demands.specs.Login.{LoginIn}
+use Rattle.demands.specs.Reading.{Reads, OpenRead, Delivered, freed, Comes}
+use Rattle.demands.specs.Numbers.{KnownNumbers}
+use Rattle.demands.proofs.Reach.{driven-fine}
+use Rattle.demands.proofs.Refusals.{frame-first, frame-refuses, next-first, next-refuses, next-unchanged}
+use Rattle.demands.proofs.Lengths.{frame-long, next-long}
+use Rattle.demands.proofs.Login.{rejected-ends, rejected-keeps}
+use Rattle.demands.proofs.Reading.{reads-whole, reads-come}
+use Rattle.demands.proofs.Numbers.{known-numbers}
 
 -- No input allows two replies: two answers that meet an entry's contract are the same, and so are two buffers.
 pub one-reply : (d : Drive) (f l : List ℕ) (r s : Answer) (m n : List ℕ)
@@ -75,7 +79,7 @@ pub next-same : (d : Drive) (a x start : ℕ) (W l : List ℕ) (r : Refusal) →
 next-same = next-unchanged
 
 -- An event is refused, with 2, exactly when the state is not well formed; making a drive, with 8, exactly when a setup rule fails.
-pub event-given : (d : Drive) (e : Event) → (fine d ≡ false → eventAnswer d e ≡ refused IllFormed d) × (fine d ≡ true → eventAnswer d e ≡ silent (afterEvent e d))
+pub event-given : (d : Drive) (e : Event) → (wellFormed (d .unit) (d .port) ≡ false → eventAnswer d e ≡ refused IllFormed d) × (wellFormed (d .unit) (d .port) ≡ true → eventAnswer d e ≡ silent (afterEvent e d))
 event-given d e = (event-refused d e, event-answered d e)
 
 pub new-given : (s : Setup) → (setupRules (s .capacity) (s .address) (s .accept) ≡ false → newAnswer s ≡ refused BadSetup noDrive)
@@ -87,10 +91,10 @@ pub driven-formed : {d : Drive} → Driven d → wellFormed (d .unit) (d .port) 
 driven-formed = driven-fine
 
 pub frame-never-2 : {d : Drive} → Driven d → (f l : List ℕ) → frameIn d f (length l) .said ≡ Refused IllFormed → ⊥
-frame-never-2 {d} r f l e = apart (driven-fine r) (not-true (fine d) (frame-first d f l IllFormed e .this))
+frame-never-2 {d} r f l e = apart (driven-fine r) (not-true (wellFormed (d .unit) (d .port)) (frame-first d f l IllFormed e .this))
 
 pub next-never-2 : {d : Drive} → Driven d → (a x start : ℕ) (W l : List ℕ) → nextFrame d a x start W (length l) .said ≡ Refused IllFormed → ⊥
-next-never-2 {d} r a x start W l e = apart (driven-fine r) (not-true (fine d) (next-first d a x start W l IllFormed e .this))
+next-never-2 {d} r a x start W l e = apart (driven-fine r) (not-true (wellFormed (d .unit) (d .port)) (next-first d a x start W l IllFormed e .this))
 
 pub event-never-2 : {d : Drive} → Driven d → (e : Event) → eventAnswer d e ≡ silent (afterEvent e d)
 event-never-2 {d} r e = event-answered d e (driven-fine r)

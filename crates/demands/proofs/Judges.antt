@@ -1,8 +1,8 @@
 -- What judges finds of a login record is what the drive answers to a PLOGI of that payload, where it has no logins. Assumes nothing.
 use mathlib.Core.Path.{_≡_, refl, sym, ap, _∙_}
 use mathlib.Core.Bool.{true, false, _&&_}
-use mathlib.Core.List.{List, _++_}
-use Prim.Native.Nat.{ℕ, _+_, _≤_, _<_}
+use mathlib.Core.List.{List}
+use Prim.Native.Nat.{ℕ, _≤_, _<_}
 use native.Mathlib.Omega.{arith}
 use native.Mathlib.Decide.{decLe}
 use lib.Dec.{leb}
@@ -17,29 +17,25 @@ use Rattle.address.specs.Address.{validAddress}
 use Rattle.address.proofs.Map.{none-above}
 use Rattle.params.specs.declared.Verdict.{Verdict}
 use Rattle.params.specs.declared.Verdict.the-variants as verdict
-use Rattle.params.specs.Words.{paramsOf, verdictOf, reasonOf, setupPasses}
+use Rattle.params.specs.Words.{paramsOf, verdictOf, setupPasses}
 use Rattle.state.specs.declared.Setup.{Setup}
 use Rattle.state.specs.declared.Change.the-variants.{EndLogin}
 use Rattle.state.specs.Changes.{hasAddress, endedOf, changedAll}
 use Rattle.state.specs.Tables.{freeLogin}
 use Rattle.formed.specs.Formed.{setupRules}
-use Rattle.reply.specs.declared.Reply.{Reply}
-use Rattle.reply.specs.declared.Reply.the-variants as reply
-use Rattle.reply.specs.declared.Accepted.the-variants as accepted
 use Rattle.link.specs.declared.Decided.{Decided}
 use Rattle.link.specs.Link.{sizeOf, outcomeAfter, outcomeOf, outcomeReply, plogiOf, linkOf}
 use Rattle.arrival.specs.declared.Kind.the-variants.{Link}
 use Rattle.arrival.specs.declared.Judged.the-variants.{Passed}
 use Rattle.arrival.specs.Arrival.{badSize, badSource, knownPair, unknownForm, spared, unprovenCall, kindOf, judgedOf}
 use Rattle.arrival.proofs.Passes.{passes}
-use Rattle.judging.specs.declared.Judgement.{Judgement}
-use Rattle.judging.specs.declared.Judgement.the-variants as judgement
 use Rattle.judging.specs.Judgement.{judged, judgementOf}
 use Rattle.drive.specs.declared.Drive.{Drive}
 use Rattle.drive.specs.Drive.{madeFrom}
 use Rattle.drive.specs.Entry.{answered, frameIn}
 use Rattle.drive.proofs.Made.{made-formed}
 use Rattle.drive.proofs.Keeping.{source-valid}
+use Rattle.demands.specs.Judges.{plogiHeader, plogiFrame, replyFor}
 
 pub small-address : (n : ℕ) → validAddress n ≡ true → n < 256
 small-address n v =
@@ -47,35 +43,6 @@ small-address n v =
       | yes l ↦ apart v (none-above n l)
       | no l ↦ omega arith
     ]
-
--- the header of a PLOGI from an address to another
-abbrev pub plogiHeader : ℕ → ℕ → ℕ → Header
-plogiHeader from to ox =
-    record {
-      «r_ctl» = 0x22;
-      «d_id» = to;
-      reserved = 0;
-      «s_id» = from;
-      kind = 0x01;
-      «f_ctl» = 0x290000;
-      «seq_id» = 0;
-      «df_ctl» = 0;
-      «seq_cnt» = 0;
-      «ox_id» = ox;
-      «rx_id» = 0xffff;
-      offset = 0;
-    }
-
--- a PLOGI with this payload
-abbrev pub plogiFrame : ℕ → ℕ → ℕ → List ℕ → List ℕ
-plogiFrame from to ox s = headerBytes (plogiHeader from to ox) ++ s
-
--- what is sent for a judgement: "ACC", "LS_RJT" with reason and explanation
-abbrev pub replyFor : Judgement → Reply
-replyFor judgement.Accept = reply.Accept accepted.Login
-replyFor (judgement.Reject t) = reply.Reject (reasonOf t .reason) (reasonOf t .explanation)
-replyFor judgement.NotPlogi = reply.Nothing
-replyFor (judgement.Short n) = reply.Nothing
 
 same-reply : (v : Verdict) → outcomeReply (outcomeAfter v (At 0)) ≡ replyFor (judged v)
 same-reply verdict.Accept = refl

@@ -2,7 +2,7 @@
 use mathlib.Core.Path.{_≡_, refl, ap, _∙_}
 use mathlib.Core.List.{List}
 use Prim.Native.Nat.{ℕ}
-use lib.ListN.{length, getD}
+use lib.ListN.{length}
 use borrow.Author.Tests.{eq-eqb, ne-eqb}
 use Rattle.wire.specs.Bytes.{onto}
 use Rattle.frame.specs.Head.{headerOf}
@@ -11,18 +11,12 @@ use Rattle.state.specs.Changes.{withLogin}
 use Rattle.reply.specs.declared.Reply.the-variants as reply
 use Rattle.reply.specs.declared.Accepted.the-variants as accepted
 use Rattle.link.specs.Link.{decidedAs, newLogin, linkOf}
-use Rattle.link.proofs.Exactly.{ended, leftBy, Accepts, Rejects, accepts, accepts-only, rejects, rejects-only}
-use Rattle.arrival.specs.declared.Kind.the-variants.{Link}
-use Rattle.arrival.specs.declared.Judged.the-variants.{Passed}
-use Rattle.arrival.specs.Arrival.{judgedOf}
+use Rattle.link.specs.Login.{ended, leftBy, Accepts, Rejects}
+use Rattle.link.proofs.Exactly.{accepts, accepts-only, rejects, rejects-only}
 use Rattle.drive.specs.declared.Drive.{Drive}
 use Rattle.drive.specs.declared.Answer.{Answer}
 use Rattle.drive.specs.Entry.{answered, replyBytes, frameIn, frameInBuffer}
-
--- a PLOGI that is not refused
-pub record LoginIn (d : Drive) (f l : List ℕ) : Type 0 where
-  pub passed : judgedOf (d .unit) (d .port) (headerOf f) f (length l) ≡ Passed Link
-  pub plogi : getD f 24 0 ≡ 3
+use Rattle.demands.specs.Login.{LoginIn}
 
 module _ (d : Drive) (f l : List ℕ) (p : LoginIn d f l) where
   -- the answer and the buffer are those of the link services' reply

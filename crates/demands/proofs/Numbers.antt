@@ -1,9 +1,6 @@
 -- Document 01's known numbers that are marked P, at the entries, by computation: one theorem. Assumes nothing.
-use Prim.Native.Nat.{ℕ, _*_, _+_}
-use mathlib.Core.Path.{_≡_, refl}
-use mathlib.Core.List.{List, [], _∷_, _++_}
-use lib.ListN.{take, drop, replicate}
-use Rattle.wire.specs.Bytes.{onto, bytes}
+use mathlib.Core.Path.{refl}
+use Rattle.wire.specs.Bytes.{onto}
 use Rattle.frame.specs.Head.{headerOf, headerBytes}
 use Rattle.address.specs.Address.{validAddress}
 use Rattle.params.specs.Words.{paramsOf, sizeFails, zeroName, verdictOf, setupPasses}
@@ -18,136 +15,10 @@ use Rattle.command.specs.Cmnd.{cmndOf, malformed, taskFor, taskOf}
 use Rattle.command.specs.Tests.{skips, otherUnit, attends, unknownCode, inquiryField, capacityField, fieldSet, outside, exchangeFor, askedOf}
 use Rattle.command.specs.Command.{refusedWith, toldOf, answerOf, executeOf, commandedAt, commandOf}
 use Rattle.serve.specs.Next.{hasMore, readsMore, coverOf, placeOf, frameOf, nextReply, nextExchange, sourceOf, ownOf, askedBy, openStep, stepOf, frameBytes, portAfter, nextOf, nextBuffer}
-use Rattle.arrival.specs.declared.Refusal.the-variants.{BadSize, BadWindow}
 use Rattle.arrival.specs.Arrival.{badSize, badSource, knownPair, unknownForm, spared, unprovenLogin, unprovenCall, kindOf, judgedOf}
-use Rattle.drive.specs.declared.Drive.{Drive}
-use Rattle.drive.specs.declared.Said.{Said}
-use Rattle.drive.specs.declared.Said.the-variants.{Sent, Refused}
 use Rattle.drive.specs.Drive.{madeFrom}
 use Rattle.drive.specs.Entry.{replyBytes, frameIn, frameInBuffer, nextFrame, nextFrameBuffer}
-
--- words 1 to 28 of a login with this W18 size
-abbrev pub words : ℕ → List ℕ
-words n =
-    replicate 6 0 ++ (0x08 ∷ 0x00 ∷ replicate 8 0) ++ replicate 16 0x5a ++ replicate 32 0 ++ (0x80 ∷ replicate 5 0) ++ bytes 2 n ++ (0x00 ∷ 0x01 ∷ 0x00 ∷ 0x00 ∷ 0x00 ∷ 0x01 ∷ replicate 34 0)
-
--- a drive of address EFh and this capacity, as it is made
-abbrev pub made : ℕ → Drive
-made capacity = madeFrom record { capacity = capacity; address = 0xef; identity = replicate 28 0x20; accept = words 2048 }
-
--- a frame to it
-abbrev pub frame : ℕ → ℕ → ℕ → ℕ → List ℕ → List ℕ
-frame rctl kind from ox payload =
-    headerBytes record {
-      «r_ctl» = rctl;
-      «d_id» = 0xef;
-      reserved = 0;
-      «s_id» = from;
-      kind = kind;
-      «f_ctl» = 0x290000;
-      «seq_id» = 0;
-      «df_ctl» = 0;
-      «seq_cnt» = 0;
-      «ox_id» = ox;
-      «rx_id» = 0xffff;
-      offset = 0;
-    } ++ payload
-
--- PLOGI with this W18 size; PRLI; FCP_CMND with this CDB and FCP_DL, the read bit set; TEST UNIT READY; READ(10)
-abbrev pub plogi : ℕ → ℕ → List ℕ
-plogi from size = frame 0x22 0x01 from 1 (0x03 ∷ 0x00 ∷ 0x00 ∷ 0x00 ∷ words size)
-
-abbrev pub prli : ℕ → List ℕ
-prli from = frame 0x22 0x01 from 2 (0x20 ∷ 0x10 ∷ 0x00 ∷ 0x14 ∷ 0x08 ∷ 0x00 ∷ 0x20 ∷ 0x00 ∷ replicate 11 0 ++ (0x22 ∷ []))
-
-abbrev pub command : ℕ → ℕ → List ℕ → ℕ → List ℕ
-command from ox cdb expected = frame 0x06 0x08 from ox (replicate 11 0 ++ (0x02 ∷ cdb) ++ bytes 4 expected)
-
-abbrev pub ready : ℕ → List ℕ
-ready from = command from 3 (replicate 16 0) 0
-
-abbrev pub read : ℕ → ℕ → ℕ → ℕ → ℕ → List ℕ
-read from ox address count expected = command from ox ((0x28 ∷ 0x00 ∷ bytes 4 address) ++ (0x00 ∷ bytes 2 count) ++ replicate 7 0) expected
-
--- the drive after these frames, each with a buffer of 2,136 bytes
-abbrev pub after : Drive → List (List ℕ) → Drive
-after d [] = d
-after d (f ∷ fs) = after (frameIn d f 2136 .drive) fs
-
--- what is said of a frame, and the buffer's bytes from a place on after it
-abbrev pub said : Drive → List ℕ → Said
-said d f = frameIn d f 2136 .said
-
-abbrev pub sent : Drive → List ℕ → ℕ → ℕ → List ℕ
-sent d f from count = take count (drop from (frameInBuffer d f (replicate 2136 0x5a)))
-
--- the drive after a login with this size, a pairing, and a command that takes the attention
-abbrev pub paired : ℕ → ℕ → Drive
-paired capacity size = after (made capacity) (plogi 0x01 size ∷ prli 0x01 ∷ ready 0x01 ∷ [])
-
--- the next frame out of exchange 0004h, with a window of bytes A5h
-abbrev pub nextSaid : Drive → ℕ → ℕ → Said
-nextSaid d start len = nextFrame d 0x01 0x0004 start (replicate len 0xa5) 2136 .said
-
-abbrev pub nextSent : Drive → ℕ → ℕ → ℕ → ℕ → List ℕ
-nextSent d start len from count = take count (drop from (nextFrameBuffer d 0x01 0x0004 start (replicate len 0xa5) (replicate 2136 0x5a)))
-
-abbrev pub nextAfter : Drive → ℕ → ℕ → Drive
-nextAfter d start len = nextFrame d 0x01 0x0004 start (replicate len 0xa5) 2136 .drive
-
--- eight logins, at the first eight addresses
-abbrev pub eight : Drive
-eight = after (made 100) (plogi 0x01 256 ∷ plogi 0x02 256 ∷ plogi 0x04 256 ∷ plogi 0x08 256 ∷ plogi 0x0f 256 ∷ plogi 0x10 256 ∷ plogi 0x17 256 ∷ plogi 0x18 256 ∷ [])
-
--- a drive with a READ of 65,535 blocks to a login of size 256, of which so many bytes were sent, in so many frames
-abbrev pub reading : ℕ → ℕ → Drive
-reading bytes frames =
-    let d = after (paired 65535 256) (read 0x01 0x0004 0 65535 33553920 ∷ []) in
-    let l = loginAt (d .port) 0 in
-    record {
-      unit = d .unit;
-      port = withLogin (d .port) 0 (withExchange l 0 record {
-        start = 0;
-        blocks = 65535;
-        wanted = 33553920;
-        expected = 33553920;
-        sent = bytes;
-        «ox_id» = 0x0004;
-        count = frames;
-        kind = 1;
-      });
-    }
-
-pub record KnownNumbers : Type 0 where
-  -- "frame 20, 24, 2,136, 2,140 bytes: 3, read, read, 3"
-  pub frame-20 : said (made 100) (take 20 (frame 0x23 0x01 0x01 1 [])) ≡ Refused BadSize
-  pub frame-24 : said (made 100) (frame 0x23 0x01 0x01 1 []) ≡ Sent 0
-  pub frame-2136 : said (made 100) (frame 0x23 0x01 0x01 1 (replicate 2112 0)) ≡ Sent 0
-  pub frame-2140 : said (made 100) (frame 0x23 0x01 0x01 1 (replicate 2116 0)) ≡ Refused BadSize
-  -- "W18 size 252, 256, 258, 2,112, 2,116: reject, accept, reject, accept, reject"
-  pub size-252 : sent (made 100) (plogi 0x01 252) 24 8 ≡ 0x01 ∷ 0x00 ∷ 0x00 ∷ 0x00 ∷ 0x00 ∷ 0x03 ∷ 0x07 ∷ 0x00 ∷ []
-  pub size-256 : sent (made 100) (plogi 0x01 256) 24 4 ≡ 0x02 ∷ 0x00 ∷ 0x00 ∷ 0x00 ∷ []
-  pub size-258 : sent (made 100) (plogi 0x01 258) 24 8 ≡ 0x01 ∷ 0x00 ∷ 0x00 ∷ 0x00 ∷ 0x00 ∷ 0x03 ∷ 0x07 ∷ 0x00 ∷ []
-  pub size-2112 : sent (made 100) (plogi 0x01 2112) 24 4 ≡ 0x02 ∷ 0x00 ∷ 0x00 ∷ 0x00 ∷ []
-  pub size-2116 : sent (made 100) (plogi 0x01 2116) 24 8 ≡ 0x01 ∷ 0x00 ∷ 0x00 ∷ 0x00 ∷ 0x00 ∷ 0x03 ∷ 0x07 ∷ 0x00 ∷ []
-  -- "ninth login 09,29"
-  pub ninth : sent eight (plogi 0x1b 256) 24 8 ≡ 0x01 ∷ 0x00 ∷ 0x00 ∷ 0x00 ∷ 0x00 ∷ 0x09 ∷ 0x29 ∷ 0x00 ∷ []
-  -- "capacity 100, address 99 count 1 read; 99 count 2, 100 count 0 refused": the one opens silently and is served, the others get 05/21/00
-  pub read-99-1 : said (paired 100 2048) (read 0x01 0x0004 99 1 512) ≡ Sent 0
-  pub served-99-1 : nextSaid (after (paired 100 2048) (read 0x01 0x0004 99 1 512 ∷ [])) 99 512 ≡ Sent 536
-  pub read-99-2 : sent (paired 100 2048) (read 0x01 0x0004 99 2 1024) 48 14 ≡ 0x70 ∷ 0x00 ∷ 0x05 ∷ 0x00 ∷ 0x00 ∷ 0x00 ∷ 0x00 ∷ 0x0a ∷ 0x00 ∷ 0x00 ∷ 0x00 ∷ 0x00 ∷ 0x21 ∷ 0x00 ∷ []
-  pub read-100-0 : sent (paired 100 2048) (read 0x01 0x0004 100 0 0) 48 14 ≡ 0x70 ∷ 0x00 ∷ 0x05 ∷ 0x00 ∷ 0x00 ∷ 0x00 ∷ 0x00 ∷ 0x0a ∷ 0x00 ∷ 0x00 ∷ 0x00 ∷ 0x00 ∷ 0x21 ∷ 0x00 ∷ []
-  -- "wanted 1,024 with FCP_DL 1,000, 2,048: flag 04h by 24, 08h by 1,024": flags, status and FCP_RESID of the FCP_RSP after the data
-  pub over : nextSent (nextAfter (after (paired 100 2048) (read 0x01 0x0004 0 2 1000 ∷ [])) 0 1024) 0 0 34 6 ≡ 0x04 ∷ 0x00 ∷ 0x00 ∷ 0x00 ∷ 0x00 ∷ 0x18 ∷ []
-  pub under : nextSent (nextAfter (after (paired 100 2048) (read 0x01 0x0004 0 2 2048 ∷ [])) 0 1024) 0 0 34 6 ≡ 0x08 ∷ 0x00 ∷ 0x00 ∷ 0x00 ∷ 0x04 ∷ 0x00 ∷ []
-  -- "block 8,388,608 is byte 4,294,967,296": it is served from a window that starts there, and not from one that starts at block 0
-  pub byte : _≡_ {A = ℕ} (512 * 8388608) 4294967296
-  pub block : nextSaid (after (paired 8388609 2048) (read 0x01 0x0004 8388608 1 512 ∷ [])) 8388608 512 ≡ Sent 536
-  -- "size 256, frame 65,537 has SEQ_CNT 0": OFFSET is 65,536 × 256; the frame before it has FFFFh
-  pub frame-65537 : nextSent (reading 16777216 0) 32768 512 12 12 ≡ 0x01 ∷ 0x00 ∷ 0x00 ∷ 0x00 ∷ 0x00 ∷ 0x04 ∷ 0xff ∷ 0xff ∷ 0x01 ∷ 0x00 ∷ 0x00 ∷ 0x00 ∷ []
-  pub frame-65536 : nextSent (reading 16776960 65535) 32767 512 12 12 ≡ 0x01 ∷ 0x00 ∷ 0xff ∷ 0xff ∷ 0x00 ∷ 0x04 ∷ 0xff ∷ 0xff ∷ 0x00 ∷ 0xff ∷ 0xff ∷ 0x00 ∷ []
-  pub goes-round : exchangeAt (loginAt (nextAfter (reading 16776960 65535) 32767 512 .port) 0) 0 .count ≡ 0
-  pub not-zero : nextSaid (after (paired 8388609 2048) (read 0x01 0x0004 8388608 1 512 ∷ [])) 0 512 ≡ Refused BadWindow
+use Rattle.demands.specs.Numbers.{KnownNumbers}
 
 pub known-numbers : KnownNumbers
 unfolding frameIn frameInBuffer replyBytes judgedOf headerOf headerBytes badSize badSource knownPair unknownForm spared unprovenLogin unprovenCall kindOf validAddress madeFrom wellFormed setupRules setupPasses paramsOf sizeFails zeroName verdictOf loginFine usedFine flagsFine addressFine paramsFine exchangeFine apartId apartAddress wantedFits readFits sentFits findLogin freeLogin findExchange freeExchange hasAddress hasId loginAt exchangeAt withLogin withExchange endedOf changedAll bytesOf filled onto answerHead dataHead shortBytes loginBytes pairBytes rejectBytes statusBytes codeBytes senseBytes residualOf linkOf sizeOf plogiOf outcomeOf newLogin serviceOf prliOf pairFine pageFine cmndOf malformed taskFor taskOf skips otherUnit attends unknownCode inquiryField capacityField fieldSet outside exchangeFor askedOf refusedWith toldOf answerOf executeOf commandedAt commandOf nextFrame nextFrameBuffer lookupOf hasMore readsMore coverOf placeOf frameOf nextReply nextExchange sourceOf ownOf askedBy openStep stepOf frameBytes portAfter nextOf nextBuffer

@@ -3,9 +3,9 @@
 use mathlib.Core.Path.{_≡_, refl, sym, ap, _∙_}
 use mathlib.Core.Bool.{Bool, true, false, cond, not, _&&_, _||_}
 use mathlib.Core.List.{List}
-use Prim.Native.Nat.{ℕ, _+_, _*_, _<_}
+use Prim.Native.Nat.{ℕ, _<_}
 use native.Mathlib.Omega.{arith}
-use lib.Dec.{eqb, leb, ltb}
+use lib.Dec.{eqb, ltb}
 use lib.ListN.{length}
 use Rattle.tables.specs.Lists.{onFound}
 use Rattle.tables.proofs.Bools.{apart}
@@ -14,27 +14,29 @@ use Rattle.state.specs.declared.Exchange.{Exchange}
 use Rattle.state.specs.declared.Port.{Port}
 use Rattle.state.specs.declared.Standing.{Standing}
 use Rattle.state.specs.declared.Standing.the-variants as standing
-use Rattle.state.specs.Changes.{loginAt, exchangeAt}
+use Rattle.state.specs.Changes.{loginAt}
 use Rattle.state.specs.Tables.{lookupOf}
-use Rattle.formed.specs.Formed.{fullFrame, nextBytes, wellFormed}
+use Rattle.formed.specs.Formed.{fullFrame, wellFormed}
 use Rattle.serve.specs.declared.Given.{Given}
 use Rattle.serve.specs.declared.Given.the-variants as given
 use Rattle.serve.specs.Whole.{isSent}
 use Rattle.serve.proofs.Moving.{next-stays, next-untouched}
 use Rattle.serve.specs.declared.Step.the-variants as step
-use Rattle.serve.specs.Next.{readsMore, position, coverOf, placeOf, openStep, stepAt, stepOf, nextAt, nextOf, nextBuffer}
+use Rattle.serve.specs.Next.{readsMore, coverOf, placeOf, exchangeOf, openStep, stepAt, stepOf, nextAt, nextOf, nextBuffer}
 use Rattle.arrival.specs.declared.Refusal.{Refusal}
 use Rattle.arrival.specs.declared.Refusal.the-variants.{ShortBuffer, IllFormed, BadSize, NotOurs, BadSource, UnknownForm, Unproven, BadSetup, NoExchange, BadWindow}
 use Rattle.arrival.specs.declared.Judged.{Judged}
 use Rattle.arrival.specs.declared.Judged.the-variants as judged
 use Rattle.arrival.specs.Arrival.{shortBuffer, judgedOf}
-use Rattle.arrival.proofs.Exactly.{First, given-first, first-given}
+use Rattle.arrival.specs.First.{First}
+use Rattle.arrival.proofs.Exactly.{given-first, first-given}
 use Rattle.drive.specs.declared.Drive.{Drive}
 use Rattle.drive.specs.declared.Answer.{Answer}
 use Rattle.drive.specs.declared.Said.{Said}
 use Rattle.drive.specs.declared.Said.the-variants.{Sent, Refused}
 use Rattle.drive.specs.Drive.{refused}
 use Rattle.drive.specs.Entry.{decidedIn, answered, onJudged, frameIn, frameInBuffer, saidOf, served, nextFrame, nextFrameBuffer}
+use Rattle.demands.specs.Refusals.{covers, noExchange, unprovenThere, badWindow, appliesOut, turn, FirstOut}
 
 same-refusal : (x y : Refusal) → Refused y ≡ Refused x → y ≡ x
 same-refusal x y e = cc
@@ -63,58 +65,21 @@ module _ (d : Drive) (f l : List ℕ) where
 
 -- a next frame out, in the order 1, 2, 9, 7, 10
 module _ (d : Drive) (a x start : ℕ) (W l : List ℕ) where
+  -- the definitions of specs/Refusals, of this call
   abbrev exchange : ℕ → ℕ → Exchange
-  exchange i j = exchangeAt (loginAt (d .port) i) j
+  exchange = exchangeOf (d .port)
 
-  -- the window holds the next frame's bytes
-  abbrev pub covers : ℕ → ℕ → Bool
-  covers i j =
-      leb (512 * start) (position (exchange i j)) && leb (position (exchange i j) + nextBytes (fullFrame (loginAt (d .port) i .size)) (exchange i j)) (512 * start + length W)
+  abbrev there : ℕ → ℕ → Bool
+  there = covers d start W
 
-  abbrev pub noExchange : Standing → Bool
-  noExchange standing.NoLogin = true
-  noExchange (standing.NoExchange i) = true
-  noExchange (standing.Open i j) = false
+  abbrev unproven-at : Standing → Bool
+  unproven-at = unprovenThere d
 
-  abbrev pub unprovenThere : Standing → Bool
-  unprovenThere standing.NoLogin = false
-  unprovenThere (standing.NoExchange i) = false
-  unprovenThere (standing.Open i j) = not (eqb (loginAt (d .port) i .proven) 1)
+  abbrev wrong-window : Standing → Bool
+  wrong-window = badWindow d start W
 
-  abbrev pub badWindow : Standing → Bool
-  badWindow standing.NoLogin = false
-  badWindow (standing.NoExchange i) = false
-  badWindow (standing.Open i j) = ltb 65536 (length W) || readsMore (exchange i j) && not (covers i j)
-
-  -- "When", of each number; the others are not given to a next frame
-  abbrev pub applies : Refusal → Bool
-  applies ShortBuffer = shortBuffer (length l)
-  applies IllFormed = not (wellFormed (d .unit) (d .port))
-  applies BadSize = false
-  applies NotOurs = false
-  applies BadSource = false
-  applies UnknownForm = false
-  applies Unproven = unprovenThere (lookupOf (d .port) a x)
-  applies BadSetup = false
-  applies NoExchange = noExchange (lookupOf (d .port) a x)
-  applies BadWindow = badWindow (lookupOf (d .port) a x)
-
-  -- "Next frame out: 1, 2, 9, 7, 10"
-  abbrev pub turn : Refusal → ℕ
-  turn ShortBuffer = 1
-  turn IllFormed = 2
-  turn NoExchange = 3
-  turn Unproven = 4
-  turn BadWindow = 5
-  turn BadSize = 6
-  turn NotOurs = 6
-  turn BadSource = 6
-  turn UnknownForm = 6
-  turn BadSetup = 6
-
-  pub record FirstOut (r : Refusal) : Type 0 where
-    pub this : applies r ≡ true
-    pub before : (y : Refusal) → turn y < turn r → applies y ≡ false
+  abbrev applies : Refusal → Bool
+  applies = appliesOut d a x start W l
 
   -- what is said, by the five tests
   data Told : Bool → Bool → Bool → Bool → Bool → Said → Type 0 where
@@ -138,7 +103,7 @@ module _ (d : Drive) (a x start : ℕ) (W l : List ℕ) where
     unfolding nextFrame nextOf stepOf
     served-is = rw (room, fine)
 
-    by-place : (i j : ℕ) (r c : Bool) → readsMore (exchange i j) ≡ r → covers i j ≡ c
+    by-place : (i j : ℕ) (r c : Bool) → readsMore (exchange i j) ≡ r → there i j ≡ c
         → Told false false false false (r && not c) (saidOf (nextAt (onFound (placeOf (fullFrame (loginAt (d .port) i .size)) (exchange i j) start (length W)) (λ k. step.Frame i j k) (step.Refused given.WrongWindow)) (d .unit) (d .port) a x W .given))
     unfolding placeOf coverOf
     by-place i j true true er ec = rw (er, ec) (sent _)
@@ -146,23 +111,23 @@ module _ (d : Drive) (a x start : ℕ) (W l : List ℕ) where
     by-place i j false c er ec = rw er (sent _)
 
     by-long : (i j : ℕ) (b : Bool) → ltb 65536 (length W) ≡ b
-        → Told false false false false (b || readsMore (exchange i j) && not (covers i j))
+        → Told false false false false (b || readsMore (exchange i j) && not (there i j))
         (saidOf (nextAt (cond b (step.Refused given.WrongWindow) (onFound (placeOf (fullFrame (loginAt (d .port) i .size)) (exchange i j) start (length W)) (λ k. step.Frame i j k) (step.Refused given.WrongWindow))) (d .unit) (d .port) a x W .given))
     by-long i j true e = window
-    by-long i j false e = by-place i j (readsMore (exchange i j)) (covers i j) refl refl
+    by-long i j false e = by-place i j (readsMore (exchange i j)) (there i j) refl refl
 
     by-proven : (i j : ℕ) (b : Bool) → eqb (loginAt (d .port) i .proven) 1 ≡ b
-        → Told false false false (not b) (badWindow (standing.Open i j)) (saidOf (nextAt (openStep (loginAt (d .port) i) i j start (length W)) (d .unit) (d .port) a x W .given))
+        → Told false false false (not b) (wrong-window (standing.Open i j)) (saidOf (nextAt (openStep (loginAt (d .port) i) i j start (length W)) (d .unit) (d .port) a x W .given))
     unfolding openStep
     by-proven i j true e = rw e (by-long i j (ltb 65536 (length W)) refl)
     by-proven i j false e = rw e unproven
 
-    by-standing : (s : Standing) → Told false false (noExchange s) (unprovenThere s) (badWindow s) (saidOf (nextAt (stepAt s (d .port) start (length W)) (d .unit) (d .port) a x W .given))
+    by-standing : (s : Standing) → Told false false (noExchange s) (unproven-at s) (wrong-window s) (saidOf (nextAt (stepAt s (d .port) start (length W)) (d .unit) (d .port) a x W .given))
     by-standing standing.NoLogin = none
     by-standing (standing.NoExchange i) = none
     by-standing (standing.Open i j) = by-proven i j (eqb (loginAt (d .port) i .proven) 1) refl
 
-    told-served : Told false false (noExchange (lookupOf (d .port) a x)) (unprovenThere (lookupOf (d .port) a x)) (badWindow (lookupOf (d .port) a x)) (nextFrame d a x start W (length l) .said)
+    told-served : Told false false (noExchange (lookupOf (d .port) a x)) (unproven-at (lookupOf (d .port) a x)) (wrong-window (lookupOf (d .port) a x)) (nextFrame d a x start W (length l) .said)
     told-served = rw served-is (by-standing (lookupOf (d .port) a x))
 
   told : Told (applies ShortBuffer) (applies IllFormed) (applies NoExchange) (applies Unproven) (applies BadWindow) (nextFrame d a x start W (length l) .said)
@@ -190,11 +155,11 @@ module _ (d : Drive) (a x start : ℕ) (W l : List ℕ) where
   below n a b c e g few NoExchange k = c k
   below n a b c e g few BadWindow k = g k
 
-  at : {r : Refusal} (y : Refusal) → Refused y ≡ Refused r → FirstOut y → FirstOut r
+  at : {r : Refusal} (y : Refusal) → Refused y ≡ Refused r → FirstOut d a x start W l y → FirstOut d a x start W l r
   at {r} y e z = rw (sym (same-refusal r y e)) z
 
   first-of : {b c e g v : Bool} {s : Said} → Told b c e g v s → applies ShortBuffer ≡ b → applies IllFormed ≡ c → applies NoExchange ≡ e → applies Unproven ≡ g → applies BadWindow ≡ v
-      → (r : Refusal) → s ≡ Refused r → FirstOut r
+      → (r : Refusal) → s ≡ Refused r → FirstOut d a x start W l r
   first-of short eb ec ee eg ev r is = at ShortBuffer is record { this = eb; before = below 1 (λ k. absurd (omega arith)) (λ k. absurd (omega arith)) (λ k. absurd (omega arith)) (λ k. absurd (omega arith)) (λ k. absurd (omega arith)) (omega arith) }
   first-of ill eb ec ee eg ev r is = at IllFormed is record { this = ec; before = below 2 (λ _. eb) (λ k. absurd (omega arith)) (λ k. absurd (omega arith)) (λ k. absurd (omega arith)) (λ k. absurd (omega arith)) (omega arith) }
   first-of none eb ec ee eg ev r is = at NoExchange is record { this = ee; before = below 3 (λ _. eb) (λ _. ec) (λ k. absurd (omega arith)) (λ k. absurd (omega arith)) (λ k. absurd (omega arith)) (omega arith) }
@@ -203,7 +168,7 @@ module _ (d : Drive) (a x start : ℕ) (W l : List ℕ) where
   first-of (sent n) eb ec ee eg ev r is = let z : _≡_ {A = ℕ} 0 1 = cc in absurd (omega arith)
 
   -- refused: the number is the first that applies, in the order 1, 2, 9, 7, 10
-  pub next-first : (r : Refusal) → nextFrame d a x start W (length l) .said ≡ Refused r → FirstOut r
+  pub next-first : (r : Refusal) → nextFrame d a x start W (length l) .said ≡ Refused r → FirstOut d a x start W l r
   next-first r e = first-of told refl refl refl refl refl r e
 
   -- so it is the refusal of the first test that holds
@@ -217,7 +182,7 @@ module _ (d : Drive) (a x start : ℕ) (W l : List ℕ) where
   told-says (sent n) = refl
 
   -- where one is the first that applies: refused with it
-  pub next-refuses : (r : Refusal) → FirstOut r → nextFrame d a x start W (length l) .said ≡ Refused r
+  pub next-refuses : (r : Refusal) → FirstOut d a x start W l r → nextFrame d a x start W (length l) .said ≡ Refused r
   next-refuses ShortBuffer z = told-says told ∙ rw (z .this)
   next-refuses IllFormed z = told-says told ∙ rw (z .before ShortBuffer (omega arith), z .this)
   next-refuses NoExchange z = told-says told ∙ rw (z .before ShortBuffer (omega arith), z .before IllFormed (omega arith), z .this)

@@ -1,9 +1,9 @@
 -- A port login is accepted exactly when its size is right, every word test passes and a place is free once the sender's own login has ended;
 -- else it is rejected, with the stated reason, and of right size the sender's login has ended all the same. Both directions, for every frame with PLOGI's code. Assumes nothing.
 use mathlib.Core.Path.{_≡_, refl, sym, ap, _∙_, subst}
-use mathlib.Core.Bool.{Bool, true, false, cond}
+use mathlib.Core.Bool.{Bool, true, false}
 use mathlib.Core.List.{List}
-use Prim.Native.Nat.{ℕ, _<_}
+use Prim.Native.Nat.{ℕ}
 use native.Mathlib.Omega.{arith}
 use lib.Dec.{eqb}
 use lib.ListN.{length, getD}
@@ -14,39 +14,17 @@ use Rattle.frame.specs.declared.Header.{Header}
 use Rattle.params.specs.declared.Fault.{Fault}
 use Rattle.params.specs.declared.Verdict.{Verdict}
 use Rattle.params.specs.declared.Verdict.the-variants as verdict
-use Rattle.params.specs.Words.{paramsOf, fails, verdictOf, reasonOf, rank}
+use Rattle.params.specs.Words.{paramsOf, verdictOf, reasonOf}
 use Rattle.params.proofs.Exactly.{accepted, accepts-then, rejected, rejected-first, rejects-then}
 use Rattle.state.specs.declared.Port.{Port}
-use Rattle.state.specs.declared.Change.the-variants.{EndLogin}
-use Rattle.state.specs.Changes.{withLogin, changedAll}
+use Rattle.state.specs.Changes.{withLogin}
 use Rattle.state.specs.Tables.{freeLogin}
 use Rattle.reply.specs.declared.Reply.{Reply}
 use Rattle.reply.specs.declared.Reply.the-variants as reply
 use Rattle.reply.specs.declared.Accepted.the-variants as accepted
 use Rattle.link.specs.declared.Decided.{Decided}
 use Rattle.link.specs.Link.{decidedAs, sizeOf, outcomeOf, newLogin, plogiOf, linkOf}
-
--- the table once the sender's login has ended
-abbrev pub ended : Port → Header → Port
-ended p h = changedAll (EndLogin (h .«s_id»)) p
-
--- the table after a rejected PLOGI: "Of right size, it ends the sender's login and exchanges first, accepted or not"; of wrong size it changes nothing
-abbrev pub leftBy : Port → Header → List ℕ → Port
-leftBy p h f = cond (eqb (length f) 140) (ended p h) p
-
--- what an accepted PLOGI has
-pub record Accepts (p : Port) (h : Header) (f : List ℕ) : Type 0 where
-  pub size : length f ≡ 140
-  pub tests : (t : Fault) → fails (paramsOf f 28) t ≡ false
-  pub place : ℕ
-  pub free : freeLogin (ended p h) ≡ At place
-
--- what a rejected one has, with its reason and explanation
-pub data Rejects (p : Port) (h : Header) (f : List ℕ) : ℕ → ℕ → Type 0 where
-  wrong-size : (length f ≡ 140 → ⊥) → Rejects p h f 0x03 0x00
-  test-fails : length f ≡ 140 → (t : Fault) → fails (paramsOf f 28) t ≡ true → ((g : Fault) → rank g < rank t → fails (paramsOf f 28) g ≡ false)
-      → Rejects p h f (reasonOf t .reason) (reasonOf t .explanation)
-  no-place : length f ≡ 140 → ((t : Fault) → fails (paramsOf f 28) t ≡ false) → freeLogin (ended p h) ≡ Nothing → Rejects p h f 0x09 0x29
+use Rattle.link.specs.Login.{ended, leftBy, Accepts, Rejects, wrong-size, test-fails, no-place}
 
 module _ (p : Port) (h : Header) (f : List ℕ) (plogi : getD f 24 0 ≡ 3) where
   sized : length f ≡ 140 → linkOf p h f ≡ plogiOf p (h .«s_id») (paramsOf f 28)

@@ -1,2 +1,3 @@
 pub mod Link
 pub mod Record
+pub mod Login

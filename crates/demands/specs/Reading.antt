@@ -1,0 +1,124 @@
+-- A whole READ and what it delivers, read from the bytes that stand in the lent buffers, as one reads them who knows document 01 and not the code.
+use mathlib.Core.Path.{_≡_}
+use mathlib.Core.Bool.{Bool, true, _&&_, _||_}
+use mathlib.Core.List.{List, [], _∷_}
+use Prim.Native.Nat.{ℕ, suc, _-_, _*_, _%_, _<_}
+use lib.Dec.{eqb}
+use lib.ListN.{length, take, drop, getD, replicate}
+use Rattle.wire.specs.Bytes.{num}
+use Rattle.frame.specs.Head.{headerOf}
+use Rattle.state.specs.declared.Exchange.{Exchange}
+use Rattle.state.specs.declared.Standing.the-variants.{Open}
+use Rattle.state.specs.Changes.{loginAt, withLogin, endedAt}
+use Rattle.state.specs.Tables.{lookupOf}
+use Rattle.formed.specs.Formed.{total, framesOf}
+use Rattle.residual.specs.Residual.{residualOf}
+use Rattle.reply.specs.Payload.{residualFlag, residualSize}
+use Rattle.serve.specs.Next.{exchangeOf}
+use Rattle.serve.specs.Whole.{cut, Piece, joined, InOrder}
+use Rattle.drive.specs.declared.Drive.{Drive}
+use Rattle.drive.specs.declared.Said.the-variants.{Sent}
+use Rattle.drive.specs.Entry.{nextFrame, nextFrameBuffer}
+
+-- "the reply stands at the front of the buffer, its length .. in the answer": the frame in the buffer l after a call that said `Sent n`
+abbrev pub frameAt : List ℕ → ℕ → List ℕ
+frameAt l n = take n l
+
+-- the table of reply headers, "FCP_DATA, last or not": R_CTL 01h, TYPE 08h
+abbrev pub isData : List ℕ → Bool
+isData f = eqb (headerOf f .«r_ctl») 0x01 && eqb (headerOf f .kind) 0x08
+
+-- the table of reply headers, "FCP_RSP": R_CTL 07h, TYPE 08h
+abbrev pub isResponse : List ℕ → Bool
+isResponse f = eqb (headerOf f .«r_ctl») 0x07 && eqb (headerOf f .kind) 0x08
+
+-- "FCP frames add the fill count to F_CTL": the count is F_CTL's low two bits
+abbrev pub fillIn : List ℕ → ℕ
+fillIn f = headerOf f .«f_ctl» % 4
+
+-- "Payloads are filled with zeros to a multiple of 4": the bytes after the 24 of the header, without the fill
+abbrev pub payloadIn : List ℕ → List ℕ
+payloadIn f = take (length f - 24 - fillIn f) (drop 24 f)
+
+-- "OFFSET is the byte offset; SEQ_CNT the frame's number": both as the header has them, with the payload
+abbrev pub pieceIn : List ℕ → Piece
+pieceIn f = record { offset = headerOf f .offset; count = headerOf f .«seq_cnt»; payload = payloadIn f }
+
+-- "FCP_RSP: bytes 10 flags" of the payload, which begins at byte 24 of the frame
+abbrev pub flagsIn : List ℕ → ℕ
+flagsIn f = getD f 34 0
+
+-- "11 status"
+abbrev pub statusIn : List ℕ → ℕ
+statusIn f = getD f 35 0
+
+-- "12 FCP_RESID", of 4 bytes
+abbrev pub residIn : List ℕ → ℕ
+residIn f = num 4 f 36
+
+-- "16 sense length, 20 response length", and what follows them: bytes 40 on
+abbrev pub restIn : List ℕ → List ℕ
+restIn f = drop 40 f
+
+-- "The port names address and OX_ID for each next frame and lends a window": the drive d was called so for a and x, with a window cut from the unit and a buffer of any contents,
+-- and was not refused; f is the frame in the buffer after the call, and e the drive after it
+pub record Sends (unit : List ℕ) (a x : ℕ) (d : Drive) (f : List ℕ) (e : Drive) : Type 0 where
+  pub start : ℕ
+  pub len : ℕ
+  pub buffer : List ℕ
+  pub n : ℕ
+  pub said : nextFrame d a x start (cut unit start len) (length buffer) .said ≡ Sent n
+  pub frame : f ≡ frameAt (nextFrameBuffer d a x start (cut unit start len) buffer) n
+  pub drive : e ≡ nextFrame d a x start (cut unit start len) (length buffer) .drive
+
+-- such calls one after the other from the drive d on: FCP_DATA frames, each with its piece, and then "FCP_RSP follows", which is the frame `last` and leaves the drive e
+pub data Reads (unit : List ℕ) (a x : ℕ) : Drive → List Piece → List ℕ → Drive → Type 0 where
+  carries : {d d₁ e : Drive} {f last : List ℕ} {pieces : List Piece} → Sends unit a x d f d₁ → isData f ≡ true → Reads unit a x d₁ pieces last e → Reads unit a x d (pieceIn f ∷ pieces) last e
+  responds : {d e : Drive} {f : List ℕ} → Sends unit a x d f e → isResponse f ≡ true → Reads unit a x d [] f e
+
+-- "1 reply buffer under 2,136 bytes": the sizes of the buffers that were lent, call by call
+abbrev pub roomsOf : {unit : List ℕ} {a x : ℕ} {d e : Drive} {pieces : List Piece} {last : List ℕ} → Reads unit a x d pieces last e → List ℕ
+roomsOf (carries s shown rest) = length (s .buffer) ∷ roomsOf rest
+roomsOf (responds s shown) = length (s .buffer) ∷ []
+
+-- "the exchange opens silently": a READ of a and x is open at place j of the login at place i, and nothing of it was sent; "OX_ID(2)" and "FCP_DL 4" are numbers of 2 and 4 bytes
+pub record OpenRead (d : Drive) (a x i j : ℕ) : Type 0 where
+  pub stands : lookupOf (d .port) a x ≡ Open i j
+  pub kind : exchangeOf (d .port) i j .kind ≡ 1
+  pub fresh : exchangeOf (d .port) i j .sent ≡ 0
+  pub ox : x < 65536
+  pub expected : exchangeOf (d .port) i j .expected < 4294967296
+
+-- the exchange r is delivered whole in these pieces and the frame `last`, where full is the bytes of a full frame to its login
+pub record Delivered (unit : List ℕ) (full : ℕ) (r : Exchange) (pieces : List Piece) (last : List ℕ) : Type 0 where
+  -- "To send: the smaller of wanted and FCP_DL": just so many of the unit's bytes from the first block on, each once and in order
+  pub bytes : joined pieces ≡ take (total r) (drop (512 * r .start) unit)
+  -- "OFFSET is the byte offset; SEQ_CNT the frame's number from 0, going round at 65,536"
+  pub order : InOrder 0 0 pieces
+  -- "A frame carries the login's W18 size, 2,048 at most, or what is left": as few frames as these take
+  pub frames : length pieces ≡ framesOf (total r) full
+  -- status 00h, and "The signed difference of wanted and FCP_DL above 0 sets flag 04h, below 0 flag 08h, FCP_RESID its size"
+  pub status : statusIn last ≡ 0x00
+  pub flags : flagsIn last ≡ residualFlag (residualOf (r .wanted) (r .expected))
+  pub resid : residIn last ≡ residualSize (residualOf (r .wanted) (r .expected))
+  -- no sense and no response code: both lengths are 0, and the frame ends with them
+  pub rest : restIn last ≡ replicate 8 0
+
+-- "FCP_RSP follows and frees the place": the drive with that place free, and all else as it was
+abbrev pub freed : Drive → ℕ → ℕ → Drive
+freed d i j = record { unit = d .unit; port = withLogin (d .port) i (endedAt (loginAt (d .port) i) j) }
+
+-- there are windows with which the exchange of a and x is read to its end, each call with a buffer of the least size
+pub record Comes (unit : List ℕ) (a x : ℕ) (d : Drive) : Type 0 where
+  pub pieces : List Piece
+  pub last : List ℕ
+  pub after : Drive
+  pub reads : Reads unit a x d pieces last after
+  pub rooms : roomsOf reads ≡ replicate (suc (length pieces)) 2136
+
+-- whom a frame is for and of what: from our address to a, of OX_ID x, and FCP_DATA or FCP_RSP
+pub record Shown (own a x : ℕ) (f : List ℕ) : Type 0 where
+  pub to : headerOf f .«d_id» ≡ a
+  pub from : headerOf f .«s_id» ≡ own
+  pub exchange : headerOf f .«ox_id» ≡ x
+  pub kind : (isData f || isResponse f) ≡ true
