@@ -136,7 +136,7 @@ impl Drive {
     {
         let u = self.unit;
         let p = self.port;
-        if reply.len() < 2136 {
+        if reply.len() < Header::MOST_FRAME {
             return stay(Refusal::ShortBuffer, p);
         }
         if well_formed(u, p) {
