@@ -24,7 +24,8 @@ use Rattle.reply.specs.declared.DataFrame.{DataFrame}
 use Rattle.reply.specs.declared.Response.the-variants.{Status}
 use Rattle.reply.specs.declared.Reply.{Reply}
 use Rattle.reply.specs.declared.Reply.the-variants.{Respond, Data}
-use Rattle.reply.specs.Reply.{bytesOf}
+use Rattle.reply.specs.Reply.{bytesOf, sentOf, writtenOf}
+use Rattle.serve.specs.declared.Given.{Given}
 use Rattle.serve.specs.declared.Given.the-variants.{Sent, NoRoom, NoExchange, Unproven, WrongWindow}
 use Rattle.serve.specs.declared.Moved.{Moved}
 use Rattle.serve.specs.declared.Next.{Next}
@@ -126,14 +127,41 @@ frameBytes u p a x i j k W = bytesOf (ownOf p) (askedBy (p .address) a x) (nextR
 unfoldable pub portAfter : Port → ℕ → ℕ → Port
 portAfter p i j = withLogin p i (withExchange (loginAt p i) j (nextExchange (fullOf p i) (exchangeOf p i j)))
 
+-- what a step on a login comes to: the length of the frame, or why it was refused
+abbrev pub givenAt : Step → Unit → Own → Login → ℕ → ℕ → List ℕ → ℕ → Given
+givenAt (Refused g) u o l a x W room = g
+givenAt (Frame i j k) u o l a x W room = Sent (sentOf o (askedBy (o .address) a x) (nextReply (fullFrame (l .size)) (exchangeAt l j)) (sourceOf u (exchangeAt l j) k W) room)
+
+-- the login after it
+abbrev pub loginAfter : Step → Login → Login
+loginAfter (Refused g) l = l
+loginAfter (Frame i j k) l = withExchange l j (nextExchange (fullFrame (l .size)) (exchangeAt l j))
+
+-- and the buffer
+abbrev pub writtenAt : Step → Unit → Own → Login → ℕ → ℕ → List ℕ → List ℕ → List ℕ
+writtenAt (Refused g) u o l a x W buffer = buffer
+writtenAt (Frame i j k) u o l a x W buffer = writtenOf o (askedBy (o .address) a x) (nextReply (fullFrame (l .size)) (exchangeAt l j)) (sourceOf u (exchangeAt l j) k W) buffer
+
+-- the same of a next frame of the exchange at place j of the login l, which stands at i
+unfoldable pub movedOpen : Unit → Own → Login → ℕ → ℕ → ℕ → ℕ → ℕ → List ℕ → ℕ → Moved
+movedOpen u o l i j a x start W room =
+    record { given = givenAt (openStep l i j start (length W)) u o l a x W room; at = i; login = loginAfter (openStep l i j start (length W)) l }
+
+unfoldable pub bufferOpen : Unit → Own → Login → ℕ → ℕ → ℕ → ℕ → ℕ → List ℕ → List ℕ → List ℕ
+bufferOpen u o l i j a x start W buffer = writtenAt (openStep l i j start (length W)) u o l a x W buffer
+
+-- a refusal, told by a login that stays as it is
+abbrev pub movedNot : Given → Port → Moved
+movedNot g p = record { given = g; at = 0; login = loginAt p 0 }
+
 -- the one login that a next frame changes: its place, and what it is after it; after a refusal a login that stays as it is
-abbrev pub movedAt : Step → Unit → Port → ℕ → ℕ → List ℕ → Moved
-movedAt (Refused g) u p a x W = record { given = g; at = 0; login = loginAt p 0 }
-movedAt (Frame i j k) u p a x W =
-    record { given = Sent (length (frameBytes u p a x i j k W)); at = i; login = withExchange (loginAt p i) j (nextExchange (fullOf p i) (exchangeOf p i j)) }
+abbrev pub movedAt : Standing → Unit → Port → ℕ → ℕ → ℕ → List ℕ → ℕ → Moved
+movedAt standing.NoLogin u p a x start W room = movedNot NoExchange p
+movedAt (standing.NoExchange i) u p a x start W room = movedNot NoExchange p
+movedAt (standing.Open i j) u p a x start W room = movedOpen u (ownOf p) (loginAt p i) i j a x start W room
 
 unfoldable pub movedOf : Unit → Port → ℕ → ℕ → ℕ → List ℕ → ℕ → Moved
-movedOf u p a x start W room = movedAt (stepOf p a x start (length W) room) u p a x W
+movedOf u p a x start W room = cond (ltb room 2136) (movedNot NoRoom p) (movedAt (lookupOf p a x) u p a x start W room)
 
 -- a refusal leaves "the state unchanged"; otherwise the frame's "length in the answer"
 abbrev pub nextAt : Step → Unit → Port → ℕ → ℕ → List ℕ → Next

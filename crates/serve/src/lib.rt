@@ -36,7 +36,7 @@ ghost use Rattle.reply.specs.Payload.{senseBytes};
 ghost use Rattle.reply.specs.Reply.{sentOf, writtenOf};
 ghost use Rattle.formed.specs.Formed.{fullFrame, nextBytes};
 ghost use Rattle.serve.specs.Made.{inquiryFirst, inquiryBytes, capacityBytes, senseOf, madeBytes};
-ghost use Rattle.serve.specs.Next.{hasMore, readsMore, fitsAt, coverOf, placeOf, frameOf, nextReply, nextExchange, sourceOf, ownOf, askedBy, openStep, stepOf, nextBuffer, movedOf};
+ghost use Rattle.serve.specs.Next.{hasMore, readsMore, fitsAt, coverOf, placeOf, frameOf, nextReply, nextExchange, sourceOf, ownOf, askedBy, openStep, nextBuffer, movedNot, movedOpen, bufferOpen, movedOf};
 
 // What became of the call: the length of the frame, or why it was refused.
 pub enum Given {
@@ -85,25 +85,67 @@ pub fn next_login(
     ensures { λ r. ⌜ (r ≡ movedOf u p address «ox_id» start (now (window .entry)) (length (now (reply .entry)))) × (r .at < 8) ⌝ }
     ensures { λ _. ⌜ now (reply .exit) ≡ nextBuffer u p address «ox_id» start (now (window .entry)) (now (reply .entry)) ⌝ }
 {
-    let s = step_of(p, address, ox_id, start, window.len(), reply.len());
+    if reply.len() < Next::LEAST_ROOM {
+        return moved_not(Given::NoRoom, p);
+    }
+    let s = lookup(p, address, ox_id);
+    match s {
+        Standing::NoLogin => moved_not(Given::NoExchange, p),
+        Standing::NoExchange(_) => moved_not(Given::NoExchange, p),
+        Standing::Open(i, j) => {
+            let o = own_of(p);
+            let l = login_at(p, i);
+            next_open(u, o, l, i, j, address, ox_id, start, window, reply)
+        }
+    }
+}
+
+// The same of the exchange at place j of a login, which stands at place i; a buffer under 2,136 bytes is left alone.
+pub fn next_open(
+    u: Unit,
+    o: Own,
+    l: Login,
+    i: usize,
+    j: usize,
+    address: u32,
+    ox_id: u16,
+    start: u64,
+    window: &[u8],
+    reply: &mut [u8],
+) -> Moved
+    ensures { λ r. ⌜ r ≡ movedOpen u o l i j address «ox_id» start (now (window .entry)) (length (now (reply .entry))) ⌝ }
+    ensures { λ _. ⌜ now (reply .exit) ≡ bufferOpen u o l i j address «ox_id» start (now (window .entry)) (now (reply .entry)) ⌝ }
+{
+    let s = open_step(l, i, j, start, window.len());
     match s {
         Step::Refused(g) => Moved {
             given: g,
-            at: 0,
-            login: login_at(p, 0),
+            at: i,
+            login: l,
         },
-        Step::Frame(i, j, k) => {
-            let l = login_at(p, i);
-            let e = exchange_at(l, j);
-            let n = put_frame(u, p, address, ox_id, l.size, e, k, window, reply);
+        Step::Frame(_, n, k) => {
+            let e = exchange_at(l, n);
+            let size = put_frame(u, o, address, ox_id, l.size, e, k, window, reply);
             let f = next_exchange(l.size, e);
-            let m = put_exchange(l, j, f);
+            let m = put_exchange(l, n, f);
             Moved {
-                given: Given::Sent(n),
+                given: Given::Sent(size),
                 at: i,
                 login: m,
             }
         }
+    }
+}
+
+// A refusal, and a login that stays as it is.
+fn moved_not(g: Given, p: Port) -> Moved
+    ensures { λ r. ⌜ (r ≡ movedNot g p) × (r .at < 8) ⌝ }
+{
+    let l = login_at(p, 0);
+    Moved {
+        given: g,
+        at: 0,
+        login: l,
     }
 }
 
@@ -118,22 +160,7 @@ pub fn own_of(p: Port) -> Own
     }
 }
 
-// What a call comes to, by the refusals in their order: the room, the exchange, its login, the window.
-fn step_of(p: Port, address: u32, ox_id: u16, start: u64, len: usize, room: usize) -> Step
-    ensures { λ r. ⌜ r ≡ stepOf p address «ox_id» start len room ⌝ }
-{
-    if room < Next::LEAST_ROOM {
-        return Step::Refused(Given::NoRoom);
-    }
-    let s = lookup(p, address, ox_id);
-    match s {
-        Standing::NoLogin => Step::Refused(Given::NoExchange),
-        Standing::NoExchange(_) => Step::Refused(Given::NoExchange),
-        Standing::Open(i, j) => open_step(login_at(p, i), i, j, start, len),
-    }
-}
-
-// The same of the exchange at place j of a login, which stands at place i: its login, and then the window.
+// What a next frame of the exchange at place j of a login, which stands at place i, comes to, by the refusals in their order: its login, and then the window.
 fn open_step(l: Login, i: usize, j: usize, start: u64, len: usize) -> Step
     ensures { λ r. ⌜ r ≡ openStep l i j start len ⌝ }
 {
@@ -237,7 +264,7 @@ fn before_start(blocks: u64, sent: u32, n: u32, len: usize) -> Found
 // Writes the next frame, its data from place k of their source on.
 fn put_frame(
     u: Unit,
-    p: Port,
+    o: Own,
     address: u32,
     ox_id: u16,
     size: u16,
@@ -246,11 +273,10 @@ fn put_frame(
     window: &[u8],
     reply: &mut [u8],
 ) -> usize
-    ensures { λ n. ⌜ n ≡ sentOf (ownOf p) (askedBy (p .address) address «ox_id») (nextReply (fullFrame size) e) (sourceOf u e k (now (window .entry))) (length (now (reply .entry))) ⌝ }
-    ensures { λ _. ⌜ now (reply .exit) ≡ writtenOf (ownOf p) (askedBy (p .address) address «ox_id») (nextReply (fullFrame size) e) (sourceOf u e k (now (window .entry))) (now (reply .entry)) ⌝ }
+    ensures { λ n. ⌜ n ≡ sentOf o (askedBy (o .address) address «ox_id») (nextReply (fullFrame size) e) (sourceOf u e k (now (window .entry))) (length (now (reply .entry))) ⌝ }
+    ensures { λ _. ⌜ now (reply .exit) ≡ writtenOf o (askedBy (o .address) address «ox_id») (nextReply (fullFrame size) e) (sourceOf u e k (now (window .entry))) (now (reply .entry)) ⌝ }
 {
-    let o = own_of(p);
-    let h = asked_by(p.address, address, ox_id);
+    let h = asked_by(o.address, address, ox_id);
     let r = next_reply(size, e);
     if e.kind == Exchange::READ {
         return put_from(o, h, r, window, k, reply);
