@@ -101,7 +101,7 @@ pub fn next_login(
 }
 
 // The same of the exchange at place j of a login, which stands at place i; a buffer under 2,136 bytes is left alone.
-pub fn next_open(
+fn next_open(
     u: Unit,
     o: Own,
     l: Login,
