@@ -68,14 +68,17 @@ unprovenCall p h code = not (spared (h .«r_ctl») code) && unprovenLogin p (h .
 unfoldable pub kindOf : ℕ → Kind
 kindOf rctl = cond (eqb rctl 0x22) Link (cond (eqb rctl 0x23) Done (cond (eqb rctl 0x81) Abort Command))
 
--- "Frame in: 1 to 7 in order"
-unfoldable pub judgedOf : Unit → Port → Header → List ℕ → ℕ → Judged
-judgedOf u p h f room =
+-- "Frame in: 1 to 7 in order", where it is told whether the state is well formed and whether the sender's login is unproven
+unfoldable pub judgedBy : Bool → Bool → ℕ → Header → List ℕ → ℕ → Judged
+judgedBy fine unproven own h f room =
     cond (shortBuffer room) (Refused ShortBuffer)
-    (cond (not (wellFormed u p)) (Refused IllFormed)
+    (cond (not fine) (Refused IllFormed)
     (cond (badSize (length f)) (Refused BadSize)
-    (cond (not (eqb (h .«d_id») (p .address))) (Refused NotOurs)
-    (cond (badSource (p .address) (h .«s_id»)) (Refused BadSource)
+    (cond (not (eqb (h .«d_id») own)) (Refused NotOurs)
+    (cond (badSource own (h .«s_id»)) (Refused BadSource)
     (cond (unknownForm h (length f)) (Refused UnknownForm)
-    (cond (unprovenCall p h (getD f 24 0)) (Refused Unproven)
+    (cond (not (spared (h .«r_ctl») (getD f 24 0)) && unproven) (Refused Unproven)
     (Passed (kindOf (h .«r_ctl»)))))))))
+
+unfoldable pub judgedOf : Unit → Port → Header → List ℕ → ℕ → Judged
+judgedOf u p h f room = judgedBy (wellFormed u p) (unprovenLogin p (h .«s_id»)) (p .address) h f room

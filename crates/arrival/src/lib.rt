@@ -1,17 +1,10 @@
 // What arrived: a frame in is refused by the first of the numbers 1 to 7 that fits it, or it is a request of one of four kinds.
 use address::valid_address;
-use formed::well_formed;
 use frame::Header;
-use state::Port;
-use state::Unit;
-use state::find_login;
-use state::login_at;
-use tables::Found;
 use wire::byte_at;
 ghost use mathlib.Core.Path.{_≡_};
-ghost use mathlib.Core.Bool.{not};
-ghost use Rattle.formed.specs.Formed.{wellFormed};
-ghost use Rattle.arrival.specs.Arrival.{numberOf, badSize, badSource, knownPair, unknownForm, spared, unprovenLogin, unprovenCall, kindOf, judgedOf};
+ghost use mathlib.Core.Bool.{_&&_, not};
+ghost use Rattle.arrival.specs.Arrival.{numberOf, badSize, badSource, knownPair, unknownForm, spared, kindOf, judgedBy};
 
 // Why a call is refused, in the order of their numbers.
 pub enum Refusal {
@@ -59,38 +52,33 @@ pub enum Judged {
     Passed(Kind),
 }
 
-// The frame with header h to a drive of this unit and port, with room for the reply: refusals 1 to 7 in order, or its kind.
-pub fn judge(u: Unit, p: Port, h: Header, frame: &[u8], room: usize) -> Judged
-    ensures { λ r. ⌜ r ≡ judgedOf u p h (now (frame .entry)) room ⌝ }
+// The frame with header h to a drive of this address, with room for the reply: refusals 1 to 7 in order, or its kind.
+// Whether the state is well formed and whether the sender's login is unproven is the caller's to tell.
+pub fn judge(fine: bool, unproven: bool, own: u32, h: Header, frame: &[u8], room: usize) -> Judged
+    ensures { λ r. ⌜ r ≡ judgedBy fine unproven own h (now (frame .entry)) room ⌝ }
 {
     if room < Header::MOST_FRAME {
         return Judged::Refused(Refusal::ShortBuffer);
     }
-    if ill_formed(u, p) {
+    if !fine {
         return Judged::Refused(Refusal::IllFormed);
     }
     if bad_size(frame.len()) {
         return Judged::Refused(Refusal::BadSize);
     }
-    if h.d_id != p.address {
+    if h.d_id != own {
         return Judged::Refused(Refusal::NotOurs);
     }
-    if bad_source(p.address, h.s_id) {
+    if bad_source(own, h.s_id) {
         return Judged::Refused(Refusal::BadSource);
     }
     if unknown_form(h, frame.len()) {
         return Judged::Refused(Refusal::UnknownForm);
     }
-    if unproven_call(p, h, byte_at(frame, 24)) {
+    if unproven_call(unproven, h.r_ctl, byte_at(frame, 24)) {
         return Judged::Refused(Refusal::Unproven);
     }
     Judged::Passed(kind_of(h.r_ctl))
-}
-
-fn ill_formed(u: Unit, p: Port) -> bool
-    ensures { λ r. ⌜ r ≡ not (wellFormed u p) ⌝ }
-{
-    !well_formed(u, p)
 }
 
 // Not 24 to 2,136 bytes, or not a multiple of 4.
@@ -151,13 +139,13 @@ fn unknown_form(h: Header, size: usize) -> bool
 }
 
 // The sender's login is unproven, and the frame is none of PLOGI, PDISC, ADISC, LOGO.
-fn unproven_call(p: Port, h: Header, code: u8) -> bool
-    ensures { λ r. ⌜ r ≡ unprovenCall p h code ⌝ }
+fn unproven_call(unproven: bool, r_ctl: u8, code: u8) -> bool
+    ensures { λ r. ⌜ r ≡ (not (spared «r_ctl» code) && unproven) ⌝ }
 {
-    if is_spared(h.r_ctl, code) {
+    if is_spared(r_ctl, code) {
         false
     } else {
-        unproven_login(p, h.s_id)
+        unproven
     }
 }
 
@@ -175,16 +163,6 @@ fn is_spared(r_ctl: u8, code: u8) -> bool
     } else {
         false
     }
-}
-
-fn unproven_login(p: Port, from: u32) -> bool
-    ensures { λ r. ⌜ r ≡ unprovenLogin p from ⌝ }
-{
-    let Found::At(i) = find_login(p, from) else {
-        return false;
-    };
-    let l = login_at(p, i);
-    l.proven != 1
 }
 
 fn kind_of(r_ctl: u8) -> Kind

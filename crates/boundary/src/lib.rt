@@ -1,18 +1,32 @@
-// The C boundary: the drive is lent, taken out by value, handed to an entry, and put back; include/jhartupal.h declares it.
+// The C boundary: a call sees what it needs of the lent drive, decides on that, and what changes is stored where it stands; include/jhartupal.h declares it.
 use arrival::Refusal;
 use drive::Answer;
 use drive::Drive;
 use drive::Event;
 use drive::Said;
+use drive::Turn;
+use drive::View;
+use formed::login_key;
+use frame::Header;
+use frame::read_header;
+use reply::Own;
+use seat::seat_place;
+use state::Change;
+use state::Port;
 use state::Setup;
-use window::next_login;
+use state::changed;
+use window::next_turn;
 use wire::put_front;
 ghost use mathlib.Core.Path.{_≡_};
+ghost use Prim.Native.Nat.{_<_, _≤_};
 ghost use lib.ListN.{length};
+ghost use Rattle.frame.specs.Head.{headerOf};
 ghost use Rattle.drive.specs.declared.Event.the-variants.{LoopReset, TimeOver, PowerOn};
 ghost use Rattle.drive.specs.Drive.{refused, eventAnswer};
 ghost use Rattle.drive.specs.Entry.{frameIn, frameInBuffer, nextFrame, nextFrameBuffer};
+ghost use Rattle.drive.specs.Turn.{viewOf, eventTurn};
 ghost use Rattle.boundary.specs.Boundary.{codeOf, Told, makeAnswer, setupWith};
+ghost use Rattle.boundary.specs.Settled.{reaches, NextReached, settledOf};
 
 // Makes a drive in the lent state, from 28 identity bytes and 112 bytes of accept words.
 #[no_mangle]
@@ -36,12 +50,16 @@ pub extern "C" fn drive_frame(d: &mut Drive, frame: &[u8], reply: &mut [u8]) -> 
     ensures { λ r. ⌜ Told (frameIn (now (d .entry)) (now (frame .entry)) (length (now (reply .entry)))) r (now (d .exit))
         × (now (reply .exit) ≡ frameInBuffer (now (d .entry)) (now (frame .entry)) (now (reply .entry))) ⌝ }
 {
-    let a = (*d).frame_in(frame, reply);
-    *d = a.drive;
-    code(a.said)
+    if reply.len() < Header::MOST_FRAME {
+        return code(Said::Refused(Refusal::ShortBuffer));
+    } else {
+        let v = view(d, sender(frame));
+        let t = v.frame_turn(frame, reply);
+        return settle(d, v.keys, t);
+    }
 }
 
-// The next frame out of an exchange, from a window: the one login that it changes is stored through the reference.
+// The next frame out of an exchange, from a window.
 #[no_mangle]
 pub extern "C" fn drive_next(
     d: &mut Drive,
@@ -54,9 +72,13 @@ pub extern "C" fn drive_next(
     ensures { λ r. ⌜ Told (nextFrame (now (d .entry)) address «ox_id» start (now (window .entry)) (length (now (reply .entry)))) r (now (d .exit))
         × (now (reply .exit) ≡ nextFrameBuffer (now (d .entry)) address «ox_id» start (now (window .entry)) (now (reply .entry))) ⌝ }
 {
-    let t = next_login(*d, address, ox_id, start, window, reply);
-    d.port.logins[t.at] = t.login;
-    code(t.said)
+    if reply.len() < Header::MOST_FRAME {
+        return code(Said::Refused(Refusal::ShortBuffer));
+    } else {
+        let v = view(d, address);
+        let t = next_turn(v, address, ox_id, start, window, reply);
+        return settle(d, v.keys, t);
+    }
 }
 
 // The loop was reset.
@@ -64,9 +86,9 @@ pub extern "C" fn drive_next(
 pub extern "C" fn drive_loop_reset(d: &mut Drive) -> u64
     ensures { λ r. ⌜ Told (eventAnswer (now (d .entry)) LoopReset) r (now (d .exit)) ⌝ }
 {
-    let a = loop_reset(*d);
-    *d = a.drive;
-    code(a.said)
+    let v = view(d, 0);
+    let t = loop_reset(v);
+    settle(d, v.keys, t)
 }
 
 // The verification time is over.
@@ -74,9 +96,9 @@ pub extern "C" fn drive_loop_reset(d: &mut Drive) -> u64
 pub extern "C" fn drive_time_over(d: &mut Drive) -> u64
     ensures { λ r. ⌜ Told (eventAnswer (now (d .entry)) TimeOver) r (now (d .exit)) ⌝ }
 {
-    let a = time_over(*d);
-    *d = a.drive;
-    code(a.said)
+    let v = view(d, 0);
+    let t = time_over(v);
+    settle(d, v.keys, t)
 }
 
 // The drive powers on.
@@ -84,27 +106,102 @@ pub extern "C" fn drive_time_over(d: &mut Drive) -> u64
 pub extern "C" fn drive_power_on(d: &mut Drive) -> u64
     ensures { λ r. ⌜ Told (eventAnswer (now (d .entry)) PowerOn) r (now (d .exit)) ⌝ }
 {
-    let a = power_on(*d);
-    *d = a.drive;
-    code(a.said)
+    let v = view(d, 0);
+    let t = power_on(v);
+    settle(d, v.keys, t)
 }
 
-fn loop_reset(d: Drive) -> Answer
-    ensures { λ r. ⌜ r ≡ eventAnswer d LoopReset ⌝ }
+// What a call of the port at an address sees of a lent drive: each login is read where it stands.
+fn view(d: &mut Drive, address: u32) -> View
+    ensures { λ r. ⌜ (r ≡ viewOf (now (d .entry)) address) × (now (d .exit) ≡ now (d .entry)) ⌝ }
 {
-    d.event(Event::LoopReset)
+    let mut k = [0u64; 8];
+    let mut i: usize = 0;
+    while i < Port::LOGINS {
+        let n = login_key(d.unit.capacity, d.port.address, d.port.logins[i]);
+        k[i] = n;
+        i += 1;
+    }
+    let at = seat_place(k, address);
+    View {
+        unit: d.unit,
+        own: Own {
+            address: d.port.address,
+            accept: d.port.accept,
+        },
+        keys: k,
+        login: d.port.logins[at],
+    }
 }
 
-fn time_over(d: Drive) -> Answer
-    ensures { λ r. ⌜ r ≡ eventAnswer d TimeOver ⌝ }
+// Stores what a turn changes, each login where it stands, and tells what was said. The keys are those of the logins.
+fn settle(d: &mut Drive, keys: [u64; 8], t: Turn) -> u64
+    requires { ⌜ t .at < 8 ⌝ }
+    ensures { λ r. ⌜ (r ≡ codeOf (t .said)) × (now (d .exit) ≡ settledOf (now (d .entry)) keys t) ⌝ }
 {
-    d.event(Event::TimeOver)
+    let mut i = next_reached(keys, t.change, 0);
+    while i < Port::LOGINS {
+        let l = changed(d.port.logins[i], t.change);
+        d.port.logins[i] = l;
+        i = next_reached(keys, t.change, i + 1);
+    }
+    d.port.logins[t.at] = t.login;
+    code(t.said)
 }
 
-fn power_on(d: Drive) -> Answer
-    ensures { λ r. ⌜ r ≡ eventAnswer d PowerOn ⌝ }
+// The next place from a place on whose login a change reaches, or 8.
+fn next_reached(keys: [u64; 8], c: Change, from: usize) -> usize
+    requires { ⌜ from ≤ 8 ⌝ }
+    ensures { λ r. ⌜ NextReached keys c from r ⌝ }
 {
-    d.event(Event::PowerOn)
+    let mut i = from;
+    while i < Port::LOGINS {
+        let k = keys[i];
+        if is_reached(k, c) {
+            return i;
+        }
+        i += 1;
+    }
+    i
+}
+
+// Whether a change reaches a login of this key; the others stay as they are.
+fn is_reached(k: u64, c: Change) -> bool
+    ensures { λ r. ⌜ r ≡ reaches c k ⌝ }
+{
+    match c {
+        Change::Keep => false,
+        Change::EndAll => true,
+        Change::EndLogin(address) => k == 2 + address as u64,
+        Change::EndExchangesOf(address) => k == 2 + address as u64,
+        _ => k != 1,
+    }
+}
+
+// S_ID of a frame.
+fn sender(frame: &[u8]) -> u32
+    ensures { λ r. ⌜ r ≡ headerOf (now (frame .entry)) .«s_id» ⌝ }
+{
+    let h = read_header(frame);
+    h.s_id
+}
+
+fn loop_reset(v: View) -> Turn
+    ensures { λ r. ⌜ r ≡ eventTurn v LoopReset ⌝ }
+{
+    v.event_turn(Event::LoopReset)
+}
+
+fn time_over(v: View) -> Turn
+    ensures { λ r. ⌜ r ≡ eventTurn v TimeOver ⌝ }
+{
+    v.event_turn(Event::TimeOver)
+}
+
+fn power_on(v: View) -> Turn
+    ensures { λ r. ⌜ r ≡ eventTurn v PowerOn ⌝ }
+{
+    v.event_turn(Event::PowerOn)
 }
 
 // The drive made, or refusal 8 and the drive as it was; identity and accept words of another size are refused too.

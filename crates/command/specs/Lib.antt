@@ -1,3 +1,4 @@
 pub mod Cmnd
 pub mod Tests
 pub mod Command
+pub mod Turn

@@ -2,26 +2,24 @@
 // Values are decided here, no byte is written.
 use formed::total_of;
 use frame::Header;
-use link::Decided;
+use link::Placed;
 use link::Served;
-use link::decide_as;
+use link::change_as;
+use link::place_as;
 use link::serve_as;
 use reply::Reply;
 use reply::Response;
 use reply::sense_with;
 use residual::residual_of;
+use seat::seat_of;
+use seat::seat_place;
 use state::Change;
 use state::Exchange;
 use state::Login;
-use state::Port;
-use state::change_all;
 use state::end_exchange;
 use state::find_exchange;
-use state::find_login;
 use state::free_exchange;
-use state::login_at;
 use state::put_exchange;
-use state::put_login;
 use state::set_attention;
 use tables::Found;
 use wire::be16;
@@ -34,7 +32,8 @@ ghost use Prim.Native.Nat.{_*_, min};
 ghost use Rattle.wire.specs.Bytes.{part};
 ghost use Rattle.command.specs.Cmnd.{cmndOf, lowBit, readBit, malformed, onUnit, taskFor, taskOf};
 ghost use Rattle.command.specs.Tests.{skips, otherUnit, attends, unknownCode, inquiryField, capacityField, fieldSet, outside, senseKind, inquiryKind, fresh, exchangeFor, askedOf};
-ghost use Rattle.command.specs.Command.{refusedWith, toldOf, answerOf, executeOf, loggedOut, commandedAt, commandOf};
+ghost use Rattle.command.specs.Command.{refusedWith, toldOf, answerOf, executeOf};
+ghost use Rattle.command.specs.Turn.{loggedOutIn, commandedTurn, commandTurn};
 
 // The fields of an FCP_CMND.
 pub struct Cmnd {
@@ -65,42 +64,43 @@ pub enum Asked {
     Wants(Exchange),
 }
 
-// An FCP_CMND to a drive of this capacity: without a paired login a drive LOGO, and the login ends.
-pub fn command(capacity: u64, p: Port, h: Header, frame: &[u8]) -> Decided
-    ensures { λ r. ⌜ r ≡ commandOf capacity p h (now (frame .entry)) ⌝ }
+// An FCP_CMND to a drive of this capacity, at a port whose logins have these keys: without a paired login a drive LOGO, and the login ends.
+// l is the sender's login, or that at place 0.
+pub fn command(capacity: u64, keys: [u64; 8], l: Login, h: Header, frame: &[u8]) -> Placed
+    ensures { λ r. ⌜ r ≡ commandTurn capacity keys l h (now (frame .entry)) ⌝ }
 {
     let from = h.s_id;
-    let Found::At(i) = find_login(p, from) else {
-        return logged_out(p, from);
+    let i = seat_place(keys, from);
+    let Found::At(_) = seat_of(keys, from) else {
+        return logged_out(i, l, from);
     };
-    let l = login_at(p, i);
     if l.paired == 1 {
         let c = read_cmnd(frame);
-        commanded(capacity, p, i, h, c, frame.len())
+        commanded(capacity, i, l, h, c, frame.len())
     } else {
-        logged_out(p, from)
+        logged_out(i, l, from)
     }
 }
 
-fn logged_out(p: Port, from: u32) -> Decided
-    ensures { λ r. ⌜ r ≡ loggedOut p from ⌝ }
+fn logged_out(i: usize, l: Login, from: u32) -> Placed
+    ensures { λ r. ⌜ r ≡ loggedOutIn i l from ⌝ }
 {
-    decide_as(Reply::Logout, change_all(p, Change::EndLogin(from)))
+    change_as(Reply::Logout, Change::EndLogin(from), i, l)
 }
 
-// An FCP_CMND from the paired login at place i, in a frame of this length.
-fn commanded(capacity: u64, p: Port, i: usize, h: Header, c: Cmnd, length: usize) -> Decided
-    ensures { λ r. ⌜ r ≡ commandedAt capacity p i h c length ⌝ }
+// An FCP_CMND from the paired login l at place i, in a frame of this length.
+fn commanded(capacity: u64, i: usize, l: Login, h: Header, c: Cmnd, length: usize) -> Placed
+    ensures { λ r. ⌜ r ≡ commandedTurn capacity i l h c length ⌝ }
 {
     let t = task_of(c, length, h.s_id);
     match t {
-        Task::Code(code) => decide_as(Reply::Respond(Response::Code(code)), p),
-        Task::Apply(e) => decide_as(Reply::Respond(Response::Code(0)), change_all(p, e)),
+        Task::Code(code) => place_as(Reply::Respond(Response::Code(code)), i, l),
+        Task::Apply(e) => change_as(Reply::Respond(Response::Code(0)), e, i, l),
         Task::Execute => {
-            let s = execute(capacity, login_at(p, i), h.ox_id, c);
+            let s = execute(capacity, l, h.ox_id, c);
             let r = s.reply;
-            let l = s.login;
-            decide_as(r, put_login(p, i, l))
+            let m = s.login;
+            place_as(r, i, m)
         }
     }
 }

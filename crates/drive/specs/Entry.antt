@@ -7,7 +7,6 @@ use Rattle.wire.specs.Bytes.{onto}
 use Rattle.frame.specs.declared.Header.{Header}
 use Rattle.frame.specs.Head.{headerOf}
 use Rattle.state.specs.declared.Port.{Port}
-use Rattle.state.specs.Changes.{loginAt, withLogin}
 use Rattle.reply.specs.declared.Reply.the-variants as reply
 use Rattle.reply.specs.Reply.{bytesOf}
 use Rattle.link.specs.declared.Decided.{Decided}
@@ -17,8 +16,7 @@ use Rattle.formed.specs.Formed.{wellFormed}
 use Rattle.serve.specs.declared.Given.{Given}
 use Rattle.serve.specs.declared.Given.the-variants as given
 use Rattle.serve.specs.declared.Next.{Next}
-use Rattle.serve.specs.declared.Moved.{Moved}
-use Rattle.serve.specs.Next.{ownOf, movedOf, nextOf, nextBuffer}
+use Rattle.serve.specs.Next.{ownOf, nextOf, nextBuffer}
 use Rattle.arrival.specs.declared.Refusal.{Refusal}
 use Rattle.arrival.specs.declared.Refusal.the-variants.{ShortBuffer, IllFormed, Unproven, NoExchange, BadWindow}
 use Rattle.arrival.specs.declared.Kind.{Kind}
@@ -29,7 +27,6 @@ use Rattle.arrival.specs.Arrival.{shortBuffer, judgedOf}
 use Rattle.drive.specs.declared.Drive.{Drive}
 use Rattle.drive.specs.declared.Answer.{Answer}
 use Rattle.drive.specs.declared.Said.{Said}
-use Rattle.drive.specs.declared.Turn.{Turn}
 use Rattle.drive.specs.declared.Said.the-variants.{Sent, Refused}
 use Rattle.drive.specs.Drive.{refused}
 
@@ -86,22 +83,3 @@ nextFrame d a x start W room =
 
 unfoldable pub nextFrameBuffer : Drive → ℕ → ℕ → ℕ → List ℕ → List ℕ → List ℕ
 nextFrameBuffer d a x start W l = cond (shortBuffer (length l)) l (cond (not (wellFormed (d .unit) (d .port))) l (nextBuffer (d .unit) (d .port) a x start W l))
-
--- a refusal, told by a login that stays as it is
-abbrev pub stays : Refusal → Port → Turn
-stays x p = record { said = Refused x; at = 0; login = loginAt p 0 }
-
--- what became of it, and the login that moved on
-abbrev pub moved : Moved → Turn
-moved m = record { said = saidOf (m .given); at = m .at; login = m .login }
-
--- the same of a next frame, told by the one login that it changes: `nextFrame` is the answer to it (`turn-answers`)
-unfoldable pub nextTurn : Drive → ℕ → ℕ → ℕ → List ℕ → ℕ → Turn
-nextTurn d a x start W room =
-    cond (shortBuffer room) (stays ShortBuffer (d .port))
-    (cond (not (wellFormed (d .unit) (d .port))) (stays IllFormed (d .port))
-    (moved (movedOf (d .unit) (d .port) a x start W room)))
-
--- the drive with that login in its place
-abbrev pub answerTo : Drive → Turn → Answer
-answerTo d t = record { said = t .said; drive = record { unit = d .unit; port = withLogin (d .port) (t .at) (t .login) } }

@@ -4,16 +4,20 @@ use arrival::Kind;
 use arrival::Refusal;
 use arrival::judge;
 use command::command;
+use formed::keys_fine;
+use formed::login_keys;
 use formed::setup_rules;
-use formed::well_formed;
 use frame::Header;
 use frame::read_header;
-use link::Decided;
+use link::Placed;
 use link::abts;
-use link::decide_as;
 use link::link;
+use link::place_as;
+use reply::Own;
 use reply::Reply;
 use reply::write;
+use seat::seat_of;
+use seat::seat_place;
 use serve::Given;
 use serve::next_login;
 use serve::own_of;
@@ -23,15 +27,16 @@ use state::Port;
 use state::Setup;
 use state::Unit;
 use state::change_all;
+use state::changed;
 use state::empty_login;
 use state::login_at;
-use state::power_on;
 use state::put_login;
+use tables::Found;
 ghost use mathlib.Core.Path.{_≡_};
-ghost use Prim.Native.Nat.{_<_};
 ghost use lib.ListN.{length};
 ghost use Rattle.drive.specs.Drive.{refused, madeFrom, noDrive, newAnswer, eventAnswer};
-ghost use Rattle.drive.specs.Entry.{decidedOf, frameIn, frameInBuffer, saidOf, nextFrame, nextFrameBuffer, stays, nextTurn, answerTo};
+ghost use Rattle.drive.specs.Entry.{frameIn, frameInBuffer, saidOf, nextFrame, nextFrameBuffer};
+ghost use Rattle.drive.specs.Turn.{viewOf, viewFine, unprovenIn, stays, placedOf, frameTurn, frameTurnBuffer, nextTurn, nextTurnBuffer, changeOf, eventTurn, answerTo};
 
 #[repr(C)]
 pub struct Drive {
@@ -50,9 +55,18 @@ pub struct Answer {
     pub drive: Drive,
 }
 
-// What a call answers that changes one login at most: its place, and what it is after it. After a refusal that login stays as it is.
+// What a call of one port sees of a drive: the unit, what a reply takes from the setup, the keys of all logins, and the port's login, or that at place 0.
+pub struct View {
+    pub unit: Unit,
+    pub own: Own,
+    pub keys: [u64; 8],
+    pub login: Login,
+}
+
+// What a call answers, told by what changes: a change of every login, and then the login at a place.
 pub struct Turn {
     pub said: Said,
+    pub change: Change,
     pub at: usize,
     pub login: Login,
 }
@@ -85,24 +99,10 @@ impl Drive {
         ensures { λ r. ⌜ r ≡ frameIn self (now (frame .entry)) (length (now (reply .entry))) ⌝ }
         ensures { λ _. ⌜ now (reply .exit) ≡ frameInBuffer self (now (frame .entry)) (now (reply .entry)) ⌝ }
     {
-        let u = self.unit;
-        let p = self.port;
         let h = read_header(frame);
-        let j = judge(u, p, h, frame, reply.len());
-        match j {
-            Judged::Refused(x) => refuse(x, self),
-            Judged::Passed(k) => {
-                let d = decide(u.capacity, p, h, k, frame);
-                let r = d.reply;
-                let q = d.port;
-                let none = [0u8; 0];
-                let n = write(own_of(p), h, r, &none, reply);
-                Answer {
-                    said: Said::Sent(n),
-                    drive: Drive { unit: u, port: q },
-                }
-            }
-        }
+        let v = self.view(h.s_id);
+        let t = v.frame_turn(frame, reply);
+        self.answer(t)
     }
 
     // The next frame out of the exchange of an address and an OX_ID, from a window that starts at a block: refused by the first of 1, 2, 9, 7, 10 that fits,
@@ -118,12 +118,86 @@ impl Drive {
         ensures { λ r. ⌜ r ≡ nextFrame self address «ox_id» start (now (window .entry)) (length (now (reply .entry))) ⌝ }
         ensures { λ _. ⌜ now (reply .exit) ≡ nextFrameBuffer self address «ox_id» start (now (window .entry)) (now (reply .entry)) ⌝ }
     {
-        let t = self.next_login(address, ox_id, start, window, reply);
+        let v = self.view(address);
+        let t = v.next_turn(address, ox_id, start, window, reply);
         self.answer(t)
     }
 
-    // The same, told by the one login that it changes.
-    pub fn next_login(
+    // The drive after an event, or refusal 2 and the drive as it was.
+    pub fn event(self, e: Event) -> Answer
+        ensures { λ r. ⌜ r ≡ eventAnswer self e ⌝ }
+    {
+        let v = self.view(0);
+        let t = v.event_turn(e);
+        self.answer(t)
+    }
+
+    // What a call of the port at an address sees.
+    pub fn view(self, address: u32) -> View
+        ensures { λ r. ⌜ r ≡ viewOf self address ⌝ }
+    {
+        let u = self.unit;
+        let p = self.port;
+        let k = login_keys(u.capacity, p);
+        let l = login_at(p, seat_place(k, address));
+        let o = own_of(p);
+        View {
+            unit: u,
+            own: o,
+            keys: k,
+            login: l,
+        }
+    }
+
+    // The answer of a turn: the drive with every login changed so, and then that login at its place.
+    pub fn answer(self, t: Turn) -> Answer
+        ensures { λ r. ⌜ r ≡ answerTo self t ⌝ }
+    {
+        let u = self.unit;
+        let p = self.port;
+        let s = t.said;
+        let c = t.change;
+        let l = t.login;
+        let q = put_login(change_all(p, c), t.at, l);
+        Answer {
+            said: s,
+            drive: Drive { unit: u, port: q },
+        }
+    }
+}
+
+impl View {
+    // What a frame in comes to, seen by its sender.
+    pub fn frame_turn(self, frame: &[u8], reply: &mut [u8]) -> Turn
+        ensures { λ r. ⌜ r ≡ frameTurn self (now (frame .entry)) (length (now (reply .entry))) ⌝ }
+        ensures { λ _. ⌜ now (reply .exit) ≡ frameTurnBuffer self (now (frame .entry)) (now (reply .entry)) ⌝ }
+    {
+        let o = self.own;
+        let h = read_header(frame);
+        let fine = is_fine(self);
+        let unproven = is_unproven(self, h.s_id);
+        let j = judge(fine, unproven, o.address, h, frame, reply.len());
+        match j {
+            Judged::Refused(x) => stay(x, self, h.s_id),
+            Judged::Passed(k) => {
+                let d = decide(self, h, k, frame);
+                let r = d.reply;
+                let c = d.change;
+                let l = d.login;
+                let none = [0u8; 0];
+                let n = write(o, h, r, &none, reply);
+                Turn {
+                    said: Said::Sent(n),
+                    change: c,
+                    at: d.at,
+                    login: l,
+                }
+            }
+        }
+    }
+
+    // What the next frame out of the exchange of an address and an OX_ID comes to, seen by the port at that address.
+    pub fn next_turn(
         self,
         address: u32,
         ox_id: u16,
@@ -131,62 +205,87 @@ impl Drive {
         window: &[u8],
         reply: &mut [u8],
     ) -> Turn
-        ensures { λ r. ⌜ (r ≡ nextTurn self address «ox_id» start (now (window .entry)) (length (now (reply .entry)))) × (r .at < 8) ⌝ }
-        ensures { λ _. ⌜ now (reply .exit) ≡ nextFrameBuffer self address «ox_id» start (now (window .entry)) (now (reply .entry)) ⌝ }
+        ensures { λ r. ⌜ r ≡ nextTurn self address «ox_id» start (now (window .entry)) (length (now (reply .entry))) ⌝ }
+        ensures { λ _. ⌜ now (reply .exit) ≡ nextTurnBuffer self address «ox_id» start (now (window .entry)) (now (reply .entry)) ⌝ }
     {
         let u = self.unit;
-        let p = self.port;
+        let o = self.own;
+        let k = self.keys;
+        let l = self.login;
         if reply.len() < Header::MOST_FRAME {
-            return stay(Refusal::ShortBuffer, p);
+            return stay(Refusal::ShortBuffer, self, address);
         }
-        if well_formed(u, p) {
-            let m = next_login(u, p, address, ox_id, start, window, reply);
+        if is_fine(self) {
+            let m = next_login(u, o, k, l, address, ox_id, start, window, reply);
             let g = m.given;
-            let l = m.login;
+            let n = m.login;
             Turn {
                 said: said_of(g),
+                change: Change::Keep,
                 at: m.at,
-                login: l,
+                login: n,
             }
         } else {
-            stay(Refusal::IllFormed, p)
+            stay(Refusal::IllFormed, self, address)
         }
     }
 
-    // The answer of a turn: the drive with that login in its place.
-    pub fn answer(self, t: Turn) -> Answer
-        ensures { λ r. ⌜ r ≡ answerTo self t ⌝ }
+    // What an event comes to; it is no port's, and address 0 is none.
+    pub fn event_turn(self, e: Event) -> Turn
+        ensures { λ r. ⌜ r ≡ eventTurn self e ⌝ }
     {
-        let u = self.unit;
-        let p = self.port;
-        let s = t.said;
-        let l = t.login;
-        let q = put_login(p, t.at, l);
-        Answer {
-            said: s,
-            drive: Drive { unit: u, port: q },
-        }
-    }
-
-    // The drive after an event, or refusal 2 and the drive as it was.
-    pub fn event(self, e: Event) -> Answer
-        ensures { λ r. ⌜ r ≡ eventAnswer self e ⌝ }
-    {
-        let u = self.unit;
-        let p = self.port;
-        if well_formed(u, p) {
-            let q = match e {
-                Event::LoopReset => change_all(p, Change::Unprove),
-                Event::TimeOver => change_all(p, Change::EndUnproven),
-                Event::PowerOn => power_on(p),
-            };
-            Answer {
+        let k = self.keys;
+        let l = self.login;
+        if is_fine(self) {
+            let c = change_of(e);
+            let m = changed(l, c);
+            Turn {
                 said: Said::Sent(0),
-                drive: Drive { unit: u, port: q },
+                change: c,
+                at: seat_place(k, 0),
+                login: m,
             }
         } else {
-            refuse(Refusal::IllFormed, self)
+            stay(Refusal::IllFormed, self, 0)
         }
+    }
+}
+
+// Whether the drive that is seen is well formed.
+fn is_fine(v: View) -> bool
+    ensures { λ r. ⌜ r ≡ viewFine v ⌝ }
+{
+    let u = v.unit;
+    let o = v.own;
+    let accept = o.accept;
+    let k = v.keys;
+    if setup_rules(u.capacity, o.address, accept) {
+        keys_fine(k)
+    } else {
+        false
+    }
+}
+
+// Whether the login of the address that sees it is unproven.
+fn is_unproven(v: View, address: u32) -> bool
+    ensures { λ r. ⌜ r ≡ unprovenIn v address ⌝ }
+{
+    let k = v.keys;
+    let l = v.login;
+    let Found::At(_) = seat_of(k, address) else {
+        return false;
+    };
+    l.proven != 1
+}
+
+// The change of every login that an event is.
+fn change_of(e: Event) -> Change
+    ensures { λ r. ⌜ r ≡ changeOf e ⌝ }
+{
+    match e {
+        Event::LoopReset => Change::Unprove,
+        Event::TimeOver => Change::EndUnproven,
+        Event::PowerOn => Change::EndAll,
     }
 }
 
@@ -200,14 +299,16 @@ fn refuse(x: Refusal, d: Drive) -> Answer
     }
 }
 
-// A refusal, and a login that stays as it is.
-fn stay(x: Refusal, p: Port) -> Turn
-    ensures { λ r. ⌜ (r ≡ stays x p) × (r .at < 8) ⌝ }
+// A refusal, and the login that was seen stays as it is.
+fn stay(x: Refusal, v: View, address: u32) -> Turn
+    ensures { λ r. ⌜ r ≡ stays x v address ⌝ }
 {
-    let l = login_at(p, 0);
+    let k = v.keys;
+    let l = v.login;
     Turn {
         said: Said::Refused(x),
-        at: 0,
+        change: Change::Keep,
+        at: seat_place(k, address),
         login: l,
     }
 }
@@ -225,15 +326,18 @@ fn said_of(g: Given) -> Said
     }
 }
 
-// What a frame that passed is answered, and the port after it.
-fn decide(capacity: u64, p: Port, h: Header, k: Kind, frame: &[u8]) -> Decided
-    ensures { λ r. ⌜ r ≡ decidedOf capacity p h k (now (frame .entry)) ⌝ }
+// What a frame that passed is answered, and what changes.
+fn decide(v: View, h: Header, k: Kind, frame: &[u8]) -> Placed
+    ensures { λ r. ⌜ r ≡ placedOf v h k (now (frame .entry)) ⌝ }
 {
+    let u = v.unit;
+    let keys = v.keys;
+    let l = v.login;
     match k {
-        Kind::Link => link(p, h, frame),
-        Kind::Done => decide_as(Reply::Nothing, p),
-        Kind::Abort => abts(p, h.s_id, h.ox_id, h.rx_id),
-        Kind::Command => command(capacity, p, h, frame),
+        Kind::Link => link(keys, l, h, frame),
+        Kind::Done => place_as(Reply::Nothing, seat_place(keys, h.s_id), l),
+        Kind::Abort => abts(keys, l, h.s_id, h.ox_id, h.rx_id),
+        Kind::Command => command(u.capacity, keys, l, h, frame),
     }
 }
 

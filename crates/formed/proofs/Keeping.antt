@@ -16,7 +16,7 @@ use Rattle.state.specs.declared.Login.{Login}
 use Rattle.state.specs.declared.Port.{Port}
 use Rattle.state.specs.declared.Unit.{Unit}
 use Rattle.state.specs.declared.Change.{Change}
-use Rattle.state.specs.declared.Change.the-variants.{EndLogin, Unprove, EndUnproven, EndExchangesOf, Reset, Clear}
+use Rattle.state.specs.declared.Change.the-variants.{Keep, EndAll, EndLogin, Unprove, EndUnproven, EndExchangesOf, Reset, Clear}
 use Rattle.state.specs.Changes.{emptyExchange, emptyLogin, isUsed, loginAt, exchangeAt, withLogin, withState, withProven, withPaired, withAttention, withPlaces, withExchange, withoutExchanges, hasAddress, endedOf, unproven, verified, abortedOf, resetOf, losesTo, clearedBy, changedOf, changedAll, poweredOn, isClosed}
 use Rattle.state.specs.Tables.{isFree, hasId, findExchange}
 use Rattle.formed.specs.Formed.{fullFrame, openable, sentFits, exchangeFine, apartId, paramsFine, flagsFine, addressFine, loginFine, apartAddress, wellFormed}
@@ -214,6 +214,8 @@ module _ {l : Login} where
 
 like : (c : Change) (l : Login) → Like l (changedOf c l)
 unfolding endedOf unproven verified abortedOf resetOf clearedBy withoutExchanges
+like Keep l = itself
+like EndAll l = gone
 like (EndLogin a) l = like-cond (hasAddress a l) gone itself
 like Unprove l = like-cond (isUsed l) (same refl refl) itself
 like EndUnproven l = like-cond (isUsed l) (like-cond (eqb (l .proven) 1) itself gone) itself
@@ -244,6 +246,8 @@ module _ (capacity own : ℕ) where
 
   change-fine : (c : Change) (l : Login) → loginFine capacity own l ≡ true → loginFine capacity own (changedOf c l) ≡ true
   unfolding endedOf unproven verified abortedOf resetOf clearedBy
+  change-fine Keep l e = e
+  change-fine EndAll l e = empty-fine capacity own
   change-fine (EndLogin a) l e = fine-cond (hasAddress a l) emptyLogin l (λ _. empty-fine capacity own) e
   change-fine Unprove l e = fine-cond (isUsed l) (withProven l 0) l (λ h. used-fine {l = withProven l 0} h (proven-used (fine-used h e) 0 refl)) e
   change-fine EndUnproven l e = fine-cond (isUsed l) (cond (eqb (l .proven) 1) l emptyLogin) l (λ _. fine-cond (eqb (l .proven) 1) l emptyLogin (λ _. e) (empty-fine capacity own)) e

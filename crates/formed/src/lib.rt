@@ -44,20 +44,27 @@ pub fn well_formed(u: Unit, p: Port) -> bool
     ensures { λ r. ⌜ r ≡ wellFormed u p ⌝ }
 {
     let accept = p.accept;
-    let t = p.logins;
     if setup_rules(u.capacity, p.address, accept) {
-        let mut k = [0; 8];
-        let mut i: usize = 0;
-        while i < Port::LOGINS {
-            let l = t[i];
-            let n = login_key(u.capacity, p.address, l);
-            k[i] = n;
-            i += 1;
-        }
-        keys_fine(k)
+        keys_fine(login_keys(u.capacity, p))
     } else {
         false
     }
+}
+
+// The keys of a port's logins.
+pub fn login_keys(capacity: u64, p: Port) -> [u64; 8]
+    ensures { λ r. ⌜ r ≡ map (loginKey capacity (p .address)) (p .logins) ⌝ }
+{
+    let t = p.logins;
+    let mut k = [0; 8];
+    let mut i: usize = 0;
+    while i < Port::LOGINS {
+        let l = t[i];
+        let n = login_key(capacity, p.address, l);
+        k[i] = n;
+        i += 1;
+    }
+    k
 }
 
 // The bytes of a full data frame to a login of this W18 size.
@@ -214,7 +221,8 @@ fn key_fine(t: [u64; 8], k: u64, from: usize) -> bool
     if k == 0 { false } else { key_alone(t, k, from) }
 }
 
-fn keys_fine(t: [u64; 8]) -> bool
+// Whether these are the keys of a table's places that are all fine, and no two of them known by the same number.
+pub fn keys_fine(t: [u64; 8]) -> bool
     ensures { λ r. ⌜ r ≡ keysFine t ⌝ }
 {
     let mut i: usize = 0;
@@ -329,7 +337,8 @@ fn login_fine(capacity: u64, own: u32, l: Login) -> bool
     if l.used == 0 { all_closed(t) } else { false }
 }
 
-fn login_key(capacity: u64, own: u32, l: Login) -> u64
+// The key of a place for a login.
+pub fn login_key(capacity: u64, own: u32, l: Login) -> u64
     ensures { λ r. ⌜ r ≡ loginKey capacity own l ⌝ }
 {
     let fine = login_fine(capacity, own, l);

@@ -1,3 +1,0 @@
-pub mod Link
-pub mod Record
-pub mod Login

@@ -4,20 +4,17 @@ use params::Params;
 use params::Verdict;
 use reply::Accepted;
 use reply::Reply;
+use seat::place_for;
+use seat::seat_of;
+use seat::seat_place;
 use state::Change;
 use state::Login;
 use state::Port;
-use state::Standing;
-use state::change_all;
+use state::changed;
 use state::empty_login;
 use state::end_exchange;
 use state::end_exchanges;
 use state::find_exchange;
-use state::find_login;
-use state::free_login;
-use state::login_at;
-use state::lookup;
-use state::put_login;
 use tables::Found;
 use wire::be16;
 use wire::be24;
@@ -26,12 +23,21 @@ use wire::name_at;
 ghost use mathlib.Core.Path.{_≡_};
 ghost use Prim.Native.Nat.{_<_};
 ghost use Rattle.tables.specs.Lists.{same};
-ghost use Rattle.link.specs.Link.{decidedAs, servedAs, provenAs, sizeOf, newLogin, outcomeOf, outcomeReply, plogiOf, namesDiffer, pdiscOf, adiscOf, logoOf, pageFine, pairFine, prliOf, prloOf, rrqOf, serviceOf, linkOf, abtsOf};
+ghost use Rattle.link.specs.Link.{servedAs, provenAs, sizeOf, newLogin, outcomeReply, namesDiffer, pdiscOf, adiscOf, pageFine, pairFine, prliOf, prloOf, rrqOf, serviceOf};
+ghost use Rattle.link.specs.Turn.{placedAs, changedAs, outcomeIn, plogiTurn, logoTurn, abortedLogin, linkTurn, abtsTurn};
 
-// A reply, and the port after it.
+// A reply, and the port after it: what the definitions say of a request.
 pub struct Decided {
     pub reply: Reply,
     pub port: Port,
+}
+
+// The same, told by what changes: a change of every login, and then the login at a place.
+pub struct Placed {
+    pub reply: Reply,
+    pub change: Change,
+    pub at: usize,
+    pub login: Login,
 }
 
 // A service's reply, and the login after it.
@@ -47,63 +53,84 @@ pub enum Outcome {
 }
 
 // A request to the link services: other code, wrong size, PLOGI, LOGO, no login, and then the services on the sender's login.
-pub fn link(p: Port, h: Header, frame: &[u8]) -> Decided
-    ensures { λ r. ⌜ r ≡ linkOf p h (now (frame .entry)) ⌝ }
+// It comes to a port whose logins have these keys; l is the sender's login, or that at place 0.
+pub fn link(keys: [u64; 8], l: Login, h: Header, frame: &[u8]) -> Placed
+    ensures { λ r. ⌜ r ≡ linkTurn keys l h (now (frame .entry)) ⌝ }
 {
     let code = byte_at(frame, 24);
     let size = size_of(code);
     let from = h.s_id;
+    let i = seat_place(keys, from);
     if size == 0 {
-        return decide_as(Reply::Reject(0x0b, 0), p);
+        return place_as(Reply::Reject(0x0b, 0), i, l);
     }
     if frame.len() != 24 + size {
-        return decide_as(Reply::Reject(0x03, 0), p);
+        return place_as(Reply::Reject(0x03, 0), i, l);
     }
     if code == 0x03 {
-        return plogi(p, from, Params::read(frame, 28));
+        return plogi(keys, l, from, Params::read(frame, 28));
     }
     if code == 0x05 {
-        return logo(p, from, be24(frame, 29));
+        return logo(i, l, from, be24(frame, 29));
     }
-    let Found::At(i) = find_login(p, from) else {
-        return decide_as(Reply::Logout, p);
+    let Found::At(_) = seat_of(keys, from) else {
+        return place_as(Reply::Logout, i, l);
     };
-    let s = service(code, login_at(p, i), from, frame);
+    let s = service(code, l, from, frame);
     let r = s.reply;
-    let l = s.login;
-    decide_as(r, put_login(p, i, l))
+    let m = s.login;
+    place_as(r, i, m)
 }
 
 // ABTS of an exchange: without a login a drive LOGO; a named responder exchange is rejected; else the exchange ends, if there is one.
-pub fn abts(p: Port, from: u32, ox_id: u16, rx_id: u16) -> Decided
-    ensures { λ r. ⌜ r ≡ abtsOf p from «ox_id» «rx_id» ⌝ }
+pub fn abts(keys: [u64; 8], l: Login, from: u32, ox_id: u16, rx_id: u16) -> Placed
+    ensures { λ r. ⌜ r ≡ abtsTurn keys l from «ox_id» «rx_id» ⌝ }
 {
-    let s = lookup(p, from, ox_id);
-    match s {
-        Standing::NoLogin => decide_as(Reply::Logout, p),
-        Standing::NoExchange(_) => {
-            if rx_id == 0xffff {
-                decide_as(Reply::AbortAccept, p)
-            } else {
-                decide_as(Reply::AbortReject, p)
-            }
-        }
-        Standing::Open(i, j) => {
-            if rx_id == 0xffff {
-                let l = end_exchange(login_at(p, i), j);
-                decide_as(Reply::AbortAccept, put_login(p, i, l))
-            } else {
-                decide_as(Reply::AbortReject, p)
-            }
-        }
+    let i = seat_place(keys, from);
+    let Found::At(_) = seat_of(keys, from) else {
+        return place_as(Reply::Logout, i, l);
+    };
+    if rx_id == 0xffff {
+        place_as(Reply::AbortAccept, i, end_named(l, ox_id))
+    } else {
+        place_as(Reply::AbortReject, i, l)
     }
 }
 
-// A reply with the port after it.
-pub fn decide_as(r: Reply, p: Port) -> Decided
-    ensures { λ d. ⌜ d ≡ decidedAs r p ⌝ }
+// A login without its exchange of this OX_ID, if there is one.
+fn end_named(l: Login, ox_id: u16) -> Login
+    ensures { λ r. ⌜ r ≡ abortedLogin l «ox_id» ⌝ }
 {
-    Decided { reply: r, port: p }
+    let f = find_exchange(l, ox_id);
+    match f {
+        Found::At(j) => end_exchange(l, j),
+        Found::Nothing => l,
+    }
+}
+
+// A reply, and the login at a place after it; no other login changes.
+pub fn place_as(r: Reply, at: usize, l: Login) -> Placed
+    ensures { λ t. ⌜ t ≡ placedAs r at l ⌝ }
+{
+    Placed {
+        reply: r,
+        change: Change::Keep,
+        at: at,
+        login: l,
+    }
+}
+
+// A reply, and a change of every login, with what it makes of the login at a place.
+pub fn change_as(r: Reply, c: Change, at: usize, l: Login) -> Placed
+    ensures { λ t. ⌜ t ≡ changedAs r c at l ⌝ }
+{
+    let m = changed(l, c);
+    Placed {
+        reply: r,
+        change: c,
+        at: at,
+        login: m,
+    }
 }
 
 // A reply with the login after it.
@@ -130,21 +157,25 @@ fn size_of(code: u8) -> usize
 }
 
 // PLOGI: ends the sender's login first, accepted or not; then the word tests in their order and the room test.
-fn plogi(p: Port, from: u32, q: Params) -> Decided
-    ensures { λ r. ⌜ r ≡ plogiOf p from q ⌝ }
+fn plogi(keys: [u64; 8], l: Login, from: u32, q: Params) -> Placed
+    ensures { λ r. ⌜ r ≡ plogiTurn keys l from q ⌝ }
 {
-    let n = change_all(p, Change::EndLogin(from));
-    let o = judged(n, q);
+    let o = judged(keys, from, q);
     let r = outcome_reply(o);
-    let Outcome::Place(i) = o else {
-        return decide_as(r, n);
+    let Outcome::Place(j) = o else {
+        return change_as(r, Change::EndLogin(from), seat_place(keys, from), l);
     };
-    let l = new_login(from, q);
-    decide_as(r, put_login(n, i, l))
+    let m = new_login(from, q);
+    Placed {
+        reply: r,
+        change: Change::EndLogin(from),
+        at: j,
+        login: m,
+    }
 }
 
-fn judged(p: Port, q: Params) -> Outcome
-    ensures { λ r. ⌜ r ≡ outcomeOf p q ⌝ }
+fn judged(keys: [u64; 8], from: u32, q: Params) -> Outcome
+    ensures { λ r. ⌜ r ≡ outcomeIn keys from q ⌝ }
 {
     let v = q.verdict();
     match v {
@@ -153,7 +184,7 @@ fn judged(p: Port, q: Params) -> Outcome
             Outcome::Rejected(w.reason, w.explanation)
         }
         Verdict::Accept => {
-            let f = free_login(p);
+            let f = place_for(keys, from);
             match f {
                 Found::At(i) => Outcome::Place(i),
                 Found::Nothing => Outcome::Rejected(0x09, 0x29),
@@ -190,16 +221,18 @@ fn new_login(from: u32, q: Params) -> Login
 }
 
 // LOGO: ends the login, if any, of a sender that names itself.
-fn logo(p: Port, from: u32, named: u32) -> Decided
-    ensures { λ r. ⌜ r ≡ logoOf p from named ⌝ }
+fn logo(i: usize, l: Login, from: u32, named: u32) -> Placed
+    ensures { λ r. ⌜ r ≡ logoTurn i l from named ⌝ }
 {
     if named == from {
-        decide_as(
+        change_as(
             Reply::Accept(Accepted::Short),
-            change_all(p, Change::EndLogin(from)),
+            Change::EndLogin(from),
+            i,
+            l,
         )
     } else {
-        decide_as(Reply::Reject(0x03, 0x1f), p)
+        place_as(Reply::Reject(0x03, 0x1f), i, l)
     }
 }
 

@@ -16,7 +16,8 @@ use Rattle.state.specs.declared.Unit.{Unit}
 use Rattle.state.specs.declared.Standing.{Standing}
 use Rattle.state.specs.declared.Standing.the-variants as standing
 use Rattle.state.specs.Changes.{emptyExchange, loginAt, exchangeAt, withLogin, withExchange, advanced}
-use Rattle.state.specs.Tables.{lookupOf}
+use Rattle.state.specs.Tables.{findExchange, lookupOf}
+use Rattle.seat.specs.Seat.{seatOf, seatPlace}
 use Rattle.formed.specs.Formed.{fullFrame, total, nextBytes}
 use Rattle.residual.specs.Residual.{residualOf}
 use Rattle.reply.specs.declared.Own.{Own}
@@ -151,17 +152,21 @@ unfoldable pub bufferOpen : Unit → Own → Login → ℕ → ℕ → ℕ → �
 bufferOpen u o l i j a x start W buffer = writtenAt (openStep l i j start (length W)) u o l a x W buffer
 
 -- a refusal, told by a login that stays as it is
-abbrev pub movedNot : Given → Port → Moved
-movedNot g p = record { given = g; at = 0; login = loginAt p 0 }
+abbrev pub movedNot : Given → ℕ → Login → Moved
+movedNot g i l = record { given = g; at = i; login = l }
 
--- the one login that a next frame changes: its place, and what it is after it; after a refusal a login that stays as it is
-abbrev pub movedAt : Standing → Unit → Port → ℕ → ℕ → ℕ → List ℕ → ℕ → Moved
-movedAt standing.NoLogin u p a x start W room = movedNot NoExchange p
-movedAt (standing.NoExchange i) u p a x start W room = movedNot NoExchange p
-movedAt (standing.Open i j) u p a x start W room = movedOpen u (ownOf p) (loginAt p i) i j a x start W room
+-- the one login that a next frame changes: its place, and what it is after it; after a refusal a login that stays as it is.
+-- keys are those of the port's logins; l is the login of the address a, or that at place 0. `nextOf` says what it makes of the whole port; that this is the same is `next-seat`
+unfoldable pub movedSeat : Unit → Own → List ℕ → Login → ℕ → ℕ → ℕ → List ℕ → ℕ → Moved
+movedSeat u o keys l a x start W room =
+    let i = seatPlace keys a in
+    cond (ltb room 2136) (movedNot NoRoom i l)
+    (onFound (seatOf keys a) (λ _. onFound (findExchange l x) (λ j. movedOpen u o l i j a x start W room) (movedNot NoExchange i l)) (movedNot NoExchange i l))
 
-unfoldable pub movedOf : Unit → Port → ℕ → ℕ → ℕ → List ℕ → ℕ → Moved
-movedOf u p a x start W room = cond (ltb room 2136) (movedNot NoRoom p) (movedAt (lookupOf p a x) u p a x start W room)
+unfoldable pub bufferSeat : Unit → Own → List ℕ → Login → ℕ → ℕ → ℕ → List ℕ → List ℕ → List ℕ
+bufferSeat u o keys l a x start W buffer =
+    cond (ltb (length buffer) 2136) buffer
+    (onFound (seatOf keys a) (λ _. onFound (findExchange l x) (λ j. bufferOpen u o l (seatPlace keys a) j a x start W buffer) buffer) buffer)
 
 -- a refusal leaves "the state unchanged"; otherwise the frame's "length in the answer"
 abbrev pub nextAt : Step → Unit → Port → ℕ → ℕ → List ℕ → Next

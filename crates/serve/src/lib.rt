@@ -11,16 +11,16 @@ use reply::put_sense;
 use reply::sense_with;
 use reply::write;
 use residual::residual_of;
+use seat::seat_of;
+use seat::seat_place;
 use state::Exchange;
 use state::Login;
 use state::Port;
-use state::Standing;
 use state::Unit;
 use state::advance;
 use state::empty_exchange;
 use state::exchange_at;
-use state::login_at;
-use state::lookup;
+use state::find_exchange;
 use state::put_exchange;
 use tables::Found;
 use wire::least;
@@ -36,7 +36,7 @@ ghost use Rattle.reply.specs.Payload.{senseBytes};
 ghost use Rattle.reply.specs.Reply.{sentOf, writtenOf};
 ghost use Rattle.formed.specs.Formed.{fullFrame, nextBytes};
 ghost use Rattle.serve.specs.Made.{inquiryFirst, inquiryBytes, capacityBytes, senseOf, madeBytes};
-ghost use Rattle.serve.specs.Next.{hasMore, readsMore, fitsAt, coverOf, placeOf, frameOf, nextReply, nextExchange, sourceOf, ownOf, askedBy, openStep, nextBuffer, movedNot, movedOpen, bufferOpen, movedOf};
+ghost use Rattle.serve.specs.Next.{hasMore, readsMore, fitsAt, coverOf, placeOf, frameOf, nextReply, nextExchange, sourceOf, ownOf, askedBy, openStep, movedNot, movedOpen, bufferOpen, movedSeat, bufferSeat};
 
 // What became of the call: the length of the frame, or why it was refused.
 pub enum Given {
@@ -54,8 +54,6 @@ pub struct Next {
 }
 
 impl Next {
-    pub const LEAST_ROOM: usize = 2136;
-
     pub const MOST_WINDOW: usize = 65536;
 }
 
@@ -73,31 +71,32 @@ pub struct Moved {
 }
 
 // The next frame of the exchange of an address and an OX_ID, from a window of the unit's bytes that starts at a block, and the login after it.
+// The port's logins have these keys; l is the login of the address, or that at place 0.
 pub fn next_login(
     u: Unit,
-    p: Port,
+    o: Own,
+    keys: [u64; 8],
+    l: Login,
     address: u32,
     ox_id: u16,
     start: u64,
     window: &[u8],
     reply: &mut [u8],
 ) -> Moved
-    ensures { λ r. ⌜ (r ≡ movedOf u p address «ox_id» start (now (window .entry)) (length (now (reply .entry)))) × (r .at < 8) ⌝ }
-    ensures { λ _. ⌜ now (reply .exit) ≡ nextBuffer u p address «ox_id» start (now (window .entry)) (now (reply .entry)) ⌝ }
+    ensures { λ r. ⌜ r ≡ movedSeat u o keys l address «ox_id» start (now (window .entry)) (length (now (reply .entry))) ⌝ }
+    ensures { λ _. ⌜ now (reply .exit) ≡ bufferSeat u o keys l address «ox_id» start (now (window .entry)) (now (reply .entry)) ⌝ }
 {
-    if reply.len() < Next::LEAST_ROOM {
-        return moved_not(Given::NoRoom, p);
+    let i = seat_place(keys, address);
+    if reply.len() < Header::MOST_FRAME {
+        return moved_not(Given::NoRoom, i, l);
     }
-    let s = lookup(p, address, ox_id);
-    match s {
-        Standing::NoLogin => moved_not(Given::NoExchange, p),
-        Standing::NoExchange(_) => moved_not(Given::NoExchange, p),
-        Standing::Open(i, j) => {
-            let o = own_of(p);
-            let l = login_at(p, i);
-            next_open(u, o, l, i, j, address, ox_id, start, window, reply)
-        }
-    }
+    let Found::At(_) = seat_of(keys, address) else {
+        return moved_not(Given::NoExchange, i, l);
+    };
+    let Found::At(j) = find_exchange(l, ox_id) else {
+        return moved_not(Given::NoExchange, i, l);
+    };
+    next_open(u, o, l, i, j, address, ox_id, start, window, reply)
 }
 
 // The same of the exchange at place j of a login, which stands at place i; a buffer under 2,136 bytes is left alone.
@@ -138,13 +137,12 @@ fn next_open(
 }
 
 // A refusal, and a login that stays as it is.
-fn moved_not(g: Given, p: Port) -> Moved
-    ensures { λ r. ⌜ (r ≡ movedNot g p) × (r .at < 8) ⌝ }
+fn moved_not(g: Given, i: usize, l: Login) -> Moved
+    ensures { λ r. ⌜ r ≡ movedNot g i l ⌝ }
 {
-    let l = login_at(p, 0);
     Moved {
         given: g,
-        at: 0,
+        at: i,
         login: l,
     }
 }

@@ -9,7 +9,7 @@ use Rattle.state.specs.declared.Exchange.{Exchange}
 use Rattle.state.specs.declared.Login.{Login}
 use Rattle.state.specs.declared.Port.{Port}
 use Rattle.state.specs.declared.Change.{Change}
-use Rattle.state.specs.declared.Change.the-variants.{EndLogin, Unprove, EndUnproven, EndExchangesOf, Reset, Clear}
+use Rattle.state.specs.declared.Change.the-variants.{Keep, EndAll, EndLogin, Unprove, EndUnproven, EndExchangesOf, Reset, Clear}
 
 -- a free place for an exchange
 abbrev pub emptyExchange : Exchange
@@ -162,6 +162,8 @@ clearedBy from l = cond (isUsed l) (cond (losesTo from l) (withAttention (withou
 
 -- what a change makes of one login
 abbrev pub changedOf : Change → Login → Login
+changedOf Keep l = l
+changedOf EndAll l = emptyLogin
 changedOf (EndLogin a) l = endedOf a l
 changedOf Unprove l = unproven l
 changedOf EndUnproven l = verified l

@@ -4,7 +4,7 @@ use tables::Found;
 ghost use mathlib.Core.Path.{_≡_};
 ghost use Rattle.tables.specs.Lists.{Within, all};
 ghost use Rattle.state.specs.Tables.{isFree, hasId, findLogin, freeLogin, findExchange, freeExchange, LookedUp};
-ghost use Rattle.state.specs.Changes.{emptyExchange, emptyLogin, loginAt, exchangeAt, withLogin, withExchange, withoutExchanges, withAttention, advanced, endedAt, hasAddress, endedOf, unproven, verified, abortedOf, resetOf, losesTo, clearedBy, changedOf, changedAll, poweredOn, isClosed};
+ghost use Rattle.state.specs.Changes.{emptyExchange, emptyLogin, loginAt, exchangeAt, withLogin, withExchange, withoutExchanges, withAttention, advanced, endedAt, hasAddress, endedOf, unproven, verified, abortedOf, resetOf, losesTo, clearedBy, changedOf, changedAll, isClosed};
 
 // A place for an open exchange of a login. What it sends is told by kind; a free place has kind 0.
 #[repr(C)]
@@ -114,6 +114,10 @@ pub enum Standing {
 
 // What may happen to every login of a table at once.
 pub enum Change {
+    // every login stays as it is
+    Keep,
+    // every login ends
+    EndAll,
     // the login of an address ends
     EndLogin(u32),
     // every login is to be verified
@@ -381,10 +385,12 @@ pub fn set_attention(l: Login, attention: u8) -> Login
 }
 
 // What a change makes of one login. A free place stays free.
-fn changed(l: Login, c: Change) -> Login
+pub fn changed(l: Login, c: Change) -> Login
     ensures { λ r. ⌜ r ≡ changedOf c l ⌝ }
 {
     match c {
+        Change::Keep => l,
+        Change::EndAll => empty_login(),
         Change::EndLogin(address) => ended(l, address),
         Change::Unprove => unproved(l),
         Change::EndUnproven => kept(l),
@@ -406,17 +412,6 @@ pub fn change_all(p: Port, c: Change) -> Port
         t[i] = m;
         i += 1;
     }
-    let mut q = p;
-    q.logins = t;
-    q
-}
-
-// Power on: every login ends.
-pub fn power_on(p: Port) -> Port
-    ensures { λ r. ⌜ r ≡ poweredOn p ⌝ }
-{
-    let e = empty_login();
-    let t = [e; 8];
     let mut q = p;
     q.logins = t;
     q
