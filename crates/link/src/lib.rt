@@ -225,12 +225,7 @@ fn logo(i: usize, l: Login, from: u32, named: u32) -> Placed
     ensures { λ r. ⌜ r ≡ logoTurn i l from named ⌝ }
 {
     if named == from {
-        change_as(
-            Reply::Accept(Accepted::Short),
-            Change::EndLogin(from),
-            i,
-            l,
-        )
+        change_as(Reply::Accept(Accepted::Short), Change::EndLogin(from), i, l)
     } else {
         place_as(Reply::Reject(0x03, 0x1f), i, l)
     }
