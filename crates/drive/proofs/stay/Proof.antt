@@ -1,15 +1,14 @@
--- `drive::stay` meets its contract: the first login stays. Assumes nothing.
-use mathlib.Core.Path.{ap}
-use native.Mathlib.Omega.{arith}
-use Rattle.state.specs.declared.Login.{Login}
+-- `drive::stay` meets its contract: the login that was seen stays. Assumes nothing.
 use Rattle.drive.specs.declared.Said.the-variants.{Refused}
-use Rattle.drive.specs.declared.Turn.{Turn}
+use Rattle.state.specs.declared.Change.the-variants.{Keep}
 use borrow.Author.Needs.{needs}
 use Rattle.drive.proofs.stay.Statement.{statement}
 use Rattle.drive.proofs.stay.Tie as tie
 
 returns : tie.Need-returns
-returns c = (λ i. record { said = Refused (c .before .args .x); at = 0; login = c .login-at .ensures i }, omega arith)
+returns c =
+    let a = c .before .before .before .args in
+    λ i. record { said = Refused (a .x); change = Keep; at = c .seat-place .ensures .0 i; login = a .v .login }
 
 pub stay-spec : {M : Type 1} → statement M
 stay-spec =
