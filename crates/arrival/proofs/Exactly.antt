@@ -16,7 +16,7 @@ use Rattle.arrival.specs.declared.Refusal.the-variants.{ShortBuffer, Ill
 use Rattle.arrival.specs.declared.Kind.{Kind}
 use Rattle.arrival.specs.declared.Judged.{Judged}
 use Rattle.arrival.specs.declared.Judged.the-variants.{Refused, Passed}
-use Rattle.arrival.specs.Arrival.{numberOf, shortBuffer, badSize, badSource, unknownForm, unprovenCall, kindOf, judgedOf}
+use Rattle.arrival.specs.Arrival.{numberOf, shortBuffer, badSize, badSource, unknownForm, unprovenCall, kindOf, judgedBy, judgedOf}
 use Rattle.arrival.specs.First.{appliesIn, First}
 
 -- a test on the way to a refusal: this one, or a later one
@@ -49,7 +49,7 @@ module _ (u : Unit) (p : Port) (h : Header) (f : List ℕ) (room : ℕ) where
 
   -- given: it applies, and none before it does
   pub given-first : (x : Refusal) → judgedOf u p h f room ≡ Refused x → First u p h f room x
-  unfolding judgedOf
+  unfolding judgedOf judgedBy unprovenCall
   given-first x =
       on (shortBuffer room) ShortBuffer x _ (λ t is. at ShortBuffer is record { this = t; before = below 1 (λ l. absurd (omega arith)) (λ l. absurd (omega arith)) (λ l. absurd (omega arith)) (λ l. absurd (omega arith)) (λ l. absurd (omega arith)) (λ l. absurd (omega arith)) (λ l. absurd (omega arith)) })
       (λ a. on (not (wellFormed u p)) IllFormed x _ (λ t is. at IllFormed is record { this = t; before = below 2 (λ _. a) (λ l. absurd (omega arith)) (λ l. absurd (omega arith)) (λ l. absurd (omega arith)) (λ l. absurd (omega arith)) (λ l. absurd (omega arith)) (λ l. absurd (omega arith)) })
@@ -62,7 +62,7 @@ module _ (u : Unit) (p : Port) (h : Header) (f : List ℕ) (room : ℕ) where
 
   -- where it applies, and none before it does: given
   pub first-given : (x : Refusal) → First u p h f room x → judgedOf u p h f room ≡ Refused x
-  unfolding judgedOf
+  unfolding judgedOf judgedBy unprovenCall
   first-given ShortBuffer z = rw (z .this)
   first-given IllFormed z = rw (z .before ShortBuffer (omega arith), z .this)
   first-given BadSize z = rw (z .before ShortBuffer (omega arith), z .before IllFormed (omega arith), z .this)

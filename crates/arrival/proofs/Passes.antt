@@ -16,7 +16,7 @@ use Rattle.arrival.specs.declared.Refusal.the-variants.{ShortBuffer, Ill
 use Rattle.arrival.specs.declared.Kind.{Kind}
 use Rattle.arrival.specs.declared.Judged.{Judged}
 use Rattle.arrival.specs.declared.Judged.the-variants.{Refused, Passed}
-use Rattle.arrival.specs.Arrival.{shortBuffer, badSize, badSource, unknownForm, unprovenCall, kindOf, judgedOf}
+use Rattle.arrival.specs.Arrival.{shortBuffer, badSize, badSource, unknownForm, unprovenCall, kindOf, judgedBy, judgedOf}
 
 pub record Passes (u : Unit) (p : Port) (h : Header) (f : List ℕ) (room : ℕ) (k : Kind) : Type 0 where
   pub long : shortBuffer room ≡ false
@@ -37,7 +37,7 @@ same-kind : (k m : Kind) → Passed m ≡ Passed k → k ≡ m
 same-kind k m e = cc
 
 pub passed : (u : Unit) (p : Port) (h : Header) (f : List ℕ) (room : ℕ) (k : Kind) → judgedOf u p h f room ≡ Passed k → Passes u p h f room k
-unfolding judgedOf
+unfolding judgedOf judgedBy unprovenCall
 passed u p h f room k =
     on (shortBuffer room) ShortBuffer _ k
     (λ a. on (not (wellFormed u p)) IllFormed _ k
@@ -60,5 +60,5 @@ passed u p h f room k =
 
 -- and a frame of which all this holds passes
 pub passes : (u : Unit) (p : Port) (h : Header) (f : List ℕ) (room : ℕ) (k : Kind) → Passes u p h f room k → judgedOf u p h f room ≡ Passed k
-unfolding judgedOf
+unfolding judgedOf judgedBy unprovenCall
 passes u p h f room k x = rw (x .long, x .fine, x .sized, x .here, x .from, x .known, x .proven, x .kind)

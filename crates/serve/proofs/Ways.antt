@@ -2,10 +2,10 @@
 use mathlib.Core.Path.{_≡_, refl, sym, ap, _∙_}
 use mathlib.Core.Bool.{Bool, true, false, cond, not}
 use mathlib.Core.List.{List, [], _∷_, append-nil}
-use Prim.Native.Nat.{ℕ, zero, suc, _≤_, _<_}
+use Prim.Native.Nat.{ℕ, _≤_, _<_}
 use native.Mathlib.Omega.{arith}
-use lib.ListN.{length, replicate, set, getD}
-use lib.Seq.{take-all}
+use lib.ListN.{length, replicate}
+use lib.Seq.{take-all, set-getD}
 use lib.Dec.{eqb, ltb}
 use borrow.Author.Tests.{eq-eqb, lt-ltb, le-ltb}
 use Rattle.tables.specs.declared.Found.{Found}
@@ -16,10 +16,10 @@ use Rattle.state.specs.declared.Exchange.{Exchange}
 use Rattle.state.specs.declared.Login.{Login}
 use Rattle.state.specs.declared.Port.{Port}
 use Rattle.state.specs.declared.Unit.{Unit}
-use Rattle.state.specs.declared.Standing.{Standing}
 use Rattle.state.specs.declared.Standing.the-variants as standing
 use Rattle.state.specs.Changes.{emptyLogin, loginAt, exchangeAt, withLogin, withExchange}
-use Rattle.state.specs.Tables.{lookupOf, inTables, LookedUp}
+use Rattle.state.specs.Tables.{findLogin, findExchange, lookupOf}
+use Rattle.seat.specs.Seat.{seatOf, seatPlace}
 use Rattle.formed.specs.Formed.{fullFrame}
 use Rattle.reply.specs.declared.Own.{Own}
 use Rattle.reply.specs.Reply.{sentOf, writtenOf}
@@ -30,7 +30,7 @@ use Rattle.serve.specs.declared.Next.{Next}
 use Rattle.serve.specs.declared.Step.{Step}
 use Rattle.serve.specs.declared.Step.the-variants.{Refused, Frame}
 use Rattle.serve.specs.Made.{inquiryFirst, inquiryBytes}
-use Rattle.serve.specs.Next.{placeOf, nextReply, nextExchange, sourceOf, ownOf, askedBy, openStep, stepAt, stepOf, frameBytes, portAfter, givenAt, loginAfter, writtenAt, movedOpen, bufferOpen, movedNot, movedAt, movedOf, nextAt, nextOf, bufferAt, nextBuffer}
+use Rattle.serve.specs.Next.{placeOf, nextReply, nextExchange, sourceOf, ownOf, askedBy, openStep, stepOf, frameBytes, portAfter, givenAt, loginAfter, writtenAt, movedOpen, bufferOpen, movedNot, movedSeat, bufferSeat, nextAt, nextOf, bufferAt, nextBuffer}
 
 -- the first eight bytes laid over zeros, and then the identity from byte 8 on
 pub inquiry-is : (identity b₁ b₂ : List ℕ) (kind first : ℕ) → length identity ≡ 28 → first ≡ inquiryFirst kind
@@ -74,60 +74,63 @@ module _ (u : Unit) (o : Own) (l : Login) (i j a x start : ℕ) (W R : List ℕ)
   unfolding movedOpen bufferOpen
   opens m n k r e f size R₁ h ee en er ef em = let t = sym es ∙ h in (rw (t, en, em, ef, ee), rw (t, er, ee))
 
-module _ (u : Unit) (p : Port) (a x start : ℕ) (W R : List ℕ) where
-  -- what an open exchange writes is what its frame has
-  pub buffer-open : (i j : ℕ) → ltb (length R) 2136 ≡ false → lookupOf p a x ≡ standing.Open i j → bufferOpen u (ownOf p) (loginAt p i) i j a x start W R ≡ nextBuffer u p a x start W R
-  unfolding bufferOpen nextBuffer stepOf ownOf frameBytes writtenOf
-  buffer-open i j room o = rw (room, o) (step-cases (λ s. writtenAt s u (ownOf p) (loginAt p i) a x W R ≡ bufferAt s u p a x W R) (loginAt p i) i j start (length W) (λ g. refl) frame)
-    where
-      frame : (k : ℕ) → writtenAt (Frame i j k) u (ownOf p) (loginAt p i) a x W R ≡ bufferAt (Frame i j k) u p a x W R
-      frame k = rw room
-
-  pub moved-short : (r : Moved) → length R < 2136 → (r ≡ movedNot NoRoom p) × (r .at < 8) → ((r ≡ movedOf u p a x start W (length R)) × (r .at < 8)) × (R ≡ nextBuffer u p a x start W R)
-  unfolding movedOf nextBuffer stepOf
-  moved-short r h e = rw (lt-ltb (length R) 2136 h) (e, refl)
+-- what a next frame comes to, seen by its own login: a law for each way through it
+module _ (u : Unit) (o : Own) (keys : List ℕ) (l : Login) (a x start : ℕ) (W R : List ℕ) (i : ℕ) (r : Moved) (ei : i ≡ seatPlace keys a) where
+  pub seat-short : length R < 2136 → r ≡ movedNot NoRoom i l → (r ≡ movedSeat u o keys l a x start W (length R)) × (R ≡ bufferSeat u o keys l a x start W R)
+  unfolding movedSeat bufferSeat
+  seat-short h e = rw (lt-ltb (length R) 2136 h, sym ei) (e, refl)
 
   module _ (room : 2136 ≤ length R) where
-    pub moved-none : (r : Moved) → lookupOf p a x ≡ standing.NoLogin → (r ≡ movedNot NoExchange p) × (r .at < 8) → ((r ≡ movedOf u p a x start W (length R)) × (r .at < 8)) × (R ≡ nextBuffer u p a x start W R)
-    unfolding movedOf nextBuffer stepOf
-    moved-none r h e = rw (le-ltb (length R) 2136 room, h) (e, refl)
+    pub seat-none : seatOf keys a ≡ Nothing → r ≡ movedNot NoExchange i l → (r ≡ movedSeat u o keys l a x start W (length R)) × (R ≡ bufferSeat u o keys l a x start W R)
+    unfolding movedSeat bufferSeat
+    seat-none h e = rw (le-ltb (length R) 2136 room, h, sym ei) (e, refl)
 
-    pub moved-closed : (i : ℕ) (r : Moved) → lookupOf p a x ≡ standing.NoExchange i → (r ≡ movedNot NoExchange p) × (r .at < 8) → ((r ≡ movedOf u p a x start W (length R)) × (r .at < 8)) × (R ≡ nextBuffer u p a x start W R)
-    unfolding movedOf nextBuffer stepOf
-    moved-closed i r h e = rw (le-ltb (length R) 2136 room, h) (e, refl)
+    module _ (k : ℕ) (taken : seatOf keys a ≡ At k) where
+      pub seat-closed : findExchange l x ≡ Nothing → r ≡ movedNot NoExchange i l → (r ≡ movedSeat u o keys l a x start W (length R)) × (R ≡ bufferSeat u o keys l a x start W R)
+      unfolding movedSeat bufferSeat
+      seat-closed h e = rw (le-ltb (length R) 2136 room, taken, h, sym ei) (e, refl)
 
-    at-is : (o : Own) (l : Login) (i j : ℕ) → movedOpen u o l i j a x start W (length R) .at ≡ i
-    unfolding movedOpen
-    at-is o l i j = refl
+      pub seat-open : (j : ℕ) (R₁ : List ℕ) → findExchange l x ≡ At j → (r ≡ movedOpen u o l i j a x start W (length R)) × (R₁ ≡ bufferOpen u o l i j a x start W R)
+          → (r ≡ movedSeat u o keys l a x start W (length R)) × (R₁ ≡ bufferSeat u o keys l a x start W R)
+      unfolding movedSeat bufferSeat
+      seat-open j R₁ h e = rw (le-ltb (length R) 2136 room, taken, h, sym ei) e
 
-    pub moved-open : (t : Standing) (i j : ℕ) (o : Own) (l : Login) (r : Moved) (R₁ : List ℕ) → LookedUp p a x t → t ≡ standing.Open i j → o ≡ ownOf p → l ≡ loginAt p i
-        → r ≡ movedOpen u o l i j a x start W (length R) → R₁ ≡ bufferOpen u o l i j a x start W R
-        → ((r ≡ movedOf u p a x start W (length R)) × (r .at < 8)) × (R₁ ≡ nextBuffer u p a x start W R)
-    unfolding movedOf
-    moved-open t i j o l r R₁ w h eo el er eb =
-        let below : inTables (standing.Open i j) = rw h at (w .below) in
-        let at : r .at ≡ i = ap (λ (m : Moved). m .at) er ∙ at-is o l i j in
-        let inside : i < 8 = below .0 in
-        let stands = sym (w .is) ∙ h in
-        ((rw (le-ltb (length R) 2136 room, stands, er, eo, el), omega arith), rw (eb, eo, el) (buffer-open i j (le-ltb (length R) 2136 room) stands))
+-- the login that it names stands at its own login's place, or at place 0
+pub seat-within : (u : Unit) (o : Own) (keys : List ℕ) (l : Login) (a x start : ℕ) (W : List ℕ) (room : ℕ) → seatPlace keys a < 8 → movedSeat u o keys l a x start W room .at < 8
+unfolding movedSeat movedOpen
+seat-within u o keys l a x start W room h = by (ltb room 2136) (seatOf keys a) (findExchange l x)
+  where
+    by : (b : Bool) (f g : Found) → cond b (movedNot NoRoom (seatPlace keys a) l) (onFound f (λ _. onFound g (λ j. movedOpen u o l (seatPlace keys a) j a x start W room) (movedNot NoExchange (seatPlace keys a) l)) (movedNot NoExchange (seatPlace keys a) l)) .at < 8
+    by true f g = h
+    by false (At k) (At j) = h
+    by false (At k) Nothing = h
+    by false Nothing g = h
 
--- a login put back where it stands changes nothing
-pub put-back : (ls : List Login) (i : ℕ) (z : Login) → set ls i (getD ls i z) ≡ ls
-put-back [] i z = refl
-put-back (l ∷ ls) zero z = refl
-put-back (l ∷ ls) (suc i) z = ap (λ (ms : List Login). l ∷ ms) (put-back ls i z)
+-- where the keys find the login that the port has, it is the next frame of the whole port: the port after it is the one before it with that login
+module _ (u : Unit) (p : Port) (keys : List ℕ) (a x start : ℕ) (W : List ℕ) (found : seatOf keys a ≡ findLogin p a) where
+  -- no login, no exchange or an open one, by the keys and by the port
+  seated : (P : Type 0) → (seatOf keys a ≡ Nothing → lookupOf p a x ≡ standing.NoLogin → P)
+      → ((i : ℕ) → seatPlace keys a ≡ i → seatOf keys a ≡ At i → findExchange (loginAt p i) x ≡ Nothing → lookupOf p a x ≡ standing.NoExchange i → P)
+      → ((i j : ℕ) → seatPlace keys a ≡ i → seatOf keys a ≡ At i → findExchange (loginAt p i) x ≡ At j → lookupOf p a x ≡ standing.Open i j → P) → P
+  unfolding seatPlace lookupOf
+  seated P none closed opened = by (seatOf keys a) refl
+    where
+      at : (i : ℕ) → seatOf keys a ≡ At i → (g : Found) → findExchange (loginAt p i) x ≡ g → P
+      at i e Nothing h = closed i (rw e) e h (rw (sym found, e, h))
+      at i e (At j) h = opened i j (rw e) e h (rw (sym found, e, h))
+      by : (f : Found) → seatOf keys a ≡ f → P
+      by Nothing e = none e (rw (sym found, e))
+      by (At i) e = at i e (findExchange (loginAt p i) x) refl
 
--- the port after it is the one before it with that login
-module _ (u : Unit) (p : Port) (a x : ℕ) (W : List ℕ) where
   abbrev pub nextWith : Moved → Next
   nextWith m = record { given = m .given; port = withLogin p (m .at) (m .login) }
 
   -- a login that stays
-  stays-put : (g : Given) (i : ℕ) → _≡_ {A = Next} record { given = g; port = withLogin p i (loginAt p i) } record { given = g; port = p }
+  stays-put : (g : Given) (i : ℕ) → nextWith (movedNot g i (loginAt p i)) ≡ record { given = g; port = p }
   unfolding withLogin loginAt
-  stays-put g i = ap (λ (ls : List Login). record { given = g; port = record { address = p .address; accept = p .accept; logins = ls } }) (put-back (p .logins) i emptyLogin)
+  stays-put g i = ap (λ (ls : List Login). record { given = g; port = record { address = p .address; accept = p .accept; logins = ls } }) (set-getD (p .logins) i emptyLogin)
 
-  module _ (start room : ℕ) where
+  module _ (room : ℕ) where
     open-moved : (i j : ℕ) → ltb room 2136 ≡ false → nextWith (movedOpen u (ownOf p) (loginAt p i) i j a x start W room) ≡ nextAt (openStep (loginAt p i) i j start (length W)) u p a x W
     unfolding movedOpen ownOf frameBytes sentOf portAfter
     open-moved i j roomy = step-cases (λ s. nextWith (record { given = givenAt s u (ownOf p) (loginAt p i) a x W room; at = i; login = loginAfter s (loginAt p i) }) ≡ nextAt s u p a x W) (loginAt p i) i j start (length W) (λ g. stays-put g i) frame
@@ -135,15 +138,34 @@ module _ (u : Unit) (p : Port) (a x : ℕ) (W : List ℕ) where
         frame : (k : ℕ) → nextWith (record { given = givenAt (Frame i j k) u (ownOf p) (loginAt p i) a x W room; at = i; login = loginAfter (Frame i j k) (loginAt p i) }) ≡ nextAt (Frame i j k) u p a x W
         frame k = rw roomy
 
-    standing-moved : (t : Standing) → ltb room 2136 ≡ false → nextWith (movedAt t u p a x start W room) ≡ nextAt (stepAt t p start (length W)) u p a x W
-    standing-moved standing.NoLogin roomy = stays-put NoExchange 0
-    standing-moved (standing.NoExchange i) roomy = stays-put NoExchange 0
-    standing-moved (standing.Open i j) roomy = open-moved i j roomy
+    pub next-seat : nextWith (movedSeat u (ownOf p) keys (loginAt p (seatPlace keys a)) a x start W room) ≡ nextOf u p a x start W room
+    unfolding movedSeat nextOf stepOf
+    next-seat = by (ltb room 2136) refl
+      where
+        by : (b : Bool) → ltb room 2136 ≡ b → nextWith (movedSeat u (ownOf p) keys (loginAt p (seatPlace keys a)) a x start W room) ≡ nextOf u p a x start W room
+        by true short = rw short (stays-put NoRoom (seatPlace keys a))
+        by false roomy =
+            seated (nextWith (movedSeat u (ownOf p) keys (loginAt p (seatPlace keys a)) a x start W room) ≡ nextOf u p a x start W room)
+            (λ s t. rw (roomy, s, t) (stays-put NoExchange (seatPlace keys a)))
+            (λ i q s h t. rw (roomy, q, s, h, t) (stays-put NoExchange i))
+            (λ i j q s h t. rw (roomy, q, s, h, t) (open-moved i j roomy))
 
-    all-moved : (b : Bool) → ltb room 2136 ≡ b → nextWith (movedOf u p a x start W room) ≡ nextOf u p a x start W room
-    unfolding movedOf nextOf stepOf
-    all-moved true e = rw e (stays-put NoRoom 0)
-    all-moved false e = rw e (standing-moved (lookupOf p a x) e)
+  module _ (R : List ℕ) where
+    open-buffer : (i j : ℕ) → ltb (length R) 2136 ≡ false → bufferOpen u (ownOf p) (loginAt p i) i j a x start W R ≡ bufferAt (openStep (loginAt p i) i j start (length W)) u p a x W R
+    unfolding bufferOpen ownOf frameBytes writtenOf
+    open-buffer i j roomy = step-cases (λ s. writtenAt s u (ownOf p) (loginAt p i) a x W R ≡ bufferAt s u p a x W R) (loginAt p i) i j start (length W) (λ g. refl) frame
+      where
+        frame : (k : ℕ) → writtenAt (Frame i j k) u (ownOf p) (loginAt p i) a x W R ≡ bufferAt (Frame i j k) u p a x W R
+        frame k = rw roomy
 
-    pub next-moved : (m : Moved) (q : Port) → m ≡ movedOf u p a x start W room → q ≡ withLogin p (m .at) (m .login) → _≡_ {A = Next} record { given = m .given; port = q } (nextOf u p a x start W room)
-    next-moved m q em eq = rw eq (ap nextWith em) ∙ all-moved (ltb room 2136) refl
+    pub buffer-seat : bufferSeat u (ownOf p) keys (loginAt p (seatPlace keys a)) a x start W R ≡ nextBuffer u p a x start W R
+    unfolding bufferSeat nextBuffer stepOf
+    buffer-seat = by (ltb (length R) 2136) refl
+      where
+        by : (b : Bool) → ltb (length R) 2136 ≡ b → bufferSeat u (ownOf p) keys (loginAt p (seatPlace keys a)) a x start W R ≡ nextBuffer u p a x start W R
+        by true short = rw short
+        by false roomy =
+            seated (bufferSeat u (ownOf p) keys (loginAt p (seatPlace keys a)) a x start W R ≡ nextBuffer u p a x start W R)
+            (λ s t. rw (roomy, s, t))
+            (λ i q s h t. rw (roomy, q, s, h, t))
+            (λ i j q s h t. rw (roomy, q, s, h, t) (open-buffer i j roomy))
