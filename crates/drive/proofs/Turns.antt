@@ -147,7 +147,7 @@ module _ (d : Drive) (len : length (d .port .logins) ≡ 8) where
           go =
               let m = movedSeat (d .unit) (ownOf (d .port)) (keysOf d) (loginAt (d .port) (seatPlace (keysOf d) a)) a x start W room in
               ap (λ (p : Port). record { said = saidOf (m .given); drive = with-port d (withLogin p (m .at) (m .login)) }) (keep-is (d .port))
-              ∙ ap (served d) (next-seat (d .unit) (d .port) a x start room W (keysOf d) (seated w a))
+              ∙ ap (served d) (next-seat (d .unit) (d .port) (keysOf d) a x start W (seated w a) room)
 
   pub next-turn-buffer : (a x start : ℕ) (W l : List ℕ) → nextTurnBuffer (viewOf d a) a x start W l ≡ nextFrameBuffer d a x start W l
   unfolding nextTurnBuffer nextFrameBuffer
@@ -158,7 +158,7 @@ module _ (d : Drive) (len : length (d .port .logins) ≡ 8) where
       unfolding viewOf
       by true b w = refl
       by false false w = refl
-      by false true w = buffer-seat (d .unit) (d .port) a x start W l (keysOf d) (seated w a)
+      by false true w = buffer-seat (d .unit) (d .port) (keysOf d) a x start W (seated w a) l
 
   -- an event is the answer to its turn
   pub event-turn : (e : Event) → answerTo d (eventTurn (viewOf d 0) e) ≡ eventAnswer d e
