@@ -1,0 +1,17 @@
+-- `seat::seat_of` meets its contract: what the search finds. Assumes nothing.
+use borrow.Author.Needs.{needs}
+use Rattle.seat.specs.Seat.{seatOf}
+use Rattle.seat.proofs.seat_of.Statement.{statement}
+use Rattle.seat.proofs.seat_of.Tie as tie
+
+returns : tie.Need-returns
+unfolding seatOf
+returns c = c .find-either .ensures
+
+pub seat-of-spec : {M : Type 1} → statement M
+seat-of-spec =
+    tie.close
+    (tie.spec
+    (λ c. search needs)
+    (λ c κs. search needs)
+    returns)
