@@ -22,7 +22,7 @@ use Rattle.reply.specs.declared.Reply.the-variants as reply
 use Rattle.link.specs.declared.Decided.{Decided}
 use Rattle.link.specs.Link.{decidedAs, sizeOf, plogiOf, logoOf, serviceOf, servedAt, linkOf, abortedAt, abtsOf}
 use Rattle.link.specs.Record.{out, recordOf}
-use Rattle.link.proofs.Ways.{is-plogi, is-logo, no-login, at-login}
+use Rattle.link.proofs.Ways.{is-plogi, is-logo, is-service}
 use Rattle.link.proofs.Records.{out-missing, missing-out, found-record}
 use Rattle.link.proofs.Services.{AfterPlogi, AfterLogo, AfterService, AfterAbort, effectOf, service-record, service-others, exchange-kept, plogi-record, plogi-others, logo-record, logo-others}
 
@@ -109,15 +109,11 @@ module _ (p : Port) (h : Header) (f : List ℕ) where
       -- any other code, of right size: as its service does, and a drive LOGO where there is no login
       pub link-service : (sizeOf (getD f 24 0) ≡ 0 → ⊥) → (getD f 24 0 ≡ 3 → ⊥) → (getD f 24 0 ≡ 5 → ⊥)
           → AfterService (effectOf (getD f 24 0)) (recordOf p (h .«s_id»)) (linkOf p h f .reply) (recordOf (linkOf p h f .port) (h .«s_id»))
-      link-service c np nl = at (findLogin p (h .«s_id»)) refl
+      link-service c np nl = subst met (is-service p h f (getD f 24 0) (sizeOf (getD f 24 0)) refl refl _ c s np nl refl) (at (findLogin p (h .«s_id»)) refl)
         where
           met : Decided → Type 0
           met x = AfterService (effectOf (getD f 24 0)) (recordOf p (h .«s_id»)) (x .reply) (recordOf (x .port) (h .«s_id»))
 
-          at : (x : Found) → findLogin p (h .«s_id») ≡ x → met (linkOf p h f)
-          at (At i) e =
-              subst met (at-login p h f (getD f 24 0) (sizeOf (getD f 24 0)) refl refl (servedAt p i (serviceOf (getD f 24 0) (loginAt p i) (h .«s_id») f)) c s np nl i (loginAt p i)
-              (serviceOf (getD f 24 0) (loginAt p i) (h .«s_id») f) (servedAt p i (serviceOf (getD f 24 0) (loginAt p i) (h .«s_id») f) .port) e refl refl refl refl)
-              (service-record p (h .«s_id») i e d (getD f 24 0) f)
-          at Nothing e =
-              subst met (no-login p h f (getD f 24 0) (sizeOf (getD f 24 0)) refl refl (decidedAs reply.Logout p) c s np nl e refl) (missing-out p (h .«s_id») e)
+          at : (x : Found) → findLogin p (h .«s_id») ≡ x → met (onFound x (λ i. servedAt p i (serviceOf (getD f 24 0) (loginAt p i) (h .«s_id») f)) (decidedAs reply.Logout p))
+          at (At i) e = service-record p (h .«s_id») i e d (getD f 24 0) f
+          at Nothing e = missing-out p (h .«s_id») e

@@ -1,0 +1,4 @@
+pub mod Link
+pub mod Record
+pub mod Login
+pub mod Turn

@@ -7,18 +7,17 @@ use Rattle.link.proofs.plogi.Tie as tie
 
 returns : tie.Need-returns
 returns c =
-    let r = c .before .before .before in
+    let r = c .before .before .before .before in
     let o = r .before in
-    let n = o .before in
-    c .decide-as .ensures ∙ plogi-rejected (n .before .args .p) _ _ (n .before .args .q) _ _ (n .change-all .ensures) (o .judged .ensures) (r .outcome-reply .ensures) _ _ (c .before .enum-told .given .1)
+    let a = o .before .args in
+    c .change-as .ensures ∙ plogi-rejected (a .keys) (a .l) _ (a .q) _ _ (o .judged .ensures) (r .outcome-reply .ensures) _ _ _ (c .before .before .enum-told .given .1) (c .before .seat-place .ensures .0)
 
 returns-2 : tie.Need-returns-2
 returns-2 c =
-    let r = c .before .before .before .before .before .before in
+    let r = c .before .before .before .before in
     let o = r .before in
-    let n = o .before in
-    c .decide-as2 .ensures
-    ∙ plogi-placed (n .before .args .p) _ _ (n .before .args .q) _ _ (n .change-all .ensures) (o .judged .ensures) (r .outcome-reply .ensures) _ _ _ (c .before .before .before .before .o .given .1) (c .before .before .new-login .ensures) (c .before .put-login .ensures)
+    let a = o .before .args in
+    plogi-placed (a .keys) (a .l) _ (a .q) _ _ (o .judged .ensures) (r .outcome-reply .ensures) _ _ (c .before .before .o .given .1) (c .new-login .ensures)
 
 pub plogi-spec : {M : Type 1} → statement M
 plogi-spec =
@@ -26,12 +25,10 @@ plogi-spec =
     (tie.spec
     (λ c κs. search needs)
     (λ c κs. search needs)
+    (λ c. search needs)
+    (λ c. search needs)
     (λ c κs. search needs)
-    (λ c. search needs)
-    (λ c. search needs)
     (λ c κs. search needs)
     returns
-    (λ c κs. search needs)
-    (λ c κs. search needs)
     (λ c κs. search needs)
     returns-2)
