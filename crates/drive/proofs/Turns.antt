@@ -3,9 +3,8 @@ use Prim.Native.Nat.{ℕ, _<_}
 use mathlib.Core.Path.{_≡_, refl, sym, ap, _∙_}
 use mathlib.Core.Bool.{Bool, true, false, cond, not, _&&_}
 use mathlib.Core.List.{List, [], _∷_, map}
-use native.Mathlib.Omega.{arith}
 use lib.Dec.{eqb}
-use lib.ListN.{length, length-map, replicate}
+use lib.ListN.{length, replicate}
 use Rattle.tables.specs.declared.Found.{Found}
 use Rattle.tables.specs.declared.Found.the-variants.{At, Nothing}
 use Rattle.tables.specs.Lists.{onFound, all}
@@ -18,16 +17,14 @@ use Rattle.state.specs.declared.Change.the-variants.{Keep, EndAll}
 use Rattle.state.specs.Changes.{emptyLogin, loginAt, withLogin, changedOf, changedAll, poweredOn}
 use Rattle.state.specs.Tables.{findLogin}
 use Rattle.formed.specs.Formed.{setupRules, loginFine, wellFormed}
-use Rattle.formed.specs.Keys.{loginKey}
 use Rattle.formed.proofs.Keys.{logins-are}
 use Rattle.formed.proofs.Parts.{Formed, formed-parts}
 use Rattle.seat.specs.Seat.{seatOf, seatPlace}
-use Rattle.seat.proofs.Seats.{seat-is, seat-below}
+use Rattle.seat.proofs.Seats.{seat-below}
 use Rattle.reply.specs.declared.Reply.the-variants as reply
 use Rattle.link.specs.declared.Decided.{Decided}
-use Rattle.link.specs.declared.Placed.{Placed}
 use Rattle.link.specs.Turn.{decidedBy}
-use Rattle.link.proofs.Turns.{keep-is, stays-put, changed-put, link-turn, link-within, abts-turn, abts-within}
+use Rattle.link.proofs.Turns.{keep-is, stays-put, changed-put, held-is, seat-found, link-turn, link-within, abts-turn, abts-within}
 use Rattle.command.proofs.Turns.{command-turn, command-within}
 use Rattle.serve.specs.Next.{ownOf, movedSeat, bufferSeat, nextOf, nextBuffer}
 use Rattle.serve.proofs.Ways.{next-seat, buffer-seat, seat-within}
@@ -64,18 +61,14 @@ stays-is : (d : Drive) (a : ℕ) (x : Refusal) → answerTo d (stays x (viewOf d
 unfolding viewOf
 stays-is d a x = ap (λ (p : Port). refused x (with-port d p)) (ap (λ (p : Port). withLogin p (seatPlace (keysOf d) a) (loginAt (d .port) (seatPlace (keysOf d) a))) (keep-is (d .port)) ∙ stays-put (d .port) (seatPlace (keysOf d) a))
 
-module _ (d : Drive) (len : length (d .port .logins) ≡ 8) where
-  keys-8 : length (keysOf d) ≡ 8
-  keys-8 = length-map (d .port .logins) (loginKey (d .unit .capacity) (d .port .address)) ∙ len
-
+module _ (d : Drive) where
   module _ (w : wellFormed (d .unit) (d .port) ≡ true) where
     fine : all (loginFine (d .unit .capacity) (d .port .address)) (d .port .logins) ≡ true
     fine = formed-parts w .logins
 
     -- the place of an address in the keys is that of its login
     seated : (a : ℕ) → seatOf (keysOf d) a ≡ findLogin (d .port) a
-    unfolding findLogin
-    seated a = seat-is (d .unit .capacity) (d .port .address) (d .port .logins) fine a
+    seated a = seat-found (d .unit .capacity) (d .port .address) (d .port) fine a
 
     unproven-is : (a : ℕ) → unprovenIn (viewOf d a) a ≡ unprovenLogin (d .port) a
     unfolding unprovenIn unprovenLogin viewOf seatPlace
@@ -88,10 +81,10 @@ module _ (d : Drive) (len : length (d .port .logins) ≡ 8) where
     -- what a frame that passed is answered, and the port after it
     placed-decided : (f : List ℕ) (k : Kind) → decidedBy (d .port) (placedOf (viewOf d (headerOf f .«s_id»)) (headerOf f) k f) ≡ decidedIn d f k
     unfolding viewOf
-    placed-decided f Link = link-turn (d .unit .capacity) (d .port .address) (d .port) fine len (headerOf f) f
-    placed-decided f Done = ap (λ (p : Port). record { reply = reply.Nothing; port = p }) (ap (λ (p : Port). withLogin p (seatPlace (keysOf d) (headerOf f .«s_id»)) (loginAt (d .port) (seatPlace (keysOf d) (headerOf f .«s_id»)))) (keep-is (d .port)) ∙ stays-put (d .port) (seatPlace (keysOf d) (headerOf f .«s_id»)))
+    placed-decided f Link = link-turn (d .unit .capacity) (d .port .address) (d .port) fine (headerOf f) f
+    placed-decided f Done = held-is (d .port) reply.Nothing (seatPlace (keysOf d) (headerOf f .«s_id»))
     placed-decided f Abort = abts-turn (d .unit .capacity) (d .port .address) (d .port) fine len (headerOf f .«s_id») (headerOf f .«ox_id») (headerOf f .«rx_id»)
-    placed-decided f Command = command-turn (d .unit .capacity) (d .port .address) (d .port) fine len (headerOf f) f
+    placed-decided f Command = command-turn (d .unit .capacity) (d .port .address) (d .port) fine (headerOf f) f
 
   -- a frame is judged by what its sender sees as it is by the drive
   judged-is : (f : List ℕ) (room : ℕ) → judgedIn (viewOf d (headerOf f .«s_id»)) f room ≡ judgedOf (d .unit) (d .port) (headerOf f) f room
@@ -161,9 +154,9 @@ module _ (d : Drive) (len : length (d .port .logins) ≡ 8) where
       by false true w = buffer-seat (d .unit) (d .port) (keysOf d) a x start W (seated w a) l
 
   -- an event is the answer to its turn
-  pub event-turn : (e : Event) → answerTo d (eventTurn (viewOf d 0) e) ≡ eventAnswer d e
+  pub event-turn : length (d .port .logins) ≡ 8 → (e : Event) → answerTo d (eventTurn (viewOf d 0) e) ≡ eventAnswer d e
   unfolding eventTurn eventAnswer
-  event-turn e = rw (fine-is d 0) (by (wellFormed (d .unit) (d .port)))
+  event-turn len e = rw (fine-is d 0) (by (wellFormed (d .unit) (d .port)))
     where
       -- power on leaves eight empty logins
       ended : (ls : List Login) → map (changedOf EndAll) ls ≡ replicate (length ls) emptyLogin
@@ -178,19 +171,16 @@ module _ (d : Drive) (len : length (d .port .logins) ≡ 8) where
 
       by : (b : Bool) → answerTo d (cond b (record { said = Sent 0; change = changeOf e; at = seatPlace (viewOf d 0 .keys) 0; login = changedOf (changeOf e) (viewOf d 0 .login) }) (stays IllFormed (viewOf d 0) 0)) ≡ cond b (silent (afterEvent e d)) (refused IllFormed d)
       unfolding viewOf afterEvent
-      by true = ap (λ (p : Port). silent (with-port d p)) (changed-put (changeOf e) (d .port) (seatPlace (keysOf d) 0) below ∙ after e)
-        where
-          below : seatPlace (keysOf d) 0 < length (d .port .logins)
-          below = let s = seat-below (keysOf d) 0 keys-8 in omega arith
+      by true = ap (λ (p : Port). silent (with-port d p)) (changed-put (d .port) (changeOf e) (seatPlace (keysOf d) 0) ∙ after e)
       by false = stays-is d 0 IllFormed
 
 -- a turn names a place of the table
 module _ (v : View) (keys : length (v .keys) ≡ 8) where
   placed-within : (h : Header) (k : Kind) (f : List ℕ) → placedOf v h k f .at < 8
-  placed-within h Link f = link-within (v .keys) (v .login) h f keys
+  placed-within h Link f = link-within (v .keys) (v .login) keys h f
   placed-within h Done f = seat-below (v .keys) (h .«s_id») keys
-  placed-within h Abort f = abts-within (v .keys) (v .login) (h .«s_id») (h .«ox_id») (h .«rx_id») keys
-  placed-within h Command f = command-within (v .unit .capacity) (v .keys) (v .login) h f keys
+  placed-within h Abort f = abts-within (v .keys) (v .login) keys (h .«s_id») (h .«ox_id») (h .«rx_id»)
+  placed-within h Command f = command-within (v .unit .capacity) (v .keys) (v .login) keys h f
 
   pub frame-within : (f : List ℕ) (room : ℕ) → frameTurn v f room .at < 8
   unfolding frameTurn
