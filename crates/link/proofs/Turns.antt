@@ -2,7 +2,7 @@
 use Prim.Native.Nat.{ℕ, _+_, _<_}
 use mathlib.Core.Path.{_≡_, refl, sym, ap, _∙_}
 use mathlib.Core.Bool.{Bool, true, false, cond, not}
-use mathlib.Core.List.{List, [], _∷_, map}
+use mathlib.Core.List.{List, map, map-id}
 use lib.Dec.{eqb}
 use lib.ListN.{length, getD, set, List·getD-map}
 use lib.Seq.{set-getD}
@@ -36,15 +36,11 @@ use Rattle.link.specs.declared.Outcome.the-variants.{Place, Rejected}
 use Rattle.link.specs.Link.{decidedAs, sizeOf, newLogin, outcomeAfter, outcomeOf, outcomeReply, outcomePort, plogiOf, logoOf, serviceOf, servedAt, linkOf, abortedAt, abtsOf}
 use Rattle.link.specs.Turn.{placedAs, changedAs, decidedBy, outcomeIn, loginPlaced, plogiTurn, logoTurn, servedIn, linkTurn, abortedLogin, abtsTurn}
 
-kept-list : (ls : List Login) → map (changedOf Keep) ls ≡ ls
-kept-list [] = refl
-kept-list (l ∷ ls) = ap (λ (ms : List Login). l ∷ ms) (kept-list ls)
-
 module _ (p : Port) where
   -- a change that keeps every login
   pub keep-is : changedAll Keep p ≡ p
   unfolding changedAll
-  keep-is = ap (withLogins p) (kept-list (p .logins))
+  keep-is = ap (withLogins p) (map-id (p .logins))
 
   -- a login stored where it stood
   pub stays-put : (i : ℕ) → withLogin p i (loginAt p i) ≡ p
@@ -69,9 +65,9 @@ module _ (p : Port) where
   changed-is r c i = ap (decidedAs r) (changed-put c i)
 
   -- one of two answers
-  pub either-is : (b : Bool) {t u : Placed} {d e : Decided} → decidedBy p t ≡ d → decidedBy p u ≡ e → decidedBy p (cond b t u) ≡ cond b d e
-  either-is true x y = x
-  either-is false x y = y
+  pub either-is : (b : Bool) (t u : Placed) {d e : Decided} → decidedBy p t ≡ d → decidedBy p u ≡ e → decidedBy p (cond b t u) ≡ cond b d e
+  either-is true t u x y = x
+  either-is false t u x y = y
 
 over-found : {A B : Type 0} (k : A → B) (f : Found) (g : ℕ → A) (d : A) → onFound f (λ i. k (g i)) (k d) ≡ k (onFound f g d)
 over-found k (At i) g d = refl
@@ -94,10 +90,10 @@ module _ (capacity own : ℕ) (p : Port) (fine : all (loginFine capacity own) (p
     seat-found = seat-is capacity own (p .logins) fine from
 
     -- an answer by whether it is found
-    pub found-is : {t u : Placed} (g : ℕ → Decided) {d : Decided} → decidedBy p t ≡ g place → decidedBy p u ≡ d
+    pub found-is : (t u : Placed) (g : ℕ → Decided) {d : Decided} → decidedBy p t ≡ g place → decidedBy p u ≡ d
         → decidedBy p (onFound (seatOf keys from) (λ _. t) u) ≡ onFound (findLogin p from) g d
     unfolding seatPlace
-    found-is {t} {u} g {d} x y = step (seatOf keys from) refl ∙ ap (λ (f : Found). onFound f g d) seat-found
+    found-is t u g {d} x y = step (seatOf keys from) refl ∙ ap (λ (f : Found). onFound f g d) seat-found
       where
         step : (f : Found) → seatOf keys from ≡ f → decidedBy p (onFound f (λ _. t) u) ≡ onFound f g d
         step (At i) e = x ∙ ap (λ (f : Found). g (onFound f (λ j. j) 0)) e
@@ -120,18 +116,18 @@ module _ (capacity own : ℕ) (p : Port) (fine : all (loginFine capacity own) (p
 
     pub logo-turn : (named : ℕ) → decidedBy p (logoTurn place login from named) ≡ logoOf p from named
     unfolding logoTurn logoOf
-    logo-turn named = either-is p (eqb named from) (changed-is p _ (EndLogin from) place) (held-is p _ place)
+    logo-turn named = either-is p (eqb named from) _ _ (changed-is p _ (EndLogin from) place) (held-is p _ place)
 
     pub abts-turn : (ox rx : ℕ) → decidedBy p (abtsTurn keys login from ox rx) ≡ abtsOf p from ox rx
     unfolding abtsTurn abtsOf lookupOf abortedLogin
     abts-turn ox rx =
-        found-is (λ i. abortedAt (onFound (findExchange (loginAt p i) ox) (λ j. Open i j) (NoExchange i)) rx p) (step (findExchange login ox)) (held-is p reply.Logout place)
+        found-is _ _ (λ i. abortedAt (onFound (findExchange (loginAt p i) ox) (λ j. Open i j) (NoExchange i)) rx p) (step (findExchange login ox)) (held-is p reply.Logout place)
         ∙ over-found (λ (s : Standing). abortedAt s rx p) (findLogin p from) _ NoLogin
       where
         step : (f : Found) → decidedBy p (cond (eqb rx 0xffff) (placedAs reply.AbortAccept place (onFound f (λ j. endedAt login j) login)) (placedAs reply.AbortReject place login))
             ≡ abortedAt (onFound f (λ j. Open place j) (NoExchange place)) rx p
-        step (At j) = either-is p (eqb rx 0xffff) (placed-is p _ place (endedAt login j)) (held-is p _ place)
-        step Nothing = either-is p (eqb rx 0xffff) (held-is p _ place) (held-is p _ place)
+        step (At j) = either-is p (eqb rx 0xffff) _ _ (placed-is p _ place (endedAt login j)) (held-is p _ place)
+        step Nothing = either-is p (eqb rx 0xffff) _ _ (held-is p _ place) (held-is p _ place)
 
   pub link-turn : (h : Header) (f : List ℕ) → decidedBy p (linkTurn keys (loginAt p (seatPlace keys (h .«s_id»))) h f) ≡ linkOf p h f
   unfolding linkTurn linkOf
@@ -139,20 +135,20 @@ module _ (capacity own : ℕ) (p : Port) (fine : all (loginFine capacity own) (p
       let code = getD f 24 0 in
       let from = h .«s_id» in
       let i = seatPlace keys from in
-      either-is p (eqb (sizeOf code) 0) (held-is p _ i)
-      (either-is p (not (eqb (length f) (24 + sizeOf code))) (held-is p _ i)
-      (either-is p (eqb code 0x03) (plogi-turn from (paramsOf f 28))
-      (either-is p (eqb code 0x05) (logo-turn from (num 3 f 29))
-      (found-is from (λ k. servedAt p k (serviceOf code (loginAt p k) from f)) (placed-is p _ i _) (held-is p _ i)))))
+      either-is p (eqb (sizeOf code) 0) _ _ (held-is p _ i)
+      (either-is p (not (eqb (length f) (24 + sizeOf code))) _ _ (held-is p _ i)
+      (either-is p (eqb code 0x03) _ _ (plogi-turn from (paramsOf f 28))
+      (either-is p (eqb code 0x05) _ _ (logo-turn from (num 3 f 29))
+      (found-is from _ _ (λ k. servedAt p k (serviceOf code (loginAt p k) from f)) (placed-is p _ i _) (held-is p _ i)))))
 
 -- the place that changes is one of eight
-pub within-cond : (b : Bool) {t u : Placed} → t .at < 8 → u .at < 8 → cond b t u .at < 8
-within-cond true x y = x
-within-cond false x y = y
+pub within-cond : (b : Bool) (t u : Placed) → t .at < 8 → u .at < 8 → cond b t u .at < 8
+within-cond true t u x y = x
+within-cond false t u x y = y
 
-pub within-found : (f : Found) {t u : Placed} → t .at < 8 → u .at < 8 → onFound f (λ _. t) u .at < 8
-within-found (At i) x y = x
-within-found Nothing x y = y
+pub within-found : (f : Found) (t u : Placed) → t .at < 8 → u .at < 8 → onFound f (λ _. t) u .at < 8
+within-found (At i) t u x y = x
+within-found Nothing t u x y = y
 
 module _ (keys : List ℕ) (l : Login) (eight : length keys ≡ 8) where
   plogi-within : (from : ℕ) (q : Params) → plogiTurn keys l from q .at < 8
@@ -169,13 +165,13 @@ module _ (keys : List ℕ) (l : Login) (eight : length keys ≡ 8) where
   link-within h f =
       let code = getD f 24 0 in
       let below = seat-below keys (h .«s_id») eight in
-      within-cond (eqb (sizeOf code) 0) below
-      (within-cond (not (eqb (length f) (24 + sizeOf code))) below
-      (within-cond (eqb code 0x03) (plogi-within (h .«s_id») (paramsOf f 28))
-      (within-cond (eqb code 0x05) (within-cond (eqb (num 3 f 29) (h .«s_id»)) below below) (within-found (seatOf keys (h .«s_id»)) below below))))
+      within-cond (eqb (sizeOf code) 0) _ _ below
+      (within-cond (not (eqb (length f) (24 + sizeOf code))) _ _ below
+      (within-cond (eqb code 0x03) _ _ (plogi-within (h .«s_id») (paramsOf f 28))
+      (within-cond (eqb code 0x05) _ _ (within-cond (eqb (num 3 f 29) (h .«s_id»)) _ _ below below) (within-found (seatOf keys (h .«s_id»)) _ _ below below))))
 
   pub abts-within : (from ox rx : ℕ) → abtsTurn keys l from ox rx .at < 8
   unfolding abtsTurn
   abts-within from ox rx =
       let below = seat-below keys from eight in
-      within-found (seatOf keys from) (within-cond (eqb rx 0xffff) below below) below
+      within-found (seatOf keys from) _ _ (within-cond (eqb rx 0xffff) _ _ below below) below
