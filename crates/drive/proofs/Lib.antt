@@ -1,3 +1,4 @@
 pub mod Ways
 pub mod Made
 pub mod Keeping
+pub mod Shape
