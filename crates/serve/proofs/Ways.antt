@@ -118,6 +118,7 @@ module _ (u : Unit) (p : Port) (keys : List ℕ) (a x start : ℕ) (W : List ℕ
       at : (i : ℕ) → seatOf keys a ≡ At i → (g : Found) → findExchange (loginAt p i) x ≡ g → P
       at i e Nothing h = closed i (rw e) e h (rw (sym found, e, h))
       at i e (At j) h = opened i j (rw e) e h (rw (sym found, e, h))
+
       by : (f : Found) → seatOf keys a ≡ f → P
       by Nothing e = none e (rw (sym found, e))
       by (At i) e = at i e (findExchange (loginAt p i) x) refl

@@ -1,6 +1,6 @@
--- `window::next_login` meets its contract: a walk of its MIR, by hand. The window is made in a local, and `next_login_from` is called on it.
+-- `window::next_turn` meets its contract: a walk of its MIR, by hand. The window is made in a local, and `next_turn_from` is called on it.
 -- What `bytes` owns is had twice: one goes into the window, the other is kept for the exit. `reply` goes to the callee at its own lifetime, share and ghost name, and is given up for good (`gave-slice`).
--- The drive and the numbers are plain data: what they own is made anew from their relation (`owned`) wherever it is asked.
+-- The view and the numbers are plain data: what they own is made anew from their relation (`owned`) wherever it is asked.
 -- Assumes nothing.
 use mathlib.Core.Path.{_≡_, refl}
 use Prim.Native.Nat.{ℕ, _<_, _^_}
@@ -20,7 +20,7 @@ use contract.Monad.{Fun, fact}
 use contract.Running.{givenOf, tables, tablesOf}
 use types.Kit.{Given, ‵, raw, _⊛_, ⋆, some, later, _$_, _∵_, !, qed, by, move, keep, drop, use1, use2, split, join, pick, fsplit, fjoin, feqL, suffices, frame, await, done}
 use types.Part.{agg, whole, sub, look-in}
-use types.Run.{look, init, forget, stop, hop, fld, from, load, addr, of-opd, and-then, no-more, assigns, land, returns, enter, alloc1, alloc0, params1, pass1, pass0, free1, free0}
+use types.Run.{look, init, forget, stop, hop, fld, from, load, addr, and-then, no-more, assigns, land, returns, enter, alloc1, alloc0, params1, pass1, pass0, free1, free0}
 use sound.WpLaws.{FmC, fmOf, WpFn-mono}
 use denote.RattleType.{RattleType, owns}
 use denote.Laws.{Is, shows}
@@ -33,7 +33,6 @@ use denote.Steps.{owned, peeks, heard, nothing}
 use denote.Struct.Declared.{Declared}
 use denote.Struct.Laws as LL
 use denote.Struct.Rest.{own-shut}
-use denote.Struct.Values.{Values}
 use denote.Triple.Statement.{Contract, Triple}
 use denote.Triple.Call.{calls-at}
 use denote.Triple.Entry.{Vals, onEntry}
@@ -42,24 +41,24 @@ use denote.Triple.Table.{entered, cited}
 use denote.Triple.Walked.{says, Stays, stay-none, stay-none-slice, gave-slice, walkOf, goes-none, goes-none-slice, goes-gave-slice, Walks, ends-at, walked, walk-meets}
 use denote.Exit.{yes}
 use denote.Triple.Clauses.{ensured, lasts}
-use Rattle.drive.specs.Entry.{nextTurn, nextFrameBuffer}
-use Rattle.drive.specs.declared.Drive.{Drive}
+use Rattle.drive.specs.Turn.{nextTurn, nextTurnBuffer}
+use Rattle.drive.specs.declared.View.{View}
 use Rattle.drive.specs.declared.Turn.{Turn}
-use Rattle.drive.proofs.Drive as Dr
-use Rattle.drive.proofs.Drive.Laws as Dr′
+use Rattle.drive.proofs.View as Vw
+use Rattle.drive.proofs.View.Laws as Vw′
 use Rattle.drive.proofs.Turn as Tn
 use Rattle.drive.proofs.Turn.Laws as Tn′
 use Rattle.window.specs.declared.Window.{Window}
 use Rattle.window.proofs.Window as T
 use Rattle.window.proofs.Window.Laws as T′
-use Rattle.window.proofs.next_login_from as g
-use Rattle.window.proofs.next_login_from.Symbol as g-def
-use Rattle.window.proofs.next_login_from.Symbol.{name as #window·next-login-from}
-use Rattle.window.proofs.next_login_from.Met as g-thm
-use Rattle.window.proofs.next_login.Key.{name as #window·next-login}
-use Rattle.window.proofs.next_login as f
-use Rattle.window.proofs.next_login.Statement as stated
-use Rattle.window.proofs.next_login.Code as code
+use Rattle.window.proofs.next_turn_from as g
+use Rattle.window.proofs.next_turn_from.Symbol as g-def
+use Rattle.window.proofs.next_turn_from.Symbol.{name as #window·next-turn-from}
+use Rattle.window.proofs.next_turn_from.Met as g-thm
+use Rattle.window.proofs.next_turn.Key.{name as #window·next-turn}
+use Rattle.window.proofs.next_turn as f
+use Rattle.window.proofs.next_turn.Statement as stated
+use Rattle.window.proofs.next_turn.Code as code
 
 -- the struct's type, its description and its laws, over the signature's lifetimes: that of bytes, and that of reply
 abbrev B : Lfts 2 → RattleType
@@ -72,18 +71,18 @@ abbrev L : (κs : Lfts 2) → LL.Laws (D κs)
 L κs = T′.the-laws (namedLft 2 0 tt κs)
 
 abbrev stayed : Stays (f.ended .signature .params) (f.ended .kept)
-stayed = (stay-none (λ _. Dr.the-row) yes, (stay-none (λ _. u32) yes, (stay-none (λ _. u16) yes, (stay-none (λ _. u64) yes, (stay-none-slice (0 ∷ []) tt (plain (λ _. u8)) yes, (gave-slice (1 ∷ []) tt (plain (λ _. u8)), tt))))))
+stayed = (stay-none (λ _. Vw.the-row) yes, (stay-none (λ _. u32) yes, (stay-none (λ _. u16) yes, (stay-none (λ _. u64) yes, (stay-none-slice (0 ∷ []) tt (plain (λ _. u8)) yes, (gave-slice (1 ∷ []) tt (plain (λ _. u8)), tt))))))
 
--- the machine value of a drive
-abbrev dval : Drive → Val
-dval d = LL.val Dr.the-type Dr′.the-laws d
+-- the machine value of a view
+abbrev vval : View → Val
+vval d = LL.val Vw.the-type Vw′.the-laws d
 
 module _ {M : Type 1} (𝓤 : URA M) (H : Heap 𝓤) (A : Atoms 𝓤) (mem : Memory → SProp 𝓤) (run : Routine → Fun 𝓤) where
   -- the contract that the proof cites
   abbrev G : Contract 𝓤
   G = tripleOf 𝓤 H A g.signature (g.spec 𝓤 H A mem run)
 
-module _ {M : Type 1} (𝓤 : URA M) (H : Heap 𝓤) (A : Atoms 𝓤) (W : Given 𝓤 H A) (mem : Memory → SProp 𝓤) (run : Routine → Fun 𝓤) (κ κ′ : Lft) (q q′ : Share) (c : Drive) (i j m : ℕ) (y : RefT (List ℕ)) (b o : ℕ) (γ : GName) (ys : List ℕ) (is-c : Is Dr.the-row c (dval c ∷ [])) (i-fits : i < 2 ^ 32) (j-fits : j < 2 ^ 16) (m-fits : m < 2 ^ 64) where
+module _ {M : Type 1} (𝓤 : URA M) (H : Heap 𝓤) (A : Atoms 𝓤) (W : Given 𝓤 H A) (mem : Memory → SProp 𝓤) (run : Routine → Fun 𝓤) (κ κ′ : Lft) (q q′ : Share) (c : View) (i j m : ℕ) (y : RefT (List ℕ)) (b o : ℕ) (γ : GName) (ys : List ℕ) (is-c : Is Vw.the-row c (vval c ∷ [])) (i-fits : i < 2 ^ 32) (j-fits : j < 2 ^ 16) (m-fits : m < 2 ^ 64) where
   abbrev κs : Lfts 2
   κs = (κ, (κ′, tt))
 
@@ -105,13 +104,13 @@ module _ {M : Type 1} (𝓤 : URA M) (H : Heap 𝓤) (A : Atoms 𝓤) (W : Given
   s = sliceVal (b, o) (length ys)
 
   abbrev Arg : Type 0
-  Arg = Drive × (ℕ × (ℕ × (ℕ × (RefT (List ℕ) × (RefT (List ℕ) × Unit {0})))))
+  Arg = View × (ℕ × (ℕ × (ℕ × (RefT (List ℕ) × (RefT (List ℕ) × Unit {0})))))
 
   abbrev a : Arg
   a = (c, (i, (j, (m, (y, (x, tt))))))
 
   abbrev vals : List Val × (List Val × (List Val × (List Val × (List Val × (List Val × Unit {0})))))
-  vals = (dval c ∷ [], (vint w32 i ∷ [], (vint w16 j ∷ [], (vint w64 m ∷ [], (v ∷ [], (s ∷ [], tt))))))
+  vals = (vval c ∷ [], (vint w32 i ∷ [], (vint w16 j ∷ [], (vint w64 m ∷ [], (v ∷ [], (s ∷ [], tt))))))
 
   abbrev Post : Val → SProp 𝓤
   Post = walkOf 𝓤 H A f.ended stayed (f.clauses 𝓤 H A mem run) .post ((κs, (q, (q′, tt)), tt, a, vals), tt)
@@ -125,33 +124,33 @@ module _ {M : Type 1} (𝓤 : URA M) (H : Heap 𝓤) (A : Atoms 𝓤) (W : Given
 
   -- what the callee is passed
   abbrev GArg : Type 0
-  GArg = Drive × (ℕ × (ℕ × (Window × (RefT (List ℕ) × Unit {0}))))
+  GArg = View × (ℕ × (ℕ × (Window × (RefT (List ℕ) × Unit {0}))))
 
   abbrev ga : GArg
   ga = (c, (i, (j, (d, (x, tt)))))
 
   abbrev passed : Vals g.signature κs
-  passed = (dval c ∷ [], (vint w32 i ∷ [], (vint w16 j ∷ [], (mach ∷ [], (s ∷ [], tt)))))
+  passed = (vval c ∷ [], (vint w32 i ∷ [], (vint w16 j ∷ [], (mach ∷ [], (s ∷ [], tt)))))
 
   abbrev to : G 𝓤 H A mem run .Ghost
   to = ((κs, (q, (q′, tt)), tt, ga, passed), tt)
 
   asked : ent 𝓤 (onEntry 𝓤 H A g.signature κs (q, (q′, tt)) ga passed) (G 𝓤 H A mem run .pre to)
-  asked = qed W ((‵ (flft κ q) ⊛ ‵ (flft κ′ q′) ⊛ ‵ ftrue) ∷ ‵ (owns (Dr.the-row ∷ u32 ∷ u16 ∷ B κs ∷ MutSlice (named 1) κ′ u8 ∷ []) ga passed) ∷ []) ∵ join ! $ frame ! $ done !
+  asked = qed W ((‵ (flft κ q) ⊛ ‵ (flft κ′ q′) ⊛ ‵ ftrue) ∷ ‵ (owns (Vw.the-row ∷ u32 ∷ u16 ∷ B κs ∷ MutSlice (named 1) κ′ u8 ∷ []) ga passed) ∷ []) ∵ join ! $ frame ! $ done !
 
   -- what the parameters own gives what the callee asks, and bytes is kept
   made : ent 𝓤 (onEntry 𝓤 H A f.signature κs (q, (q′, tt)) a vals) (sep 𝓤 (G 𝓤 H A mem run .pre to) (sem 𝓤 H A OwnB))
   made =
-      qed W ((‵ (flft κ q) ⊛ ‵ (flft κ′ q′) ⊛ ‵ ftrue) ∷ ‵ (owns (Dr.the-row ∷ u32 ∷ u16 ∷ u64 ∷ ShrSlice (named 0) κ u8 ∷ MutSlice (named 1) κ′ u8 ∷ []) a vals) ∷ []) ∵
+      qed W ((‵ (flft κ q) ⊛ ‵ (flft κ′ q′) ⊛ ‵ ftrue) ∷ ‵ (owns (Vw.the-row ∷ u32 ∷ u16 ∷ u64 ∷ ShrSlice (named 0) κ u8 ∷ MutSlice (named 1) κ′ u8 ∷ []) a vals) ∷ []) ∵
       move ! (1 ∷ []) $ fsplit ! $ drop ! $ fsplit ! $ drop ! $ fsplit ! $ drop ! $ fsplit ! $ drop ! $ fsplit ! $ use1 W (‵ OwnB ⊛ ‵ OwnB) (shr-slice-copy 𝓤 H A W (named 0) κ u8 .twice y (v ∷ [])) $ split ! $
       -- [what bytes owns; the same; what reply owns; the tokens]
       nothing ! $ move ! (1 ∷ 0 ∷ []) $ fjoin ! $ owned ! u64 (Is u64) (uint-makes 𝓤 H A W w64) m _ (refl, m-fits) $ fjoin ! $ use1 W (‵ Own) (own-shut 𝓤 H A W (D κs) (L κs) (m, (y, tt))) $
       -- [what the window owns; what bytes owns; what reply owns; the tokens]
       move ! (0 ∷ 2 ∷ []) $ fjoin ! $ owned ! u16 (Is u16) (uint-makes 𝓤 H A W w16) j _ (refl, j-fits) $ fjoin ! $ owned ! u32 (Is u32) (uint-makes 𝓤 H A W w32) i _ (refl, i-fits) $ fjoin ! $
-      owned ! Dr.the-row (Is Dr.the-row) (LL.makes Dr.the-type Dr′.the-plain 𝓤 H A) c _ is-c $ fjoin ! $ move ! (2 ∷ 0 ∷ []) $ use2 W (raw (G 𝓤 H A mem run .pre to)) asked $ frame ! $ done !
+      owned ! Vw.the-row (Is Vw.the-row) (LL.makes Vw.the-type Vw′.the-plain 𝓤 H A) c _ is-c $ fjoin ! $ move ! (2 ∷ 0 ∷ []) $ use2 W (raw (G 𝓤 H A mem run .pre to)) asked $ frame ! $ done !
 
   abbrev Said : Turn → List ℕ → Type 0
-  Said r zs = ((r ≡ nextTurn c i j m (now y) (length ys)) × (r .at < 8)) × (zs ≡ nextFrameBuffer c i j m (now y) ys)
+  Said r zs = (r ≡ nextTurn c i j m (now y) (length ys)) × (zs ≡ nextTurnBuffer c i j m (now y) ys)
 
   exits : (r : Turn) (u : Val) (zs : List ℕ) → Said r zs → length zs ≡ length ys
       → ent 𝓤 (⋆ 𝓤 H A ((‵ (flft κ q) ⊛ ‵ (flft κ′ q′) ⊛ ‵ ftrue) ∷ ‵ (finally u8 γ zs) ∷ ‵ OwnB ∷ ‵ (Tn.the-row .own r (u ∷ [])) ∷ [])) (Post u)
@@ -160,14 +159,14 @@ module _ {M : Type 1} (𝓤 : URA M) (H : Heap 𝓤) (A : Atoms 𝓤) (W : Given
       suffices ! _ (ends-at 𝓤 H A f.ended stayed (f.clauses 𝓤 H A mem run) W ((κs, (q, (q′, tt)), tt, a, vals), tt) u r (tt, (tt, (tt, (tt, (tt, (zs, tt)))))) (tt, (tt, (tt, (tt, (tt, (l, tt))))))) $ says ! e $ frame ! $
       -- [the last list; what bytes owns; the result]
       nothing ! $ move ! (1 ∷ 0 ∷ []) $ fjoin ! $ move ! (1 ∷ 0 ∷ []) $ fjoin ! $ owned ! u64 (Is u64) (uint-makes 𝓤 H A W w64) m _ (refl, m-fits) $ fjoin ! $
-      owned ! u16 (Is u16) (uint-makes 𝓤 H A W w16) j _ (refl, j-fits) $ fjoin ! $ owned ! u32 (Is u32) (uint-makes 𝓤 H A W w32) i _ (refl, i-fits) $ fjoin ! $ owned ! Dr.the-row (Is Dr.the-row) (LL.makes Dr.the-type Dr′.the-plain 𝓤 H A) c _ is-c $ fjoin ! $ done !
+      owned ! u16 (Is u16) (uint-makes 𝓤 H A W w16) j _ (refl, j-fits) $ fjoin ! $ owned ! u32 (Is u32) (uint-makes 𝓤 H A W w32) i _ (refl, i-fits) $ fjoin ! $ owned ! Vw.the-row (Is Vw.the-row) (LL.makes Vw.the-type Vw′.the-plain 𝓤 H A) c _ is-c $ fjoin ! $ done !
 
-  module _ (C : Calls 𝓤 H) (Λ : Loops 𝓤 H) (fm : FmC 𝓤 H (W .laws) C) (known : Triple 𝓤 (C #window·next-login-from) (G 𝓤 H A mem run)) where
-    walk : Is (ShrSlice (named 0) κ u8) y (v ∷ []) → Room u8 (length ys) → ent 𝓤 (onEntry 𝓤 H A f.signature κs (q, (q′, tt)) a vals) (WpFn 𝓤 H C Λ code.function (dval c ∷ vint w32 i ∷ vint w16 j ∷ vint w64 m ∷ v ∷ s ∷ []) Post)
+  module _ (C : Calls 𝓤 H) (Λ : Loops 𝓤 H) (fm : FmC 𝓤 H (W .laws) C) (known : Triple 𝓤 (C #window·next-turn-from) (G 𝓤 H A mem run)) where
+    walk : Is (ShrSlice (named 0) κ u8) y (v ∷ []) → Room u8 (length ys) → ent 𝓤 (onEntry 𝓤 H A f.signature κs (q, (q′, tt)) a vals) (WpFn 𝓤 H C Λ code.function (vval c ∷ vint w32 i ∷ vint w16 j ∷ vint w64 m ∷ v ∷ s ∷ []) Post)
     walk is-y room =
-        qed W (raw (onEntry 𝓤 H A f.signature κs (q, (q′, tt)) a vals) ∷ []) ∵ enter ! C Λ code.function (dval c ∷ vint w32 i ∷ vint w16 j ∷ vint w64 m ∷ v ∷ s ∷ []) _ $
+        qed W (raw (onEntry 𝓤 H A f.signature κs (q, (q′, tt)) a vals) ∷ []) ∵ enter ! C Λ code.function (vval c ∷ vint w32 i ∷ vint w16 j ∷ vint w64 m ∷ v ∷ s ∷ []) _ $
         alloc1 ! (λ l₀. alloc1 ! (λ l₁. alloc1 ! (λ l₂. alloc1 ! (λ l₃. alloc1 ! (λ l₄. alloc1 ! (λ l₅. alloc1 ! (λ l₆. alloc1 ! (λ l₇. alloc1 ! (λ l₈. alloc1 ! (λ l₉. alloc0 ! $ params1 ! $
-        pass1 ! (init ! 16 refl (LL.lawful Dr.the-type Dr′.the-laws 𝓤 H A W .typed c _ is-c .0)) $ pass1 ! (init ! 14 refl (tt, record { fits = i-fits })) $ pass1 ! (init ! 12 refl (tt, record { fits = j-fits })) $ pass1 ! (init ! 10 refl (tt, record { fits = m-fits })) $ pass1 ! (init ! 8 refl (shr-slice-lawful 𝓤 H A W (named 0) κ u8 .typed y (v ∷ []) is-y .0)) $ pass1 ! (init ! 6 refl (tt, (tt, (record { fits = room .0 }, tt)))) $ pass0 ! $
+        pass1 ! (init ! 16 refl (LL.lawful Vw.the-type Vw′.the-laws 𝓤 H A W .typed c _ is-c .0)) $ pass1 ! (init ! 14 refl (tt, record { fits = i-fits })) $ pass1 ! (init ! 12 refl (tt, record { fits = j-fits })) $ pass1 ! (init ! 10 refl (tt, record { fits = m-fits })) $ pass1 ! (init ! 8 refl (shr-slice-lawful 𝓤 H A W (named 0) κ u8 .typed y (v ∷ []) is-y .0)) $ pass1 ! (init ! 6 refl (tt, (tt, (record { fits = room .0 }, tt)))) $ pass0 ! $
         -- [_9; …; _8; …; _7; …; _6; …; _5; …; _4; …; _3; …; _2; …; _1; …; room for _0; …; what is had at entry]
         assigns ! (agg ! (and-then ! (load ! (from ! (stop !)) (look ! 10 refl)) (and-then ! (load ! (from ! (stop !)) (look ! 8 refl)) (no-more !)))) (from ! (stop !)) (init ! 4 refl (tt, (record { fits = m-fits }, (shr-slice-lawful 𝓤 H A W (named 0) κ u8 .typed y (v ∷ []) is-y .0 .1, tt)))) $
         assigns ! (addr ! (from ! (fld ! refl (hop ! (look-in ! 6 (sub ! 0 refl (whole !))) (stop !))))) (from ! (stop !)) (init ! 2 refl (tt, tt)) $
@@ -176,7 +175,7 @@ module _ {M : Type 1} (𝓤 : URA M) (H : Heap 𝓤) (A : Atoms 𝓤) (W : Given
         -- [what the callee asks; what bytes owns; _9; …]
         calls-at ! fm (G 𝓤 H A mem run) known to (and-then ! (load ! (from ! (stop !)) (look ! 18 refl)) (and-then ! (load ! (from ! (stop !)) (look ! 16 refl)) (and-then ! (load ! (from ! (stop !)) (look ! 14 refl)) (and-then ! (load ! (from ! (stop !)) (look ! 6 refl)) (and-then ! (load ! (from ! (stop !)) (look ! 2 refl)) (no-more !)))))) (λ u.
         use1 W (later (some (λ (r : Turn). ((‵ (flft κ q) ⊛ ‵ (flft κ′ q′) ⊛ ‵ ftrue) ⊛ ‵ (Tn.the-row .own r (u ∷ []))) ⊛ raw (ensured 𝓤 H A g.ended (g.clauses 𝓤 H A mem run) κs ga tt r)))) (id⊢ 𝓤 _) $ await ! tt $ pick ! (λ r.
-        -- what `next_login_from` ensures, at some last list of reply
+        -- what `next_turn_from` ensures, at some last list of reply
         split ! $ move ! (1 ∷ []) $ use1 W (some (λ (zs : Unit {0} × (Unit {0} × (Unit {0} × (Unit {0} × (List ℕ × Unit {0}))))). ‵ (lasts g.ended κs ga zs) ⊛ raw (fact 𝓤 (Said r (zs .1 .1 .1 .1 .0))))) (id⊢ 𝓤 _) $ pick ! (λ zs.
         split ! $ move ! (1 ∷ []) $ heard ! (Said r (zs .1 .1 .1 .1 .0)) (λ e. fsplit ! $ drop ! $ fsplit ! $ drop ! $ fsplit ! $ drop ! $ fsplit ! $ drop ! $ fsplit ! $ fsplit ! $ move ! (1 ∷ []) $ feqL ! (λ l.
         -- [the last list; true; the tokens and the result; what bytes owns; _9; …]
@@ -188,23 +187,23 @@ module _ {M : Type 1} (𝓤 : URA M) (H : Heap 𝓤) (A : Atoms 𝓤) (W : Given
         keep ! (1 ∷ 2 ∷ 4 ∷ 0 ∷ []) $ by ! (exits r u (zs .1 .1 .1 .1 .0) e l)))))))))))))))))
 
 module _ {M : Type 1} (𝓤 : URA M) (H : Heap 𝓤) (A : Atoms 𝓤) (W : Given 𝓤 H A) (mem : Memory → SProp 𝓤) (run : Routine → Fun 𝓤) where
-  f-walks : (C : Calls 𝓤 H) (Λ : Loops 𝓤 H) → FmC 𝓤 H (W .laws) C → Triple 𝓤 (C #window·next-login-from) (G 𝓤 H A mem run)
+  f-walks : (C : Calls 𝓤 H) (Λ : Loops 𝓤 H) → FmC 𝓤 H (W .laws) C → Triple 𝓤 (C #window·next-turn-from) (G 𝓤 H A mem run)
       → Walks 𝓤 H A f.ended stayed (WpFn 𝓤 H C Λ code.function) (f.clauses 𝓤 H A mem run)
   f-walks C Λ fm known = walked 𝓤 H A f.ended stayed (f.clauses 𝓤 H A mem run) (WpFn 𝓤 H C Λ code.function)
-      (λ κs. (LL.vals Dr.the-type Dr′.the-laws, (uint-vals w32, (uint-vals w16, (uint-vals w64, (slice-vals, (slice-vals, tt))))))) (λ κs. (LL.tells Dr.the-type Dr′.the-laws, (uint-tells w32, (uint-tells w16, (uint-tells w64, (shr-slice-tells (named 0) (κs .0) u8, (mut-slice-tells (named 1) (κs .1 .0) u8, tt)))))))
+      (λ κs. (LL.vals Vw.the-type Vw′.the-laws, (uint-vals w32, (uint-vals w16, (uint-vals w64, (slice-vals, (slice-vals, tt))))))) (λ κs. (LL.tells Vw.the-type Vw′.the-laws, (uint-tells w32, (uint-tells w16, (uint-tells w64, (shr-slice-tells (named 0) (κs .0) u8, (mut-slice-tells (named 1) (κs .1 .0) u8, tt)))))))
       (λ κs qs bounds a g are. via 𝓤 _ (fst∗ 𝓤 _ (emp 𝓤)) (walk 𝓤 H A W mem run (κs .0) (κs .1 .0) (qs .0) (qs .1 .0) (a .0) (a .1 .0) (a .1 .1 .0) (a .1 .1 .1 .0) (a .1 .1 .1 .1 .0) (a .1 .1 .1 .1 .1 .0 .ptr .0) (a .1 .1 .1 .1 .1 .0 .ptr .1) (a .1 .1 .1 .1 .1 .0 .name) (a .1 .1 .1 .1 .1 .0 .now) (are .0) (are .1 .0 .1) (are .1 .1 .0 .1) (are .1 .1 .1 .0 .1) C Λ fm known
       (are .1 .1 .1 .1 .0) (are .1 .1 .1 .1 .1 .0 .0 .1)))
 
 f-meets : {M : Type 1} (𝓤 : URA M) (H : Heap 𝓤) (A : Atoms 𝓤) (W : Given 𝓤 H A) (mem : Memory → SProp 𝓤) (run : Routine → Fun 𝓤) (𝓣 : Tables 𝓤 H)
-    → Triple 𝓤 (𝓣 .C #window·next-login-from) (G 𝓤 H A mem run)
+    → Triple 𝓤 (𝓣 .C #window·next-turn-from) (G 𝓤 H A mem run)
     → Meets 𝓤 H A f.signature (WpFn 𝓤 H (𝓣 .C) (𝓣 .Λ) code.function) (f.spec 𝓤 H A mem run)
-f-meets 𝓤 H A W mem run 𝓣 known = walk-meets 𝓤 H A f.ended stayed W (goes-none 𝓤 H A W 2 (λ _. Dr.the-row) yes (λ κs x f. refl), (goes-none 𝓤 H A W 2 (λ _. u32) yes (λ κs x f. refl), (goes-none 𝓤 H A W 2 (λ _. u16) yes (λ κs x f. refl), (goes-none 𝓤 H A W 2 (λ _. u64) yes (λ κs x f. refl), (goes-none-slice 𝓤 H A W 2 (0 ∷ []) tt (plain (λ _. u8)) yes, (goes-gave-slice 𝓤 H A W 2 1 tt (plain (λ _. u8)), tt)))))) (f.clauses 𝓤 H A mem run) (WpFn 𝓤 H (𝓣 .C) (𝓣 .Λ) code.function) (WpFn-mono 𝓤 H (W .laws) 𝓣 code.function)
+f-meets 𝓤 H A W mem run 𝓣 known = walk-meets 𝓤 H A f.ended stayed W (goes-none 𝓤 H A W 2 (λ _. Vw.the-row) yes (λ κs x f. refl), (goes-none 𝓤 H A W 2 (λ _. u32) yes (λ κs x f. refl), (goes-none 𝓤 H A W 2 (λ _. u16) yes (λ κs x f. refl), (goes-none 𝓤 H A W 2 (λ _. u64) yes (λ κs x f. refl), (goes-none-slice 𝓤 H A W 2 (0 ∷ []) tt (plain (λ _. u8)) yes, (goes-gave-slice 𝓤 H A W 2 1 tt (plain (λ _. u8)), tt)))))) (f.clauses 𝓤 H A mem run) (WpFn 𝓤 H (𝓣 .C) (𝓣 .Λ) code.function) (WpFn-mono 𝓤 H (W .laws) 𝓣 code.function)
     (f-walks 𝓤 H A W mem run (𝓣 .C) (𝓣 .Λ) (fmOf 𝓤 H (W .laws) 𝓣) known)
 
-pub next-login-spec : {M : Type 1} → stated.statement M
+pub next-turn-spec : {M : Type 1} → stated.statement M
 unfolding code.routine tablesOf
-next-login-spec 𝓤 H 𝓜 𝓖 𝓡 =
+next-turn-spec 𝓤 H 𝓜 𝓖 𝓡 =
     entered 𝓤 H (tripleOf 𝓤 H (𝓖 .A) f.signature (f.spec 𝓤 H (𝓖 .A) (𝓜 .mem) (𝓡 .run)))
-    (tables 𝓤 H 𝓜 𝓡 code.env .C) (tables 𝓤 H 𝓜 𝓡 code.env .Λ) #window·next-login code.function (code.unfolded 𝓤 H 𝓜 𝓡)
+    (tables 𝓤 H 𝓜 𝓡 code.env .C) (tables 𝓤 H 𝓜 𝓡 code.env .Λ) #window·next-turn code.function (code.unfolded 𝓤 H 𝓜 𝓡)
     (f-meets 𝓤 H (𝓖 .A) (givenOf 𝓤 H 𝓜 𝓖) (𝓜 .mem) (𝓡 .run) (tablesOf 𝓤 H 𝓜 (tables 𝓤 H 𝓜 𝓡 code.env))
-    (cited 𝓤 H (G 𝓤 H (𝓖 .A) (𝓜 .mem) (𝓡 .run)) 𝓜 𝓡 code.env #window·next-login-from g-def.routine code.calls-window·next-login-from (g-thm.met 𝓤 H 𝓜 𝓖 𝓡)))
+    (cited 𝓤 H (G 𝓤 H (𝓖 .A) (𝓜 .mem) (𝓡 .run)) 𝓜 𝓡 code.env #window·next-turn-from g-def.routine code.calls-window·next-turn-from (g-thm.met 𝓤 H 𝓜 𝓖 𝓡)))
