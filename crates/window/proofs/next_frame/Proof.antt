@@ -3,7 +3,6 @@ use mathlib.Core.Path.{ap, _∙_}
 use lib.ListN.{length}
 use Rattle.drive.specs.declared.View.{View}
 use Rattle.drive.specs.Turn.{nextTurn, nextTurnBuffer, answerTo}
-use Rattle.drive.proofs.Shape.{drive-8}
 use Rattle.drive.proofs.Turns.{next-turn, next-turn-buffer}
 use borrow.Author.Needs.{needs}
 use Rattle.window.proofs.next_frame.Statement.{statement}
@@ -13,12 +12,10 @@ returns : tie.Need-returns
 returns c =
     let t = c .before .before .before .next-turn in
     let v = c .before .before .before .before .before .view in
-    let s = c .before .before .before .before .before .before .before .before in
-    let a = s .args in
-    let len = drive-8 (a .d) _ (s .good .0) in
+    let a = c .before .before .before .before .before .before .before .before .args in
     let turn = t .ensures .0 ∙ ap (λ (w : View). nextTurn w (a .address) (a .ox-id) (a .start) (a .bytes .now) (length (a .reply .now))) (v .ensures) in
     let left = t .ensures .1 ∙ ap (λ (w : View). nextTurnBuffer w (a .address) (a .ox-id) (a .start) (a .bytes .now) (a .reply .now)) (v .ensures) in
-    (c .answer .ensures ∙ ap (answerTo (a .d)) turn ∙ next-turn (a .d) len (a .address) (a .ox-id) (a .start) _ (a .bytes .now), left ∙ next-turn-buffer (a .d) len (a .address) (a .ox-id) (a .start) (a .bytes .now) _)
+    (c .answer .ensures ∙ ap (answerTo (a .d)) turn ∙ next-turn (a .d) (a .address) (a .ox-id) (a .start) _ (a .bytes .now), left ∙ next-turn-buffer (a .d) (a .address) (a .ox-id) (a .start) (a .bytes .now) _)
 
 pub next-frame-spec : {M : Type 1} → statement M
 next-frame-spec =
