@@ -1,4 +1,5 @@
 pub mod Ways
+pub mod Turns
 pub mod Flags
 pub mod Moves
 pub mod Opens

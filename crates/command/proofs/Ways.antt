@@ -10,17 +10,18 @@ use Rattle.frame.specs.declared.Header.{Header}
 use Rattle.state.specs.declared.Change.{Change}
 use Rattle.state.specs.declared.Exchange.{Exchange}
 use Rattle.state.specs.declared.Login.{Login}
-use Rattle.state.specs.declared.Port.{Port}
-use Rattle.state.specs.Changes.{loginAt, withLogin, withAttention, withExchange, endedAt, changedAll}
-use Rattle.state.specs.Tables.{findLogin, findExchange, freeExchange}
+use Rattle.state.specs.Changes.{withAttention, withExchange, endedAt}
+use Rattle.state.specs.Tables.{findExchange, freeExchange}
 use Rattle.formed.specs.Formed.{total}
+use Rattle.seat.specs.Seat.{seatOf, seatPlace}
 use Rattle.reply.specs.declared.Residual.{Residual}
 use Rattle.reply.specs.declared.Reply.the-variants as reply
 use Rattle.reply.specs.declared.Response.the-variants as response
 use Rattle.residual.specs.Residual.{residualOf}
-use Rattle.link.specs.declared.Decided.{Decided}
+use Rattle.link.specs.declared.Placed.{Placed}
 use Rattle.link.specs.declared.Served.{Served}
-use Rattle.link.specs.Link.{decidedAs, servedAs}
+use Rattle.link.specs.Link.{servedAs}
+use Rattle.link.specs.Turn.{placedAs, changedAs}
 use Rattle.command.specs.declared.Cmnd.{Cmnd}
 use Rattle.command.specs.declared.Task.{Task}
 use Rattle.command.specs.declared.Task.the-variants as task
@@ -28,7 +29,8 @@ use Rattle.command.specs.declared.Asked.{Asked}
 use Rattle.command.specs.declared.Asked.the-variants as asked
 use Rattle.command.specs.Cmnd.{cmndOf, readBit, taskOf}
 use Rattle.command.specs.Tests.{askedOf}
-use Rattle.command.specs.Command.{refusedWith, toldOf, answerOf, executeOf, commandedAt, loggedOut, commandOf}
+use Rattle.command.specs.Command.{refusedWith, toldOf, answerOf, executeOf}
+use Rattle.command.specs.Turn.{commandedTurn, loggedOutIn, commandTurn}
 
 module _ (l : Login) (bits : ℕ) (e : Exchange) (d : Served) where
   pub answer-good : (x : Residual) → total e ≡ 0 → x ≡ residualOf (e .wanted) (e .expected) → d ≡ servedAs (reply.Respond (response.Status 0 x)) l → d ≡ answerOf l bits e
@@ -67,30 +69,29 @@ module _ (capacity : ℕ) (l : Login) (ox : ℕ) (c : Cmnd) (d : Served) where
     unfolding executeOf
     execute-wants e i ed = rw (f, sym ea, i) ed
 
-module _ (capacity : ℕ) (p : Port) (i : ℕ) (h : Header) (c : Cmnd) (n : ℕ) (t : Task) (et : t ≡ taskOf c n (h .«s_id»)) (d : Decided) where
-  pub commanded-code : (code : ℕ) → t ≡ task.Code code → d ≡ decidedAs (reply.Respond (response.Code code)) p → d ≡ commandedAt capacity p i h c n
-  unfolding commandedAt
+module _ (capacity i : ℕ) (l : Login) (h : Header) (c : Cmnd) (n : ℕ) (t : Task) (et : t ≡ taskOf c n (h .«s_id»)) (d : Placed) where
+  pub commanded-code : (code : ℕ) → t ≡ task.Code code → d ≡ placedAs (reply.Respond (response.Code code)) i l → d ≡ commandedTurn capacity i l h c n
+  unfolding commandedTurn
   commanded-code code it ed = rw (sym et, it) ed
 
-  pub commanded-change : (e : Change) (q : Port) → t ≡ task.Apply e → q ≡ changedAll e p → d ≡ decidedAs (reply.Respond (response.Code 0)) q → d ≡ commandedAt capacity p i h c n
-  unfolding commandedAt
-  commanded-change e q it eq ed = rw (sym et, it) (ed ∙ ap (decidedAs (reply.Respond (response.Code 0))) eq)
+  pub commanded-change : (e : Change) → t ≡ task.Apply e → d ≡ changedAs (reply.Respond (response.Code 0)) e i l → d ≡ commandedTurn capacity i l h c n
+  unfolding commandedTurn
+  commanded-change e it ed = rw (sym et, it) ed
 
-  pub commanded-executes : (l : Login) (s : Served) (q : Port) → t ≡ task.Execute → l ≡ loginAt p i → s ≡ executeOf capacity l (h .«ox_id») c → q ≡ withLogin p i (s .login)
-      → d ≡ decidedAs (s .reply) q → d ≡ commandedAt capacity p i h c n
-  unfolding commandedAt
-  commanded-executes l s q it el es eq ed = rw (sym et, it, sym el, sym es) (ed ∙ ap (decidedAs (s .reply)) eq)
+  pub commanded-executes : (s : Served) → t ≡ task.Execute → s ≡ executeOf capacity l (h .«ox_id») c → d ≡ placedAs (s .reply) i (s .login) → d ≡ commandedTurn capacity i l h c n
+  unfolding commandedTurn
+  commanded-executes s it es ed = rw (sym et, it, sym es) ed
 
-module _ (capacity : ℕ) (p : Port) (h : Header) (f : List ℕ) (d : Decided) where
-  pub command-no-login : findLogin p (h .«s_id») ≡ Nothing → d ≡ loggedOut p (h .«s_id») → d ≡ commandOf capacity p h f
-  unfolding commandOf
-  command-no-login n ed = rw n ed
+module _ (capacity : ℕ) (keys : List ℕ) (l : Login) (h : Header) (f : List ℕ) (i : ℕ) (ei : i ≡ seatPlace keys (h .«s_id»)) (d : Placed) where
+  pub command-no-login : seatOf keys (h .«s_id») ≡ Nothing → d ≡ loggedOutIn i l (h .«s_id») → d ≡ commandTurn capacity keys l h f
+  unfolding commandTurn
+  command-no-login n ed = rw (sym ei, n) ed
 
-  module _ (i : ℕ) (l : Login) (at : findLogin p (h .«s_id») ≡ At i) (el : l ≡ loginAt p i) where
-    pub command-unpaired : (l .paired ≡ 1 → ⊥) → d ≡ loggedOut p (h .«s_id») → d ≡ commandOf capacity p h f
-    unfolding commandOf
-    command-unpaired n ed = rw (at, sym el, ne-eqb (l .paired) 1 n) ed
+  module _ (j : ℕ) (at : seatOf keys (h .«s_id») ≡ At j) where
+    pub command-unpaired : (l .paired ≡ 1 → ⊥) → d ≡ loggedOutIn i l (h .«s_id») → d ≡ commandTurn capacity keys l h f
+    unfolding commandTurn
+    command-unpaired n ed = rw (sym ei, at, ne-eqb (l .paired) 1 n) ed
 
-    pub command-paired : (c : Cmnd) → l .paired ≡ 1 → c ≡ cmndOf f → d ≡ commandedAt capacity p i h c (length f) → d ≡ commandOf capacity p h f
-    unfolding commandOf
-    command-paired c n ec ed = rw (at, sym el, eq-eqb (l .paired) 1 n, sym ec) ed
+    pub command-paired : (c : Cmnd) → l .paired ≡ 1 → c ≡ cmndOf f → d ≡ commandedTurn capacity i l h c (length f) → d ≡ commandTurn capacity keys l h f
+    unfolding commandTurn
+    command-paired c n ec ed = rw (sym ei, at, eq-eqb (l .paired) 1 n, sym ec) ed

@@ -6,18 +6,21 @@ use Rattle.command.proofs.commanded.Tie as tie
 
 returns : tie.Need-returns
 returns c =
-    let a = c .before .before .before .before .before .args in
-    commanded-code (a .capacity) (a .p) (a .i) (a .h) (a .c) (a .length) _ (c .before .before .before .before .task-of .ensures) _ _ (c .before .before .t .given .1) (c .decide-as .ensures)
+    let t = c .before .before .before .before in
+    let a = t .before .args in
+    commanded-code (a .capacity) (a .i) (a .l) (a .h) (a .c) (a .length) _ (t .task-of .ensures) _ _ (c .before .before .t .given .1) (c .place-as .ensures)
 
 returns-2 : tie.Need-returns-2
 returns-2 c =
-    let a = c .before .before .before .before .before .before .args in
-    commanded-change (a .capacity) (a .p) (a .i) (a .h) (a .c) (a .length) _ (c .before .before .before .before .before .task-of .ensures) _ _ _ (c .before .before .before .t2 .given .1) (c .before .change-all .ensures) (c .decide-as2 .ensures)
+    let t = c .before .before .before .before in
+    let a = t .before .args in
+    commanded-change (a .capacity) (a .i) (a .l) (a .h) (a .c) (a .length) _ (t .task-of .ensures) _ _ (c .before .before .t2 .given .1) (c .change-as .ensures)
 
 returns-3 : tie.Need-returns-3
 returns-3 c =
-    let a = c .before .before .before .before .before .before .before .before .args in
-    commanded-executes (a .capacity) (a .p) (a .i) (a .h) (a .c) (a .length) _ (c .before .before .before .before .before .before .before .task-of .ensures) _ _ _ _ (c .before .before .before .before .before .enum-told .given .1) (c .before .before .before .before .login-at .ensures) (c .before .before .before .execute .ensures) (c .before .put-login .ensures) (c .decide-as3 .ensures)
+    let t = c .before .before .before .before .before in
+    let a = t .before .args in
+    commanded-executes (a .capacity) (a .i) (a .l) (a .h) (a .c) (a .length) _ (t .task-of .ensures) _ _ (c .before .before .before .enum-told .given .1) (c .before .before .execute .ensures) (c .place-as2 .ensures)
 
 pub commanded-spec : {M : Type 1} → statement M
 commanded-spec =
@@ -28,10 +31,7 @@ commanded-spec =
     (λ c κs. search needs)
     (λ c. search needs)
     (λ c κs. search needs)
-    (λ c κs. search needs)
     (λ c. search needs)
-    (λ c κs. search needs)
-    (λ c κs. search needs)
     (λ c κs. search needs)
     (λ c κs. search needs)
     returns
