@@ -34,7 +34,7 @@ use Rattle.link.specs.declared.Placed.{Placed}
 use Rattle.link.specs.declared.Outcome.{Outcome}
 use Rattle.link.specs.declared.Outcome.the-variants.{Place, Rejected}
 use Rattle.link.specs.Link.{decidedAs, sizeOf, newLogin, outcomeAfter, outcomeOf, outcomeReply, outcomePort, plogiOf, logoOf, serviceOf, servedAt, linkOf, abortedAt, abtsOf}
-use Rattle.link.specs.Turn.{placedAs, changedAs, decidedBy, outcomeIn, loginPlaced, plogiTurn, logoTurn, servedIn, linkTurn, abortedLogin, abtsTurn}
+use Rattle.link.specs.Turn.{placedAs, changedAs, decidedBy, outcomeIn, loginPlaced, plogiTurn, logoTurn, linkTurn, abortedLogin, abtsTurn}
 
 module _ (p : Port) where
   -- a change that keeps every login
