@@ -7,7 +7,7 @@ use lib.Dec.{eqb}
 use lib.ListN.{length, replicate}
 use Rattle.tables.specs.declared.Found.{Found}
 use Rattle.tables.specs.declared.Found.the-variants.{At, Nothing}
-use Rattle.tables.specs.Lists.{onFound, all}
+use Rattle.tables.specs.Lists.{onFound, all, pairs}
 use Rattle.frame.specs.declared.Header.{Header}
 use Rattle.frame.specs.Head.{headerOf}
 use Rattle.wire.specs.Bytes.{onto}
@@ -16,7 +16,7 @@ use Rattle.state.specs.declared.Port.{Port}
 use Rattle.state.specs.declared.Change.the-variants.{Keep, EndAll}
 use Rattle.state.specs.Changes.{emptyLogin, loginAt, withLogin, changedOf, changedAll, poweredOn}
 use Rattle.state.specs.Tables.{findLogin}
-use Rattle.formed.specs.Formed.{setupRules, loginFine, wellFormed}
+use Rattle.formed.specs.Formed.{setupRules, loginFine, apartAddress, wellFormed}
 use Rattle.formed.proofs.Keys.{logins-are}
 use Rattle.formed.proofs.Parts.{Formed, formed-parts}
 use Rattle.seat.specs.Seat.{seatOf, seatPlace}
@@ -54,7 +54,13 @@ with-port d p = record { unit = d .unit; port = p }
 -- what is seen is well formed exactly when the drive is
 pub fine-is : (d : Drive) (a : ℕ) → viewFine (viewOf d a) ≡ wellFormed (d .unit) (d .port)
 unfolding viewFine viewOf ownOf wellFormed
-fine-is d a = ap (λ (b : Bool). setupRules (d .unit .capacity) (d .port .address) (d .port .accept) && b) (logins-are (d .unit .capacity) (d .port .address) (d .port .logins) refl refl)
+fine-is d a =
+    step (setupRules (d .unit .capacity) (d .port .address) (d .port .accept)) (all (loginFine (d .unit .capacity) (d .port .address)) (d .port .logins)) (pairs apartAddress (d .port .logins))
+    (logins-are (d .unit .capacity) (d .port .address) (d .port .logins) refl refl)
+  where
+    step : (s b c : Bool) {k : Bool} → k ≡ (b && c) → (s && k) ≡ (s && b && c)
+    step true b c e = e
+    step false b c e = refl
 
 -- a refusal leaves the drive
 stays-is : (d : Drive) (a : ℕ) (x : Refusal) → answerTo d (stays x (viewOf d a) a) ≡ refused x d
@@ -83,49 +89,43 @@ module _ (d : Drive) where
     unfolding viewOf
     placed-decided f Link = link-turn (d .unit .capacity) (d .port .address) (d .port) fine (headerOf f) f
     placed-decided f Done = held-is (d .port) reply.Nothing (seatPlace (keysOf d) (headerOf f .«s_id»))
-    placed-decided f Abort = abts-turn (d .unit .capacity) (d .port .address) (d .port) fine len (headerOf f .«s_id») (headerOf f .«ox_id») (headerOf f .«rx_id»)
+    placed-decided f Abort = abts-turn (d .unit .capacity) (d .port .address) (d .port) fine (headerOf f .«s_id») (headerOf f .«ox_id») (headerOf f .«rx_id»)
     placed-decided f Command = command-turn (d .unit .capacity) (d .port .address) (d .port) fine (headerOf f) f
 
   -- a frame is judged by what its sender sees as it is by the drive
   judged-is : (f : List ℕ) (room : ℕ) → judgedIn (viewOf d (headerOf f .«s_id»)) f room ≡ judgedOf (d .unit) (d .port) (headerOf f) f room
-  unfolding judgedIn judgedOf
+  unfolding judgedIn judgedOf judgedBy viewOf ownOf
   judged-is f room = rw (fine-is d (headerOf f .«s_id»)) (by (wellFormed (d .unit) (d .port)) refl)
     where
       by : (b : Bool) → wellFormed (d .unit) (d .port) ≡ b
           → judgedBy b (unprovenIn (viewOf d (headerOf f .«s_id»)) (headerOf f .«s_id»)) (viewOf d (headerOf f .«s_id») .own .address) (headerOf f) f room ≡ judgedBy b (unprovenLogin (d .port) (headerOf f .«s_id»)) (d .port .address) (headerOf f) f room
-      unfolding judgedBy viewOf ownOf
       by false w = refl
       by true w = ap (λ (u : Bool). judgedBy true u (d .port .address) (headerOf f) f room) (unproven-is w (headerOf f .«s_id»))
 
   -- a frame in is the answer to its turn
   pub frame-turn : (f : List ℕ) (room : ℕ) → answerTo d (frameTurn (viewOf d (headerOf f .«s_id»)) f room) ≡ frameIn d f room
-  unfolding frameTurn frameIn
+  unfolding frameTurn frameIn replyBytes placedBytes viewOf
   frame-turn f room = rw (judged-is f room) (by (judgedOf (d .unit) (d .port) (headerOf f) f room) refl)
     where
       by : (j : Judged) → judgedOf (d .unit) (d .port) (headerOf f) f room ≡ j
           → answerTo d (onJudged j (λ x. stays x (viewOf d (headerOf f .«s_id»)) (headerOf f .«s_id»)) (λ k. sentTurn (viewOf d (headerOf f .«s_id»)) (headerOf f) (placedOf (viewOf d (headerOf f .«s_id»)) (headerOf f) k f)))
           ≡ onJudged j (λ x. refused x d) (λ k. answered d (headerOf f) (decidedIn d f k))
-      unfolding replyBytes placedBytes
       by (judged.Refused x) e = stays-is d (headerOf f .«s_id») x
-      by (judged.Passed k) e = sent (viewOf d (headerOf f .«s_id»)) refl ∙ ap (answered d (headerOf f)) (placed-decided (passed (d .unit) (d .port) (headerOf f) f room k e .fine) f k)
-        where
-          sent : (v : View) → v .own ≡ ownOf (d .port) → answerTo d (sentTurn v (headerOf f) (placedOf v (headerOf f) k f)) ≡ answered d (headerOf f) (decidedBy (d .port) (placedOf v (headerOf f) k f))
-          sent v o = rw o
+      by (judged.Passed k) e = ap (answered d (headerOf f)) (placed-decided (passed (d .unit) (d .port) (headerOf f) f room k e .fine) f k)
 
   -- and the lent buffer is what the turn leaves there
   pub frame-turn-buffer : (f l : List ℕ) → frameTurnBuffer (viewOf d (headerOf f .«s_id»)) f l ≡ frameInBuffer d f l
-  unfolding frameTurnBuffer frameInBuffer
+  unfolding frameTurnBuffer frameInBuffer replyBytes placedBytes viewOf
   frame-turn-buffer f l = rw (judged-is f (length l)) (by (judgedOf (d .unit) (d .port) (headerOf f) f (length l)) refl)
     where
       by : (j : Judged) → judgedOf (d .unit) (d .port) (headerOf f) f (length l) ≡ j
           → onJudged j (λ x. l) (λ k. onto (placedBytes (viewOf d (headerOf f .«s_id»)) (headerOf f) (placedOf (viewOf d (headerOf f .«s_id»)) (headerOf f) k f)) l) ≡ onJudged j (λ x. l) (λ k. onto (replyBytes d (headerOf f) (decidedIn d f k)) l)
-      unfolding replyBytes placedBytes viewOf
       by (judged.Refused x) e = refl
       by (judged.Passed k) e = ap (λ (r : Decided). onto (replyBytes d (headerOf f) r) l) (placed-decided (passed (d .unit) (d .port) (headerOf f) f (length l) k e .fine) f k)
 
   -- a next frame out is the answer to its turn
   pub next-turn : (a x start room : ℕ) (W : List ℕ) → answerTo d (nextTurn (viewOf d a) a x start W room) ≡ nextFrame d a x start W room
-  unfolding nextTurn nextFrame
+  unfolding nextTurn nextFrame viewOf
   next-turn a x start room W = rw (fine-is d a) (by (shortBuffer room) (wellFormed (d .unit) (d .port)) refl)
     where
       by : (s b : Bool) → wellFormed (d .unit) (d .port) ≡ b
@@ -136,26 +136,24 @@ module _ (d : Drive) where
       by false true w = go
         where
           go : answerTo d (moved (movedSeat (viewOf d a .unit) (viewOf d a .own) (viewOf d a .keys) (viewOf d a .login) a x start W room)) ≡ served d (nextOf (d .unit) (d .port) a x start W room)
-          unfolding viewOf
           go =
               let m = movedSeat (d .unit) (ownOf (d .port)) (keysOf d) (loginAt (d .port) (seatPlace (keysOf d) a)) a x start W room in
               ap (λ (p : Port). record { said = saidOf (m .given); drive = with-port d (withLogin p (m .at) (m .login)) }) (keep-is (d .port))
               ∙ ap (served d) (next-seat (d .unit) (d .port) (keysOf d) a x start W (seated w a) room)
 
   pub next-turn-buffer : (a x start : ℕ) (W l : List ℕ) → nextTurnBuffer (viewOf d a) a x start W l ≡ nextFrameBuffer d a x start W l
-  unfolding nextTurnBuffer nextFrameBuffer
+  unfolding nextTurnBuffer nextFrameBuffer viewOf
   next-turn-buffer a x start W l = rw (fine-is d a) (by (shortBuffer (length l)) (wellFormed (d .unit) (d .port)) refl)
     where
       by : (s b : Bool) → wellFormed (d .unit) (d .port) ≡ b
           → cond s l (cond (not b) l (bufferSeat (viewOf d a .unit) (viewOf d a .own) (viewOf d a .keys) (viewOf d a .login) a x start W l)) ≡ cond s l (cond (not b) l (nextBuffer (d .unit) (d .port) a x start W l))
-      unfolding viewOf
       by true b w = refl
       by false false w = refl
       by false true w = buffer-seat (d .unit) (d .port) (keysOf d) a x start W (seated w a) l
 
   -- an event is the answer to its turn
   pub event-turn : length (d .port .logins) ≡ 8 → (e : Event) → answerTo d (eventTurn (viewOf d 0) e) ≡ eventAnswer d e
-  unfolding eventTurn eventAnswer
+  unfolding eventTurn eventAnswer changedAll poweredOn viewOf afterEvent
   event-turn len e = rw (fine-is d 0) (by (wellFormed (d .unit) (d .port)))
     where
       -- power on leaves eight empty logins
@@ -164,13 +162,11 @@ module _ (d : Drive) where
       ended (l ∷ ls) = ap (λ (ms : List Login). emptyLogin ∷ ms) (ended ls)
 
       after : (e : Event) → changedAll (changeOf e) (d .port) ≡ portAfter e (d .port)
-      unfolding changedAll poweredOn
       after LoopReset = refl
       after TimeOver = refl
       after PowerOn = ap (λ (ls : List Login). record { address = d .port .address; accept = d .port .accept; logins = ls }) (ended (d .port .logins) ∙ ap (λ (n : ℕ). replicate n emptyLogin) len)
 
       by : (b : Bool) → answerTo d (cond b (record { said = Sent 0; change = changeOf e; at = seatPlace (viewOf d 0 .keys) 0; login = changedOf (changeOf e) (viewOf d 0 .login) }) (stays IllFormed (viewOf d 0) 0)) ≡ cond b (silent (afterEvent e d)) (refused IllFormed d)
-      unfolding viewOf afterEvent
       by true = ap (λ (p : Port). silent (with-port d p)) (changed-put (d .port) (changeOf e) (seatPlace (keysOf d) 0) ∙ after e)
       by false = stays-is d 0 IllFormed
 

@@ -1,4 +1,8 @@
 -- `drive::decide` meets its contract: a kind an arm. Assumes nothing.
+use Prim.Native.Nat.{ℕ}
+use mathlib.Core.Path.{ap, _∙_}
+use Rattle.reply.specs.declared.Reply.the-variants as reply
+use Rattle.link.specs.Turn.{placedAs}
 use borrow.Author.Needs.{needs}
 use Rattle.drive.proofs.decide.Statement.{statement}
 use Rattle.drive.proofs.decide.Tie as tie
@@ -7,7 +11,8 @@ returns : tie.Need-returns
 returns c = rw (c .before .enum-told .given .1) (c .link .ensures)
 
 returns-2 : tie.Need-returns-2
-returns-2 c = rw (c .before .enum-told2 .given .1) ?
+returns-2 c =
+    rw (c .before .before .enum-told2 .given .1) (c .place-as .ensures ∙ ap (λ (i : ℕ). placedAs reply.Nothing i (c .before .before .before .before .before .before .before .before .args .v .login)) (c .before .seat-place .ensures .0))
 
 returns-3 : tie.Need-returns-3
 returns-3 c = rw (c .before .enum-told3 .given .1) (c .abts .ensures)
@@ -22,6 +27,7 @@ decide-spec =
     (λ c. search needs)
     (λ c κs. search needs)
     (λ c. search needs)
+    (λ c κs. search needs)
     (λ c κs. search needs)
     (λ c. search needs)
     (λ c κs. search needs)

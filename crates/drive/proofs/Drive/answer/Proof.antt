@@ -8,7 +8,7 @@ use Rattle.drive.proofs.Drive.answer.Tie as tie
 
 returns : tie.Need-returns
 returns c =
-    let a = c .before .before .before .before .before .before .args in
+    let a = c .before .before .before .before .before .args in
     let q = c .put-login .ensures ∙ ap (λ (p : Port). withLogin p (a .t .at) (a .t .login)) (c .before .change-all .ensures) in
     λ i. record { said = a .t .said; drive = record { unit = a .self .unit; port = q i } }
 

@@ -1,0 +1,25 @@
+-- `drive::Drive::event` meets its contract: the answer to its turn. Assumes nothing.
+use mathlib.Core.Path.{ap, _∙_}
+use Rattle.drive.specs.declared.View.{View}
+use Rattle.drive.specs.Turn.{eventTurn, answerTo}
+use Rattle.drive.proofs.Shape.{drive-8}
+use Rattle.drive.proofs.Turns.{event-turn}
+use borrow.Author.Needs.{needs}
+use Rattle.drive.proofs.Drive.event.Statement.{statement}
+use Rattle.drive.proofs.Drive.event.Tie as tie
+
+returns : tie.Need-returns
+returns c =
+    let s = c .before .before .before in
+    let a = s .args in
+    let t = c .before .event-turn .ensures ∙ ap (λ (v : View). eventTurn v (a .e)) (c .before .before .view .ensures) in
+    c .answer .ensures ∙ ap (answerTo (a .self)) t ∙ event-turn (a .self) (drive-8 (a .self) _ (s .good .0)) (a .e)
+
+pub event-spec : {M : Type 1} → statement M
+event-spec =
+    tie.close
+    (tie.spec
+    (λ c κs. search needs)
+    (λ c κs. search needs)
+    (λ c κs. search needs)
+    returns)
