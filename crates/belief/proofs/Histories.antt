@@ -24,7 +24,7 @@ use Rattle.link.specs.Link.{sizeOf, newLogin, outcomeOf, plogiOf, pageFine, pai
 use Rattle.link.specs.Record.{Kept, out, held, keptFrom, recordOf}
 use Rattle.command.specs.Command.{loggedOut, commandOf}
 use Rattle.serve.specs.Next.{ownOf}
-use Rattle.arrival.specs.Arrival.{badSize, badSource, knownPair, unknownForm, spared, unprovenLogin, unprovenCall, kindOf, judgedOf}
+use Rattle.arrival.specs.Arrival.{badSize, badSource, knownPair, unknownForm, spared, unprovenLogin, unprovenCall, kindOf, judgedBy, judgedOf}
 use Rattle.drive.specs.Drive.{madeFrom, afterEvent, eventAnswer}
 use Rattle.drive.specs.Entry.{replyBytes, frameIn, frameInBuffer}
 use Rattle.demands.specs.Numbers.{made, plogi, prli, ready}
@@ -107,7 +107,7 @@ pub record NotEmpty : Type 0 where
   pub so : recordOf (world corrected .drive .port) 0x01 ≡ out
 
 pub not-empty : NotEmpty
-unfolding frameIn frameInBuffer replyBytes judgedOf headerOf headerBytes badSize badSource knownPair unknownForm spared unprovenLogin unprovenCall kindOf validAddress madeFrom wellFormed setupRules setupPasses paramsOf sizeFails zeroName verdictOf loginFine usedFine flagsFine addressFine paramsFine exchangeFine apartId apartAddress findLogin freeLogin findExchange hasAddress hasId loginAt withLogin endedOf changedAll bytesOf filled onto answerHead logoutHead shortBytes loginBytes pairBytes logoutBytes linkOf sizeOf plogiOf outcomeOf newLogin serviceOf prliOf pairFine pageFine commandOf loggedOut recordOf ownOf eventAnswer afterEvent poweredOn logs-in pairs asks
+unfolding frameIn frameInBuffer replyBytes judgedOf judgedBy headerOf headerBytes badSize badSource knownPair unknownForm spared unprovenLogin unprovenCall kindOf validAddress madeFrom wellFormed setupRules setupPasses paramsOf sizeFails zeroName verdictOf loginFine usedFine flagsFine addressFine paramsFine exchangeFine apartId apartAddress findLogin freeLogin findExchange hasAddress hasId loginAt withLogin endedOf changedAll bytesOf filled onto answerHead logoutHead shortBytes loginBytes pairBytes logoutBytes linkOf sizeOf plogiOf outcomeOf newLogin serviceOf prliOf pairFine pageFine commandOf loggedOut recordOf ownOf eventAnswer afterEvent poweredOn logs-in pairs asks
 not-empty =
     record {
       keeps = (tt, (tt, (tt, (tt, tt))));

@@ -3,3 +3,4 @@ mod Events
 mod Laws
 mod Lent
 mod Logins
+mod Reached

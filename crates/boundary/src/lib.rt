@@ -173,8 +173,11 @@ fn is_reached(k: u64, c: Change) -> bool
         Change::Keep => false,
         Change::EndAll => true,
         Change::EndLogin(address) => k == 2 + address as u64,
+        Change::Unprove => k != 1,
+        Change::EndUnproven => k != 1,
         Change::EndExchangesOf(address) => k == 2 + address as u64,
-        _ => k != 1,
+        Change::Reset => k != 1,
+        Change::Clear(_) => k != 1,
     }
 }
 

@@ -15,13 +15,13 @@ use Rattle.command.specs.Cmnd.{cmndOf, malformed, taskFor, taskOf}
 use Rattle.command.specs.Tests.{skips, otherUnit, attends, unknownCode, inquiryField, capacityField, fieldSet, outside, exchangeFor, askedOf}
 use Rattle.command.specs.Command.{refusedWith, toldOf, answerOf, executeOf, commandedAt, commandOf}
 use Rattle.serve.specs.Next.{hasMore, readsMore, coverOf, placeOf, frameOf, nextReply, nextExchange, sourceOf, ownOf, askedBy, openStep, stepOf, frameBytes, portAfter, nextOf, nextBuffer}
-use Rattle.arrival.specs.Arrival.{badSize, badSource, knownPair, unknownForm, spared, unprovenLogin, unprovenCall, kindOf, judgedOf}
+use Rattle.arrival.specs.Arrival.{badSize, badSource, knownPair, unknownForm, spared, unprovenLogin, unprovenCall, kindOf, judgedBy, judgedOf}
 use Rattle.drive.specs.Drive.{madeFrom}
 use Rattle.drive.specs.Entry.{replyBytes, frameIn, frameInBuffer, nextFrame, nextFrameBuffer}
 use Rattle.demands.specs.Numbers.{KnownNumbers}
 
 pub known-numbers : KnownNumbers
-unfolding frameIn frameInBuffer replyBytes judgedOf headerOf headerBytes badSize badSource knownPair unknownForm spared unprovenLogin unprovenCall kindOf validAddress madeFrom wellFormed setupRules setupPasses paramsOf sizeFails zeroName verdictOf loginFine usedFine flagsFine addressFine paramsFine exchangeFine apartId apartAddress wantedFits readFits sentFits findLogin freeLogin findExchange freeExchange hasAddress hasId loginAt exchangeAt withLogin withExchange endedOf changedAll bytesOf filled onto answerHead dataHead shortBytes loginBytes pairBytes rejectBytes statusBytes codeBytes senseBytes residualOf linkOf sizeOf plogiOf outcomeOf newLogin serviceOf prliOf pairFine pageFine cmndOf malformed taskFor taskOf skips otherUnit attends unknownCode inquiryField capacityField fieldSet outside exchangeFor askedOf refusedWith toldOf answerOf executeOf commandedAt commandOf nextFrame nextFrameBuffer lookupOf hasMore readsMore coverOf placeOf frameOf nextReply nextExchange sourceOf ownOf askedBy openStep stepOf frameBytes portAfter nextOf nextBuffer
+unfolding frameIn frameInBuffer replyBytes judgedOf judgedBy headerOf headerBytes badSize badSource knownPair unknownForm spared unprovenLogin unprovenCall kindOf validAddress madeFrom wellFormed setupRules setupPasses paramsOf sizeFails zeroName verdictOf loginFine usedFine flagsFine addressFine paramsFine exchangeFine apartId apartAddress wantedFits readFits sentFits findLogin freeLogin findExchange freeExchange hasAddress hasId loginAt exchangeAt withLogin withExchange endedOf changedAll bytesOf filled onto answerHead dataHead shortBytes loginBytes pairBytes rejectBytes statusBytes codeBytes senseBytes residualOf linkOf sizeOf plogiOf outcomeOf newLogin serviceOf prliOf pairFine pageFine cmndOf malformed taskFor taskOf skips otherUnit attends unknownCode inquiryField capacityField fieldSet outside exchangeFor askedOf refusedWith toldOf answerOf executeOf commandedAt commandOf nextFrame nextFrameBuffer lookupOf hasMore readsMore coverOf placeOf frameOf nextReply nextExchange sourceOf ownOf askedBy openStep stepOf frameBytes portAfter nextOf nextBuffer
 known-numbers =
     record {
       frame-20 = refl;

@@ -1,5 +1,5 @@
 -- `boundary::code` meets its contract: a refusal's number is added to 65,536. Assumes nothing.
-use mathlib.Core.Path.{ap, _∙_, sym}
+use mathlib.Core.Path.{ap}
 use Prim.Native.Nat.{ℕ, _+_}
 use borrow.Author.Needs.{needs}
 use Rattle.boundary.proofs.code.Statement.{statement}
