@@ -1,5 +1,4 @@
 mod Elements
-mod Events
 mod Laws
 mod Lent
 mod Logins

@@ -19,7 +19,7 @@ returns-7 : tie.Need-returns-7
 returns-7 c = rw (c .enum-told5 .given .1)
 
 returns-8 : tie.Need-returns-8
-returns-8 c = rw (c .before .c3 .given .1)
+returns-8 c = rw (c .enum-told6 .given .1)
 
 pub is-reached-spec : {M : Type 1} → statement M
 is-reached-spec =
