@@ -1,7 +1,7 @@
 -- `boundary::sender` meets its contract: S_ID of the header that was read. Assumes nothing.
 use mathlib.Core.Path.{ap}
-use Rattle.frame.specs.declared.Header.{Header}
 use borrow.Author.Needs.{needs}
+use Rattle.frame.specs.declared.Header.{Header}
 use Rattle.boundary.proofs.sender.Statement.{statement}
 use Rattle.boundary.proofs.sender.Tie as tie
 
