@@ -1,7 +1,7 @@
 -- The lent drive after a turn is the drive of the answer to it, where the turn keeps every login and where all logins are fine: a login that a change does not reach, by its key, is one that the change leaves as it is. Assumes nothing.
 use Prim.Native.Nat.{ℕ, _+_, _<_}
 use mathlib.Core.Path.{_≡_, refl, sym, ap, _∙_}
-use mathlib.Core.Bool.{Bool, true, false, cond, not, _&&_}
+use mathlib.Core.Bool.{Bool, true, false, cond}
 use mathlib.Core.List.{List, [], _∷_, map, map-id}
 use native.Mathlib.Decide.{ℕ-discrete}
 use native.Mathlib.Omega.{arith}
@@ -17,13 +17,16 @@ use Rattle.state.specs.Changes.{isUsed, hasAddress, endedOf, unproven, verified
 use Rattle.frame.specs.Head.{headerOf}
 use Rattle.formed.specs.Formed.{loginFine, wellFormed}
 use Rattle.formed.specs.Keys.{keyOf, loginKey}
-use Rattle.formed.proofs.Parts.{Formed, formed-parts}
+use Rattle.formed.proofs.Parts.{formed-parts}
+use Rattle.arrival.specs.declared.Refusal.the-variants.{ShortBuffer}
+use Rattle.arrival.specs.Arrival.{shortBuffer, judgedBy, judgedOf}
 use Rattle.drive.specs.declared.Answer.{Answer}
 use Rattle.drive.specs.declared.Drive.{Drive}
 use Rattle.drive.specs.declared.Event.{Event}
+use Rattle.drive.specs.declared.Said.the-variants.{Refused}
 use Rattle.drive.specs.declared.Turn.{Turn}
-use Rattle.drive.specs.Drive.{eventAnswer}
-use Rattle.drive.specs.Entry.{frameIn, nextFrame}
+use Rattle.drive.specs.Drive.{refused, eventAnswer}
+use Rattle.drive.specs.Entry.{frameIn, frameInBuffer, nextFrame, nextFrameBuffer}
 use Rattle.drive.specs.Turn.{keysOf, viewOf, frameTurn, nextTurn, eventTurn, answerTo}
 use Rattle.drive.proofs.Turns.{fine-is, frame-turn, frame-within, frame-keeps, next-turn, next-within, next-keeps, event-turn, event-within, event-keeps}
 use Rattle.boundary.specs.Boundary.{codeOf, Told}
@@ -102,6 +105,34 @@ module _ (d : Drive) (x : ℕ) where
         within = within;
         told = (ap (λ (z : Answer). codeOf (z .said)) e, ap (λ (ks : List ℕ). settledOf d ks t) (map-id (viewOf d x .keys) ∙ keys-seen) ∙ settled-answer d t keeps ∙ ap (λ (z : Answer). z .drive) e);
       }
+
+-- and a buffer that is too short is answered, with the drive as it was
+short : {d : Drive} {a : Answer} → a ≡ refused ShortBuffer d → Told a (codeOf (Refused ShortBuffer)) d
+short e = (ap (λ (z : Answer). codeOf (z .said)) (sym e), ap (λ (z : Answer). z .drive) (sym e))
+
+-- a buffer that is too short is refused before all else, and left as it was
+module _ (d : Drive) where
+  frame-short : (f : List ℕ) (room : ℕ) → shortBuffer room ≡ true → frameIn d f room ≡ refused ShortBuffer d
+  unfolding frameIn judgedOf judgedBy
+  frame-short f room e = rw e
+
+  pub frame-short-buffer : (f l : List ℕ) → shortBuffer (length l) ≡ true → frameInBuffer d f l ≡ l
+  unfolding frameInBuffer judgedOf judgedBy
+  frame-short-buffer f l e = rw e
+
+  next-short : (a x start : ℕ) (W : List ℕ) (room : ℕ) → shortBuffer room ≡ true → nextFrame d a x start W room ≡ refused ShortBuffer d
+  unfolding nextFrame
+  next-short a x start W room e = rw e
+
+  pub next-short-buffer : (a x start : ℕ) (W l : List ℕ) → shortBuffer (length l) ≡ true → nextFrameBuffer d a x start W l ≡ l
+  unfolding nextFrameBuffer
+  next-short-buffer a x start W l e = rw e
+
+pub frame-refused : (d : Drive) (f : List ℕ) (room : ℕ) → shortBuffer room ≡ true → Told (frameIn d f room) (codeOf (Refused ShortBuffer)) d
+frame-refused d f room s = short (frame-short d f room s)
+
+pub next-refused : (d : Drive) (a x start : ℕ) (bytes : List ℕ) (room : ℕ) → shortBuffer room ≡ true → Told (nextFrame d a x start bytes room) (codeOf (Refused ShortBuffer)) d
+next-refused d a x start bytes room s = short (next-short d a x start bytes room s)
 
 pub event-settles : (d : Drive) (e : Event) → length (viewOf d 0 .keys) ≡ 8 → Settles d 0 (eventTurn (viewOf d 0) e) (eventAnswer d e)
 event-settles d e len =
