@@ -8,7 +8,6 @@ use drive::Turn;
 use drive::View;
 use formed::login_key;
 use frame::Header;
-use frame::read_header;
 use reply::Own;
 use seat::seat_place;
 use state::Change;
@@ -16,6 +15,7 @@ use state::Port;
 use state::Setup;
 use state::changed;
 use window::next_turn;
+use wire::be24;
 use wire::put_front;
 ghost use mathlib.Core.Path.{_≡_};
 ghost use Prim.Native.Nat.{_<_, _≤_};
@@ -185,8 +185,7 @@ fn is_reached(k: u64, c: Change) -> bool
 fn sender(frame: &[u8]) -> u32
     ensures { λ r. ⌜ r ≡ headerOf (now (frame .entry)) .«s_id» ⌝ }
 {
-    let h = read_header(frame);
-    h.s_id
+    be24(frame, 5)
 }
 
 fn loop_reset(v: View) -> Turn

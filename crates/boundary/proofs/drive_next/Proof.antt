@@ -256,9 +256,19 @@ module _ {M : Type 1} (𝓤 : URA M) (H : Heap 𝓤) (A : Atoms 𝓤) (W : Given
 
   f-meets : Meets 𝓤 H A f.signature (WpFn 𝓤 H (𝓣 .C) (𝓣 .Λ) code.function) (f.spec 𝓤 H A mem run)
   f-meets =
-      walk-meets 𝓤 H A f.ended stayed W
-      (goes-ref 𝓤 H A W 3 0 tt (plain (λ _. Dr.the-row)), (goes-none 𝓤 H A W 3 (λ _. u32) yes (λ κs x f. refl), (goes-none 𝓤 H A W 3 (λ _. u16) yes (λ κs x f. refl), (goes-none 𝓤 H A W 3 (λ _. u64) yes (λ κs x f. refl),
-      (goes-none-slice 𝓤 H A W 3 (1 ∷ []) tt (plain (λ _. u8)) yes, (goes-gave-slice 𝓤 H A W 3 2 tt (plain (λ _. u8)), tt)))))) (f.clauses 𝓤 H A mem run)
+      walk-meets 𝓤 H A f.ended stayed W (
+        goes-ref 𝓤 H A W 3 0 tt (plain (λ _. Dr.the-row)),
+        (
+          goes-none 𝓤 H A W 3 (λ _. u32) yes (λ κs x f. refl),
+          (
+            goes-none 𝓤 H A W 3 (λ _. u16) yes (λ κs x f. refl),
+            (
+              goes-none 𝓤 H A W 3 (λ _. u64) yes (λ κs x f. refl),
+              (goes-none-slice 𝓤 H A W 3 (1 ∷ []) tt (plain (λ _. u8)) yes, (goes-gave-slice 𝓤 H A W 3 2 tt (plain (λ _. u8)), tt)),
+            ),
+          ),
+        ),
+      ) (f.clauses 𝓤 H A mem run)
       (WpFn 𝓤 H (𝓣 .C) (𝓣 .Λ) code.function) (WpFn-mono 𝓤 H (W .laws) 𝓣 code.function) f-walks
 
 pub drive-next-spec : {M : Type 1} → stated.statement M

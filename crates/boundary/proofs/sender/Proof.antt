@@ -1,12 +1,12 @@
--- `boundary::sender` meets its contract: S_ID of the header that was read. Assumes nothing.
-use mathlib.Core.Path.{ap}
+-- `boundary::sender` meets its contract: bytes 5 to 7 of the frame. Assumes nothing.
 use borrow.Author.Needs.{needs}
-use Rattle.frame.specs.declared.Header.{Header}
+use Rattle.frame.specs.Head.{headerOf}
 use Rattle.boundary.proofs.sender.Statement.{statement}
 use Rattle.boundary.proofs.sender.Tie as tie
 
 returns : tie.Need-returns
-returns c = ap (λ (h : Header). h .«s_id») (c .read-header .ensures)
+unfolding headerOf
+returns c = c .be24 .ensures
 
 pub sender-spec : {M : Type 1} → statement M
 sender-spec =
