@@ -1,6 +1,7 @@
 //! What is timed: a state, and a call on it.
+use crate::drive::Event;
 use crate::rule;
-use crate::scene::{plogi, read, test_unit_ready, unknown, Both, Call, HOSTS, ROOM};
+use crate::scene::{logo, plogi, read, target_reset, test_unit_ready, unknown, Both, Call, HOSTS, ROOM};
 use crate::side::REFUSED;
 
 pub struct Row {
@@ -71,15 +72,20 @@ fn entries() -> Vec<Row> {
     let host = HOSTS[0];
     vec![
         Row::new("PLOGI to ACC", Both::empty(), Call::frame(plogi(host, 2048)), 1, 140),
+        Row::new("LOGO to ACC", Both::one(2048), Call::frame(logo(host)), 1, 28),
         Row::new("TEST UNIT READY", Both::one(2048), Call::frame(test_unit_ready(host)), MANY, 48),
         Row::new("READ opened", Both::one(2048), Call::frame(read(host, READ, 256)), 1, 0),
+        Row::new("target reset", reading(2048), Call::frame(target_reset(host)), MANY, 56),
         Row::data("data frame 2,048", reading(2048), 2048),
         Row::data("data frame 256", reading(256), 256),
         Row::new("FCP_RSP after data", sent(), Call::next(READ), 1, 48),
         Row::data("data frame 2,048, full", Both::full(2048), 2048),
         Row::data("data frame 256, full", Both::full(256), 256),
-        Row::new("loop reset", reading(2048), Call::LoopReset, MANY, 0),
-        Row::new("loop reset, full", Both::full(2048), Call::LoopReset, MANY, 0),
+        Row::new("loop reset", reading(2048), Call::Event(Event::LoopReset), MANY, 0),
+        Row::new("loop reset, full", Both::full(2048), Call::Event(Event::LoopReset), MANY, 0),
+        Row::new("time over", reading(2048), Call::Event(Event::TimeOver), MANY, 0),
+        Row::new("power on", reading(2048), Call::Event(Event::PowerOn), 1, 0),
+        Row::new("power on, full", Both::full(2048), Call::Event(Event::PowerOn), 1, 0),
     ]
 }
 
@@ -94,8 +100,8 @@ fn refusals() -> Vec<Row> {
         Row::refused("refusal 2, full", ill_formed(), Call::frame(ready()), 2),
         Row::refused("refusal 3", reading(2048), Call::frame(ready()[..20].to_vec()), 3),
         Row::refused("refusal 6", reading(2048), Call::frame(unknown(host)), 6),
-        Row::refused("frame in, refusal 7", reading(2048).after(&Call::LoopReset), Call::frame(ready()), 7),
-        Row::refused("next, refusal 7", reading(2048).after(&Call::LoopReset), Call::next(READ), 7),
+        Row::refused("frame in, refusal 7", reading(2048).after(&Call::Event(Event::LoopReset)), Call::frame(ready()), 7),
+        Row::refused("next, refusal 7", reading(2048).after(&Call::Event(Event::LoopReset)), Call::next(READ), 7),
         Row::refused("refusal 9", reading(2048), Call::next(READ + 9), 9),
     ]
 }

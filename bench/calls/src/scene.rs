@@ -1,6 +1,6 @@
 //! The frames and the drives that are timed. Drive and model go through the same calls, and must answer alike.
 pub use crate::drive::ROOM;
-use crate::drive::{Drive, Window};
+use crate::drive::{Drive, Event, Window};
 use crate::setup::Setup;
 use crate::side::{Side, State, Tested};
 
@@ -52,6 +52,14 @@ pub fn prli(from: u32) -> Vec<u8> {
     frame(0x22, 0x01, from, 0x0101, &[0x20, 0x10, 0, 0x14, 0x08, 0, 0x20, 0, 0, 0, 0, 0, 0, 0, 0, 0, 0, 0, 0, 0x22])
 }
 
+/// LOGO of the sender itself.
+pub fn logo(from: u32) -> Vec<u8> {
+    let mut payload = [0; 16];
+    payload[0] = 0x05;
+    payload[7] = from as u8;
+    frame(0x22, 0x01, from, 0x0102, &payload)
+}
+
 /// FCP_CMND of this command block and FCP_DL.
 fn command(from: u32, ox_id: u16, cdb: &[u8], expected: u32) -> Vec<u8> {
     let mut payload = [0; 32];
@@ -63,6 +71,13 @@ fn command(from: u32, ox_id: u16, cdb: &[u8], expected: u32) -> Vec<u8> {
 
 pub fn test_unit_ready(from: u32) -> Vec<u8> {
     command(from, 0x0200, &[0; 6], 0)
+}
+
+/// FCP_CMND with the task flag 20h.
+pub fn target_reset(from: u32) -> Vec<u8> {
+    let mut f = command(from, 0x0201, &[0; 6], 0);
+    f[24 + 10] = 0x20;
+    f
 }
 
 /// READ(10) of so many blocks from `BLOCK` on.
@@ -143,7 +158,7 @@ pub fn window() -> Vec<u8> {
 pub enum Call {
     Frame { frame: Vec<u8>, room: usize },
     Next { address: u32, ox_id: u16, room: usize },
-    LoopReset,
+    Event(Event),
 }
 
 impl Call {
@@ -161,7 +176,7 @@ impl Call {
             Call::Next { address, ox_id, room } => {
                 side.next(*address, *ox_id, Window { start: BLOCK, bytes: window }, &mut reply[..*room])
             }
-            Call::LoopReset => side.loop_reset(),
+            Call::Event(event) => side.event(*event),
         }
     }
 }

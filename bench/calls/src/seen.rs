@@ -1,5 +1,5 @@
 //! The drive again with every copy of its code counted: the same archive, to each of whose names bench/run put `seen_`.
-use crate::drive::Window;
+use crate::drive::{Event, Window};
 use crate::side::{Side, State};
 use std::cell::Cell;
 
@@ -25,6 +25,8 @@ extern "C" {
         room: usize,
     ) -> u64;
     fn seen_drive_loop_reset(d: &mut State) -> u64;
+    fn seen_drive_time_over(d: &mut State) -> u64;
+    fn seen_drive_power_on(d: &mut State) -> u64;
 }
 
 /// # Safety
@@ -67,7 +69,11 @@ impl Side for Seen {
         unsafe { seen_drive_next(&mut self.0, address, ox_id, w.start, window, n, reply.as_mut_ptr(), reply.len()) }
     }
 
-    fn loop_reset(&mut self) -> u64 {
-        unsafe { seen_drive_loop_reset(&mut self.0) }
+    fn event(&mut self, event: Event) -> u64 {
+        match event {
+            Event::LoopReset => unsafe { seen_drive_loop_reset(&mut self.0) },
+            Event::TimeOver => unsafe { seen_drive_time_over(&mut self.0) },
+            Event::PowerOn => unsafe { seen_drive_power_on(&mut self.0) },
+        }
     }
 }

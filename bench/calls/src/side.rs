@@ -8,7 +8,7 @@ pub const REFUSED: u64 = 65_536;
 pub trait Side: Clone {
     fn frame(&mut self, frame: &[u8], reply: &mut [u8]) -> u64;
     fn next(&mut self, address: u32, ox_id: u16, window: Window, reply: &mut [u8]) -> u64;
-    fn loop_reset(&mut self) -> u64;
+    fn event(&mut self, event: Event) -> u64;
 }
 
 /// The drive's state, as the boundary lends it.
@@ -33,6 +33,8 @@ extern "C" {
         room: usize,
     ) -> u64;
     fn drive_loop_reset(d: &mut State) -> u64;
+    fn drive_time_over(d: &mut State) -> u64;
+    fn drive_power_on(d: &mut State) -> u64;
 }
 
 impl State {
@@ -59,8 +61,12 @@ impl Side for State {
     }
 
     #[inline(always)]
-    fn loop_reset(&mut self) -> u64 {
-        unsafe { drive_loop_reset(self) }
+    fn event(&mut self, event: Event) -> u64 {
+        match event {
+            Event::LoopReset => unsafe { drive_loop_reset(self) },
+            Event::TimeOver => unsafe { drive_time_over(self) },
+            Event::PowerOn => unsafe { drive_power_on(self) },
+        }
     }
 }
 
@@ -87,8 +93,8 @@ impl Side for Bare {
     }
 
     #[inline(never)]
-    fn loop_reset(&mut self) -> u64 {
-        self.0.event(Event::LoopReset);
+    fn event(&mut self, event: Event) -> u64 {
+        self.0.event(event);
         0
     }
 }
@@ -125,11 +131,11 @@ impl Side for Tested {
     }
 
     #[inline(never)]
-    fn loop_reset(&mut self) -> u64 {
+    fn event(&mut self, event: Event) -> u64 {
         if !self.well_formed() {
             return REFUSED + 2;
         }
-        self.0.event(Event::LoopReset);
+        self.0.event(event);
         0
     }
 }
@@ -153,7 +159,7 @@ impl Side for Nothing {
         nothing(self)
     }
 
-    fn loop_reset(&mut self) -> u64 {
+    fn event(&mut self, _: Event) -> u64 {
         nothing(self)
     }
 }

@@ -1,5 +1,6 @@
 //! One table: each row timed, all sides in turn, and printed.
 use crate::count::Counts;
+use crate::drive::Event;
 use crate::rows::{Row, MANY};
 use crate::rule;
 use crate::scene::{Both, Call};
@@ -102,7 +103,7 @@ fn best<T>(calls: usize, mut work: impl FnMut() -> T) -> f64 {
 /// What refusal 1 has to be held against.
 fn boundary(lent: &mut Lent) {
     let mut none = [Nothing; STATES];
-    let call = best(STATES * MANY, || batch(&mut none, &Call::LoopReset, MANY, lent));
+    let call = best(STATES * MANY, || batch(&mut none, &Call::Event(Event::LoopReset), MANY, lent));
     let size = std::mem::size_of::<State>();
     let (from, mut to) = (vec![0u8; size], vec![0u8; size]);
     let state = best(1, || black_box(&mut to[..]).copy_from_slice(black_box(&from)));

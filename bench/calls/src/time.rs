@@ -35,7 +35,7 @@ pub fn batch<S: Side>(states: &mut [S], call: &Call, rounds: usize, lent: &mut L
             let reply = &mut lent.reply[..*room];
             each(states, rounds, |s| sum += s.next(*address, *ox_id, black_box(window), black_box(&mut *reply)));
         }
-        Call::LoopReset => each(states, rounds, |s| sum += s.loop_reset()),
+        Call::Event(event) => each(states, rounds, |s| sum += s.event(*event)),
     }
     sum
 }
