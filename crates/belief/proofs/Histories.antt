@@ -15,7 +15,7 @@ use Rattle.wire.specs.Layout.{AllBytes}
 use Rattle.frame.specs.Head.{headerOf, headerBytes}
 use Rattle.address.specs.Address.{validAddress}
 use Rattle.params.specs.Words.{paramsOf, sizeFails, zeroName, verdictOf, setupPasses}
-use Rattle.state.specs.Changes.{loginAt, withLogin, hasAddress, endedOf, changedAll, poweredOn}
+use Rattle.state.specs.Changes.{loginAt, withLogin, hasAddress, freedOf, endedOf, changedAll}
 use Rattle.state.specs.Tables.{hasId, findLogin, freeLogin, findExchange}
 use Rattle.formed.specs.Formed.{setupRules, exchangeFine, apartId, paramsFine, flagsFine, addressFine, usedFine, loginFine, apartAddress, wellFormed}
 use Rattle.reply.specs.Payload.{shortBytes, loginBytes, pairBytes, logoutBytes}
@@ -107,7 +107,7 @@ pub record NotEmpty : Type 0 where
   pub so : recordOf (world corrected .drive .port) 0x01 ≡ out
 
 pub not-empty : NotEmpty
-unfolding frameIn frameInBuffer replyBytes judgedOf judgedBy headerOf headerBytes badSize badSource knownPair unknownForm spared unprovenLogin unprovenCall kindOf validAddress madeFrom wellFormed setupRules setupPasses paramsOf sizeFails zeroName verdictOf loginFine usedFine flagsFine addressFine paramsFine exchangeFine apartId apartAddress findLogin freeLogin findExchange hasAddress hasId loginAt withLogin endedOf changedAll bytesOf filled onto answerHead logoutHead shortBytes loginBytes pairBytes logoutBytes linkOf sizeOf plogiOf outcomeOf newLogin serviceOf prliOf pairFine pageFine commandOf loggedOut recordOf ownOf eventAnswer afterEvent poweredOn logs-in pairs asks
+unfolding frameIn frameInBuffer replyBytes judgedOf judgedBy headerOf headerBytes badSize badSource knownPair unknownForm spared unprovenLogin unprovenCall kindOf validAddress madeFrom wellFormed setupRules setupPasses paramsOf sizeFails zeroName verdictOf loginFine usedFine flagsFine addressFine paramsFine exchangeFine apartId apartAddress findLogin freeLogin findExchange hasAddress hasId loginAt withLogin endedOf changedAll bytesOf filled onto answerHead logoutHead shortBytes loginBytes pairBytes logoutBytes linkOf sizeOf plogiOf outcomeOf newLogin serviceOf prliOf pairFine pageFine commandOf loggedOut recordOf ownOf eventAnswer afterEvent freedOf logs-in pairs asks
 not-empty =
     record {
       keeps = (tt, (tt, (tt, (tt, tt))));

@@ -13,7 +13,7 @@ use Rattle.tables.proofs.Bools.{and-left, and-right}
 use Rattle.state.specs.declared.Login.{Login}
 use Rattle.state.specs.declared.Change.{Change}
 use Rattle.state.specs.declared.Change.the-variants.{Keep, EndAll, EndLogin, Unprove, EndUnproven, EndExchangesOf, Reset, Clear}
-use Rattle.state.specs.Changes.{isUsed, hasAddress, endedOf, unproven, verified, abortedOf, resetOf, clearedBy, withLogins, withLogin, changedOf, changedAll}
+use Rattle.state.specs.Changes.{isUsed, hasAddress, freedOf, endedOf, unproven, verified, abortedOf, resetOf, clearedBy, withLogins, withLogin, changedOf, changedAll}
 use Rattle.frame.specs.Head.{headerOf}
 use Rattle.formed.specs.Formed.{loginFine, wellFormed}
 use Rattle.formed.specs.Keys.{keyOf, loginKey}
@@ -53,9 +53,10 @@ twice false x y = refl
 module _ (capacity own : ℕ) where
   -- a login that is fine and is not reached is one that the change leaves
   reached-fine : (c : Change) (l : Login) (b : Bool) → loginFine capacity own l ≡ true → isUsed l ≡ b → cond (reaches c (loginKey capacity own l)) (changedOf c l) l ≡ changedOf c l
-  unfolding loginKey keyOf hasAddress endedOf unproven verified abortedOf resetOf clearedBy
+  unfolding loginKey keyOf hasAddress freedOf endedOf unproven verified abortedOf resetOf clearedBy
   reached-fine Keep l b f u = refl
-  reached-fine EndAll l b f u = refl
+  reached-fine EndAll l true f u = rw (f, u, used-free (l .address))
+  reached-fine EndAll l false f u = rw (f, u)
   reached-fine (EndLogin a) l true f u = rw (f, u, two-more (l .address) a) (twice (eqb (l .address) a) _ l)
   reached-fine (EndLogin a) l false f u = rw (f, u, free-used a)
   reached-fine (EndExchangesOf a) l true f u = rw (f, u, two-more (l .address) a) (twice (eqb (l .address) a) _ l)
@@ -137,7 +138,7 @@ next-refused d a x start bytes room s = short (next-short d a x start bytes room
 pub event-settles : (d : Drive) (e : Event) → length (viewOf d 0 .keys) ≡ 8 → Settles d 0 (eventTurn (viewOf d 0) e) (eventAnswer d e)
 event-settles d e len =
     settles d 0 (event-within (viewOf d 0) len e) (λ w. event-keeps (viewOf d 0) (fine-is d 0 ∙ w) e)
-    (event-turn d (sym (length-map (d .port .logins) (loginKey (d .unit .capacity) (d .port .address))) ∙ ap length (sym (keys-seen d 0)) ∙ len) e)
+    (event-turn d e)
 
 pub frame-settles : (d : Drive) (f : List ℕ) (room : ℕ) → length (viewOf d (headerOf f .«s_id») .keys) ≡ 8 → Settles d (headerOf f .«s_id») (frameTurn (viewOf d (headerOf f .«s_id»)) f room) (frameIn d f room)
 frame-settles d f room len =

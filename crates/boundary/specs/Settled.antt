@@ -12,10 +12,10 @@ use Rattle.state.specs.Changes.{withLogins, withLogin, changedOf}
 use Rattle.drive.specs.declared.Drive.{Drive}
 use Rattle.drive.specs.declared.Turn.{Turn}
 
--- a change reaches a login of this key: none where all stay, every place where all end, the login of an address, or every place that is not free
+-- a change reaches a login of this key: none where all stay, the login of an address, or every place that is not free
 abbrev pub reaches : Change → ℕ → Bool
 reaches Keep k = false
-reaches EndAll k = true
+reaches EndAll k = not (eqb k 1)
 reaches (EndLogin a) k = eqb k (2 + a)
 reaches Unprove k = not (eqb k 1)
 reaches EndUnproven k = not (eqb k 1)

@@ -171,7 +171,7 @@ fn is_reached(k: u64, c: Change) -> bool
 {
     match c {
         Change::Keep => false,
-        Change::EndAll => true,
+        Change::EndAll => k != 1,
         Change::EndLogin(address) => k == 2 + address as u64,
         Change::Unprove => k != 1,
         Change::EndUnproven => k != 1,

@@ -2,4 +2,3 @@ pub mod Ways
 pub mod Turns
 pub mod Made
 pub mod Keeping
-pub mod Shape

@@ -5,10 +5,10 @@ use Prim.Native.Nat.{ℕ}
 use native.Mathlib.Omega.{arith}
 use Rattle.tables.proofs.Bools.{apart}
 use Rattle.state.specs.declared.Setup.{Setup}
-use Rattle.state.specs.declared.Change.the-variants.{Unprove, EndUnproven}
+use Rattle.state.specs.declared.Change.the-variants.{EndAll, Unprove, EndUnproven}
 use Rattle.formed.specs.Formed.{setupRules, wellFormed}
 use Rattle.formed.proofs.Parts.{Formed, formed-parts, formed-whole}
-use Rattle.formed.proofs.Keeping.{empty-fine, empties-apart, change-kept, power-kept}
+use Rattle.formed.proofs.Keeping.{empty-fine, empties-apart, change-kept}
 use Rattle.drive.specs.declared.Drive.{Drive}
 use Rattle.drive.specs.declared.Event.{Event}
 use Rattle.drive.specs.declared.Event.the-variants.{LoopReset, TimeOver, PowerOn}
@@ -46,7 +46,7 @@ pub event-kept : (e : Event) (d : Drive) → wellFormed (d .unit) (d .port) ≡ 
 unfolding afterEvent
 event-kept LoopReset d w = change-kept (d .unit) (d .port) w Unprove
 event-kept TimeOver d w = change-kept (d .unit) (d .port) w EndUnproven
-event-kept PowerOn d w = power-kept (d .unit) (d .port) w
+event-kept PowerOn d w = change-kept (d .unit) (d .port) w EndAll
 
 -- an event is refused, with 2, exactly when the state is not well formed, and leaves it unchanged
 pub event-refused : (d : Drive) (e : Event) → wellFormed (d .unit) (d .port) ≡ false → eventAnswer d e ≡ refused IllFormed d

@@ -2,19 +2,18 @@
 use Prim.Native.Nat.{ℕ, _<_}
 use mathlib.Core.Path.{_≡_, refl, sym, ap, _∙_}
 use mathlib.Core.Bool.{Bool, true, false, cond, not, _&&_}
-use mathlib.Core.List.{List, [], _∷_, map}
+use mathlib.Core.List.{List}
 use lib.Dec.{eqb}
-use lib.ListN.{length, replicate}
+use lib.ListN.{length}
 use Rattle.tables.specs.declared.Found.{Found}
 use Rattle.tables.specs.declared.Found.the-variants.{At, Nothing}
 use Rattle.tables.specs.Lists.{onFound, all, pairs}
 use Rattle.frame.specs.declared.Header.{Header}
 use Rattle.frame.specs.Head.{headerOf}
 use Rattle.wire.specs.Bytes.{onto}
-use Rattle.state.specs.declared.Login.{Login}
 use Rattle.state.specs.declared.Port.{Port}
-use Rattle.state.specs.declared.Change.the-variants.{Keep, EndAll}
-use Rattle.state.specs.Changes.{emptyLogin, loginAt, withLogin, changedOf, changedAll, poweredOn}
+use Rattle.state.specs.declared.Change.the-variants.{Keep}
+use Rattle.state.specs.Changes.{loginAt, withLogin, changedOf, changedAll}
 use Rattle.state.specs.Tables.{findLogin}
 use Rattle.formed.specs.Formed.{setupRules, loginFine, apartAddress, wellFormed}
 use Rattle.formed.proofs.Keys.{logins-are}
@@ -152,19 +151,14 @@ module _ (d : Drive) where
       by false true w = buffer-seat (d .unit) (d .port) (keysOf d) a x start W (seated w a) l
 
   -- an event is the answer to its turn
-  pub event-turn : length (d .port .logins) ≡ 8 → (e : Event) → answerTo d (eventTurn (viewOf d 0) e) ≡ eventAnswer d e
-  unfolding eventTurn eventAnswer changedAll poweredOn viewOf afterEvent
-  event-turn len e = rw (fine-is d 0) (by (wellFormed (d .unit) (d .port)))
+  pub event-turn : (e : Event) → answerTo d (eventTurn (viewOf d 0) e) ≡ eventAnswer d e
+  unfolding eventTurn eventAnswer viewOf afterEvent
+  event-turn e = rw (fine-is d 0) (by (wellFormed (d .unit) (d .port)))
     where
-      -- power on leaves eight empty logins
-      ended : (ls : List Login) → map (changedOf EndAll) ls ≡ replicate (length ls) emptyLogin
-      ended [] = refl
-      ended (l ∷ ls) = ap (λ (ms : List Login). emptyLogin ∷ ms) (ended ls)
-
       after : (e : Event) → changedAll (changeOf e) (d .port) ≡ portAfter e (d .port)
       after LoopReset = refl
       after TimeOver = refl
-      after PowerOn = ap (λ (ls : List Login). record { address = d .port .address; accept = d .port .accept; logins = ls }) (ended (d .port .logins) ∙ ap (λ (n : ℕ). replicate n emptyLogin) len)
+      after PowerOn = refl
 
       by : (b : Bool) → answerTo d (cond b (record { said = Sent 0; change = changeOf e; at = seatPlace (viewOf d 0 .keys) 0; login = changedOf (changeOf e) (viewOf d 0 .login) }) (stays IllFormed (viewOf d 0) 0)) ≡ cond b (silent (afterEvent e d)) (refused IllFormed d)
       by true = ap (λ (p : Port). silent (with-port d p)) (changed-put (d .port) (changeOf e) (seatPlace (keysOf d) 0) ∙ after e)

@@ -7,8 +7,8 @@ use Rattle.state.specs.declared.Login.{Login}
 use Rattle.state.specs.declared.Port.{Port}
 use Rattle.state.specs.declared.Unit.{Unit}
 use Rattle.state.specs.declared.Setup.{Setup}
-use Rattle.state.specs.declared.Change.the-variants.{Unprove, EndUnproven}
-use Rattle.state.specs.Changes.{emptyLogin, changedAll, poweredOn}
+use Rattle.state.specs.declared.Change.the-variants.{EndAll, Unprove, EndUnproven}
+use Rattle.state.specs.Changes.{emptyLogin, changedAll}
 use Rattle.formed.specs.Formed.{setupRules, wellFormed}
 use Rattle.drive.specs.declared.Drive.{Drive}
 use Rattle.drive.specs.declared.Answer.{Answer}
@@ -49,7 +49,7 @@ newAnswer s = cond (setupRules (s .capacity) (s .address) (s .accept)) (silent (
 abbrev pub portAfter : Event → Port → Port
 portAfter LoopReset p = changedAll Unprove p
 portAfter TimeOver p = changedAll EndUnproven p
-portAfter PowerOn p = poweredOn p
+portAfter PowerOn p = changedAll EndAll p
 
 unfoldable pub afterEvent : Event → Drive → Drive
 afterEvent e d = record { unit = d .unit; port = portAfter e (d .port) }

@@ -17,7 +17,7 @@ use Rattle.state.specs.declared.Port.{Port}
 use Rattle.state.specs.declared.Unit.{Unit}
 use Rattle.state.specs.declared.Change.{Change}
 use Rattle.state.specs.declared.Change.the-variants.{Keep, EndAll, EndLogin, Unprove, EndUnproven, EndExchangesOf, Reset, Clear}
-use Rattle.state.specs.Changes.{emptyExchange, emptyLogin, isUsed, loginAt, exchangeAt, withLogin, withState, withProven, withPaired, withAttention, withPlaces, withExchange, withoutExchanges, hasAddress, endedOf, unproven, verified, abortedOf, resetOf, losesTo, clearedBy, changedOf, changedAll, poweredOn, isClosed}
+use Rattle.state.specs.Changes.{emptyExchange, emptyLogin, isUsed, loginAt, exchangeAt, withLogin, withState, withProven, withPaired, withAttention, withPlaces, withExchange, withoutExchanges, hasAddress, freedOf, endedOf, unproven, verified, abortedOf, resetOf, losesTo, clearedBy, changedOf, changedAll, isClosed}
 use Rattle.state.specs.Tables.{isFree, hasId, findExchange}
 use Rattle.formed.specs.Formed.{fullFrame, openable, sentFits, exchangeFine, apartId, paramsFine, flagsFine, addressFine, loginFine, apartAddress, wellFormed}
 use Rattle.formed.proofs.Parts.{Used, fine-used, used-fine, Formed, formed-parts, formed-whole}
@@ -213,9 +213,9 @@ module _ {l : Login} where
   itself = same refl refl
 
 like : (c : Change) (l : Login) → Like l (changedOf c l)
-unfolding endedOf unproven verified abortedOf resetOf clearedBy withoutExchanges
+unfolding freedOf endedOf unproven verified abortedOf resetOf clearedBy withoutExchanges
 like Keep l = itself
-like EndAll l = gone
+like EndAll l = like-cond (isUsed l) gone itself
 like (EndLogin a) l = like-cond (hasAddress a l) gone itself
 like Unprove l = like-cond (isUsed l) (same refl refl) itself
 like EndUnproven l = like-cond (isUsed l) (like-cond (eqb (l .proven) 1) itself gone) itself
@@ -245,9 +245,9 @@ module _ (capacity own : ℕ) where
   told-fine l a n h e = used-fine {l = withAttention (withoutExchanges l) a} h (attention-used (without-used (fine-used h e)) a n)
 
   change-fine : (c : Change) (l : Login) → loginFine capacity own l ≡ true → loginFine capacity own (changedOf c l) ≡ true
-  unfolding endedOf unproven verified abortedOf resetOf clearedBy
+  unfolding freedOf endedOf unproven verified abortedOf resetOf clearedBy
   change-fine Keep l e = e
-  change-fine EndAll l e = empty-fine capacity own
+  change-fine EndAll l e = fine-cond (isUsed l) emptyLogin l (λ _. empty-fine capacity own) e
   change-fine (EndLogin a) l e = fine-cond (hasAddress a l) emptyLogin l (λ _. empty-fine capacity own) e
   change-fine Unprove l e = fine-cond (isUsed l) (withProven l 0) l (λ h. used-fine {l = withProven l 0} h (proven-used (fine-used h e) 0 refl)) e
   change-fine EndUnproven l e = fine-cond (isUsed l) (cond (eqb (l .proven) 1) l emptyLogin) l (λ _. fine-cond (eqb (l .proven) 1) l emptyLogin (λ _. e) (empty-fine capacity own)) e
@@ -270,11 +270,6 @@ module _ (u : Unit) (p : Port) (w : wellFormed u p ≡ true) where
         logins = all-map (loginFine (u .capacity) (p .address)) (loginFine (u .capacity) (p .address)) (changedOf c) (change-fine (u .capacity) (p .address) c) (p .logins) (parts .logins);
         addresses = pairs-map apartAddress (changedOf c) (λ l m. like-apart (like c l) (like c m)) (p .logins) (parts .addresses);
       }
-
-  pub power-kept : wellFormed u (poweredOn p) ≡ true
-  unfolding poweredOn
-  power-kept =
-      formed-whole record { setup = parts .setup; logins = rw (empty-fine (u .capacity) (p .address)); addresses = empties-apart }
 
   -- a login that is fine, and whose address no other has, may be stored at any place
   pub store-kept : (i : ℕ) (l : Login) → loginFine (u .capacity) (p .address) l ≡ true → all (λ m. not (hasAddress (l .address) m)) (p .logins) ≡ true → wellFormed u (withLogin p i l) ≡ true

@@ -2,6 +2,7 @@
 use Prim.Native.Nat.{ℕ, _<_}
 use mathlib.Core.Path.{_≡_, refl, sym, ap, _∙_}
 use mathlib.Core.Bool.{Bool, true, false, cond, not}
+use mathlib.Core.List.{List, [], _∷_, map}
 use native.Mathlib.Omega.{arith}
 use lib.Dec.{eqb}
 use lib.ListN.{length, getD}
@@ -14,12 +15,12 @@ use Rattle.tables.proofs.Keeping.{all-at}
 use Rattle.state.specs.declared.Login.{Login}
 use Rattle.state.specs.declared.Port.{Port}
 use Rattle.state.specs.declared.Change.{Change}
-use Rattle.state.specs.declared.Change.the-variants.{EndLogin, Unprove, EndUnproven, EndExchangesOf, Reset, Clear}
-use Rattle.state.specs.Changes.{emptyLogin, isUsed, hasAddress, loginAt, withLogin, withProven, withAttention, withoutExchanges, endedOf, unproven, verified, abortedOf, resetOf, losesTo, clearedBy, changedOf, changedAll, poweredOn}
+use Rattle.state.specs.declared.Change.the-variants.{EndAll, EndLogin, Unprove, EndUnproven, EndExchangesOf, Reset, Clear}
+use Rattle.state.specs.Changes.{emptyLogin, isUsed, hasAddress, loginAt, withLogin, withProven, withAttention, withoutExchanges, freedOf, endedOf, unproven, verified, abortedOf, resetOf, losesTo, clearedBy, changedOf, changedAll}
 use Rattle.state.specs.Tables.{isFree, findLogin, freeLogin}
 use Rattle.formed.specs.Formed.{apartAddress}
 use Rattle.link.specs.Record.{Record, out, held, recordAt, recordOf, doubted}
-use Rattle.link.proofs.Seen.{shown, is-seen, free-has, empty-has, other-has, map-seen, set-seen, set-gone, set-other}
+use Rattle.link.proofs.Seen.{seen, shown, is-seen, free-has, empty-has, other-has, map-seen, set-seen, set-gone, set-other}
 
 -- what "verification time over ends the unproven ones" makes of a record
 abbrev pub expired : Record → Record
@@ -117,9 +118,21 @@ unfolding recordOf
 found-record p a i e = rw e
 
 -- "power on ends all": every record is `out`
-pub power-record : (p : Port) (a : ℕ) → recordOf (poweredOn p) a ≡ out
-unfolding poweredOn
-power-record p a = is-seen (poweredOn p) a ∙ rw (empty-has a)
+freed-has : (a : ℕ) (l : Login) → hasAddress a (freedOf l) ≡ false
+unfolding freedOf
+freed-has a l = step (isUsed l) refl
+  where
+    step : (b : Bool) → isUsed l ≡ b → hasAddress a (cond b emptyLogin l) ≡ false
+    step true e = empty-has a
+    step false e = free-has a l e
+
+pub power-record : (p : Port) (a : ℕ) → recordOf (changedAll EndAll p) a ≡ out
+unfolding changedAll
+power-record p a = is-seen (changedAll EndAll p) a ∙ none (p .logins)
+  where
+    none : (ls : List Login) → seen a (map (changedOf EndAll) ls) ≡ out
+    none [] = refl
+    none (l ∷ ls) = rw (freed-has a l) (none ls)
 
 -- changes of every login, where the addresses are distinct
 module _ (p : Port) (d : pairs apartAddress (p .logins) ≡ true) where

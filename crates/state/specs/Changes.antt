@@ -132,6 +132,10 @@ isClosed e = eqb (e .kind) 0
 unfoldable pub hasAddress : ℕ → Login → Bool
 hasAddress a l = isUsed l && eqb (l .address) a
 
+-- "power on ends all": a login ends, and a free place stays as it is
+unfoldable pub freedOf : Login → Login
+freedOf l = cond (isUsed l) emptyLogin l
+
 -- the login of an address ends, with its exchanges
 unfoldable pub endedOf : ℕ → Login → Login
 endedOf a l = cond (hasAddress a l) emptyLogin l
@@ -163,7 +167,7 @@ clearedBy from l = cond (isUsed l) (cond (losesTo from l) (withAttention (withou
 -- what a change makes of one login
 abbrev pub changedOf : Change → Login → Login
 changedOf Keep l = l
-changedOf EndAll l = emptyLogin
+changedOf EndAll l = freedOf l
 changedOf (EndLogin a) l = endedOf a l
 changedOf Unprove l = unproven l
 changedOf EndUnproven l = verified l
@@ -174,7 +178,3 @@ changedOf (Clear from) l = clearedBy from l
 -- and of every login of a port
 unfoldable pub changedAll : Change → Port → Port
 changedAll c p = withLogins p (map (changedOf c) (p .logins))
-
--- "power on ends all"
-unfoldable pub poweredOn : Port → Port
-poweredOn p = withLogins p (replicate 8 emptyLogin)

@@ -4,7 +4,7 @@ use tables::Found;
 ghost use mathlib.Core.Path.{_≡_};
 ghost use Rattle.tables.specs.Lists.{Within, all};
 ghost use Rattle.state.specs.Tables.{isFree, hasId, findLogin, freeLogin, findExchange, freeExchange, LookedUp};
-ghost use Rattle.state.specs.Changes.{emptyExchange, emptyLogin, loginAt, exchangeAt, withLogin, withExchange, withoutExchanges, withAttention, advanced, endedAt, hasAddress, endedOf, unproven, verified, abortedOf, resetOf, losesTo, clearedBy, changedOf, changedAll, isClosed};
+ghost use Rattle.state.specs.Changes.{emptyExchange, emptyLogin, loginAt, exchangeAt, withLogin, withExchange, withoutExchanges, withAttention, advanced, endedAt, hasAddress, freedOf, endedOf, unproven, verified, abortedOf, resetOf, losesTo, clearedBy, changedOf, changedAll, isClosed};
 
 // A place for an open exchange of a login. What it sends is told by kind; a free place has kind 0.
 #[repr(C)]
@@ -390,7 +390,7 @@ pub fn changed(l: Login, c: Change) -> Login
 {
     match c {
         Change::Keep => l,
-        Change::EndAll => empty_login(),
+        Change::EndAll => freed(l),
         Change::EndLogin(address) => ended(l, address),
         Change::Unprove => unproved(l),
         Change::EndUnproven => kept(l),
@@ -415,6 +415,16 @@ pub fn change_all(p: Port, c: Change) -> Port
     let mut q = p;
     q.logins = t;
     q
+}
+
+fn freed(l: Login) -> Login
+    ensures { λ r. ⌜ r ≡ freedOf l ⌝ }
+{
+    if l.used == 1 {
+        empty_login()
+    } else {
+        l
+    }
 }
 
 fn ended(l: Login, address: u32) -> Login

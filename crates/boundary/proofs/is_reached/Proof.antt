@@ -3,6 +3,9 @@ use borrow.Author.Needs.{needs}
 use Rattle.boundary.proofs.is_reached.Statement.{statement}
 use Rattle.boundary.proofs.is_reached.Tie as tie
 
+returns-2 : tie.Need-returns-2
+returns-2 c = rw (c .enum-told2 .given .1)
+
 returns-3 : tie.Need-returns-3
 returns-3 c = rw (c .before .c .given .1)
 
@@ -38,7 +41,7 @@ is-reached-spec =
     (λ c. search needs)
     (λ c. search needs)
     (λ c. search needs)
-    (λ c. search needs)
+    returns-2
     returns-3
     returns-4
     returns-5

@@ -7,7 +7,7 @@ returns : tie.Need-returns
 returns c = rw (c .enum-told .given .1)
 
 returns-2 : tie.Need-returns-2
-returns-2 c = rw (c .before .enum-told2 .given .1) (c .empty-login .ensures)
+returns-2 c = rw (c .before .enum-told2 .given .1) (c .freed .ensures)
 
 returns-3 : tie.Need-returns-3
 returns-3 c = rw (c .before .before .c .given .1) (c .ended .ensures)

@@ -2,7 +2,6 @@
 use mathlib.Core.Path.{ap, _∙_}
 use Rattle.drive.specs.declared.View.{View}
 use Rattle.drive.specs.Turn.{eventTurn, answerTo}
-use Rattle.drive.proofs.Shape.{drive-8}
 use Rattle.drive.proofs.Turns.{event-turn}
 use borrow.Author.Needs.{needs}
 use Rattle.drive.proofs.Drive.event.Statement.{statement}
@@ -10,10 +9,9 @@ use Rattle.drive.proofs.Drive.event.Tie as tie
 
 returns : tie.Need-returns
 returns c =
-    let s = c .before .before .before in
-    let a = s .args in
+    let a = c .before .before .before .args in
     let t = c .before .event-turn .ensures ∙ ap (λ (v : View). eventTurn v (a .e)) (c .before .before .view .ensures) in
-    c .answer .ensures ∙ ap (answerTo (a .self)) t ∙ event-turn (a .self) (drive-8 (a .self) _ (s .good .0)) (a .e)
+    c .answer .ensures ∙ ap (answerTo (a .self)) t ∙ event-turn (a .self) (a .e)
 
 pub event-spec : {M : Type 1} → statement M
 event-spec =
