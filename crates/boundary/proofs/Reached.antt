@@ -1,8 +1,8 @@
 -- A loop over the logins that a change reaches: at place i the logins before it are done, and the change is still to go over the others. Assumes nothing.
 use Prim.Native.Nat.{ℕ, zero, suc, _+_, _-_, _≤_, _<_}
-use mathlib.Core.Path.{_≡_, refl, sym, _∙_, subst}
-use mathlib.Core.Bool.{Bool, true, false}
-use mathlib.Core.List.{List, _++_, append-assoc, append-nil}
+use mathlib.Core.Path.{_≡_, refl, sym, ap, _∙_, subst}
+use mathlib.Core.Bool.{Bool, true, false, cond}
+use mathlib.Core.List.{List, [], _∷_, _++_, append-assoc, append-nil}
 use native.Mathlib.Numerals.{add-one}
 use native.Mathlib.Nat.{le-refl, le-antisymm, lt-irrefl}
 use native.Mathlib.Omega.{arith}
@@ -60,6 +60,14 @@ module _ {c : Change} {keys : List ℕ} (len : length keys ≡ 8) where
         let k : length keys ≤ i = rw len h in
         let l : length ls ≤ i = rw (s .long) h in
         sym (s .rest ∙ rw (take-all i ls l, drop-of-length-le keys k, drop-of-length-le ls l, append-nil))
+
+-- the key at a place does not matter where the login there is stored after
+pub reached-spare : (c : Change) (keys : List ℕ) (ls : List Login) (i k : ℕ) (m : Login) → set (reachedBy c (set keys i k) ls) i m ≡ set (reachedBy c keys ls) i m
+reached-spare c [] ls i k m = refl
+reached-spare c (x ∷ keys) [] zero k m = refl
+reached-spare c (x ∷ keys) [] (suc i) k m = refl
+reached-spare c (x ∷ keys) (l ∷ ls) zero k m = refl
+reached-spare c (x ∷ keys) (l ∷ ls) (suc i) k m = ap (λ (ys : List Login). cond (reaches c x) (changedOf c l) l ∷ ys) (reached-spare c keys ls i k m)
 
 -- the search for the next place that is reached: those from a place on to i were passed over
 pub record Passed (keys : List ℕ) (c : Change) (from i : ℕ) : Type 0 where

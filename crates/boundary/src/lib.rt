@@ -19,7 +19,7 @@ use wire::be24;
 use wire::put_front;
 ghost use mathlib.Core.Path.{_≡_};
 ghost use Prim.Native.Nat.{_<_, _≤_};
-ghost use lib.ListN.{length};
+ghost use lib.ListN.{length, set};
 ghost use Rattle.frame.specs.Head.{headerOf};
 ghost use Rattle.drive.specs.declared.Event.the-variants.{LoopReset, TimeOver, PowerOn};
 ghost use Rattle.drive.specs.Drive.{refused, eventAnswer};
@@ -134,19 +134,30 @@ fn view(d: &mut Drive, address: u32) -> View
     }
 }
 
-// Stores what a turn changes, each login where it stands, and tells what was said. The keys are those of the logins.
+// Stores what a turn changes, each login where it stands, and tells what was said. The keys are those of the logins. The place that is stored last is not changed before.
 fn settle(d: &mut Drive, keys: [u64; 8], t: Turn) -> u64
     requires { ⌜ t .at < 8 ⌝ }
     ensures { λ r. ⌜ (r ≡ codeOf (t .said)) × (now (d .exit) ≡ settledOf (now (d .entry)) keys t) ⌝ }
 {
-    let mut i = next_reached(keys, t.change, 0);
+    let k = spare(keys, t.at);
+    let mut i = next_reached(k, t.change, 0);
     while i < Port::LOGINS {
         let l = changed(d.port.logins[i], t.change);
         d.port.logins[i] = l;
-        i = next_reached(keys, t.change, i + 1);
+        i = next_reached(k, t.change, i + 1);
     }
     d.port.logins[t.at] = t.login;
     code(t.said)
+}
+
+// The keys with a free place's at a place.
+fn spare(keys: [u64; 8], at: usize) -> [u64; 8]
+    requires { ⌜ at < 8 ⌝ }
+    ensures { λ r. ⌜ r ≡ set keys at 1 ⌝ }
+{
+    let mut k = keys;
+    k[at] = 1;
+    k
 }
 
 // The next place from a place on whose login a change reaches, or 8.
