@@ -1,8 +1,8 @@
--- What a frame that passes tells of the seven tests. Assumes nothing.
+-- What a frame that passes tells of the seven tests, and the range of the numbers. Assumes nothing.
 use mathlib.Core.Path.{_≡_, refl}
-use mathlib.Core.Bool.{Bool, true, false, cond, not}
+use mathlib.Core.Bool.{Bool, true, false, cond, not, _&&_}
 use mathlib.Core.List.{List}
-use Prim.Native.Nat.{ℕ}
+use Prim.Native.Nat.{ℕ, _≤_, _<_}
 use native.Mathlib.Omega.{arith}
 use lib.Dec.{eqb}
 use lib.ListN.{length, getD}
@@ -12,11 +12,11 @@ use Rattle.state.specs.declared.Port.{Port}
 use Rattle.state.specs.declared.Unit.{Unit}
 use Rattle.formed.specs.Formed.{wellFormed}
 use Rattle.arrival.specs.declared.Refusal.{Refusal}
-use Rattle.arrival.specs.declared.Refusal.the-variants.{ShortBuffer, IllFormed, BadSize, NotOurs, BadSource, UnknownForm, Unproven}
+use Rattle.arrival.specs.declared.Refusal.the-variants.{ShortBuffer, IllFormed, BadSize, NotOurs, BadSource, UnknownForm, Unproven, BadSetup, NoExchange, BadWindow}
 use Rattle.arrival.specs.declared.Kind.{Kind}
 use Rattle.arrival.specs.declared.Judged.{Judged}
 use Rattle.arrival.specs.declared.Judged.the-variants.{Refused, Passed}
-use Rattle.arrival.specs.Arrival.{shortBuffer, badSize, badSource, unknownForm, unprovenCall, kindOf, judgedBy, judgedOf}
+use Rattle.arrival.specs.Arrival.{numberOf, shortBuffer, badSize, badSource, unknownForm, spared, unprovenCall, kindOf, judgedBy, judgedOf}
 
 pub record Passes (u : Unit) (p : Port) (h : Header) (f : List ℕ) (room : ℕ) (k : Kind) : Type 0 where
   pub long : shortBuffer room ≡ false
@@ -27,6 +27,19 @@ pub record Passes (u : Unit) (p : Port) (h : Header) (f : List ℕ) (room : ℕ)
   pub known : unknownForm h (length f) ≡ false
   pub proven : unprovenCall p h (getD f 24 0) ≡ false
   pub kind : k ≡ kindOf (h .«r_ctl»)
+
+-- the numbers are 1 to 10
+pub numbers : (x : Refusal) → (0 < numberOf x) × (numberOf x ≤ 10)
+numbers ShortBuffer = (omega arith, omega arith)
+numbers IllFormed = (omega arith, omega arith)
+numbers BadSize = (omega arith, omega arith)
+numbers NotOurs = (omega arith, omega arith)
+numbers BadSource = (omega arith, omega arith)
+numbers UnknownForm = (omega arith, omega arith)
+numbers Unproven = (omega arith, omega arith)
+numbers BadSetup = (omega arith, omega arith)
+numbers NoExchange = (omega arith, omega arith)
+numbers BadWindow = (omega arith, omega arith)
 
 -- a test on the way passed
 on : {A : Type 0} (b : Bool) (x : Refusal) (y : Judged) (k : Kind) → (b ≡ false → y ≡ Passed k → A) → cond b (Refused x) y ≡ Passed k → A
@@ -57,6 +70,19 @@ passed u p h f room k =
       proven = v;
       kind = same-kind k (kindOf (h .«r_ctl»)) is;
     })))))))
+
+-- whatever is told of the state, a frame that passes had room for its reply, and is of the kind that its R_CTL says
+pub passed-by : (fine unproven : Bool) (own : ℕ) (h : Header) (f : List ℕ) (room : ℕ) (k : Kind) → judgedBy fine unproven own h f room ≡ Passed k → (shortBuffer room ≡ false) × (k ≡ kindOf (h .«r_ctl»))
+unfolding judgedBy
+passed-by fine unproven own h f room k =
+    on (shortBuffer room) ShortBuffer _ k
+    (λ a. on (not fine) IllFormed _ k
+    (λ _. on (badSize (length f)) BadSize _ k
+    (λ _. on (not (eqb (h .«d_id») own)) NotOurs _ k
+    (λ _. on (badSource own (h .«s_id»)) BadSource _ k
+    (λ _. on (unknownForm h (length f)) UnknownForm _ k
+    (λ _. on (not (spared (h .«r_ctl») (getD f 24 0)) && unproven) Unproven _ k
+    (λ _ is. (a, same-kind k (kindOf (h .«r_ctl»)) is))))))))
 
 -- and a frame of which all this holds passes
 pub passes : (u : Unit) (p : Port) (h : Header) (f : List ℕ) (room : ℕ) (k : Kind) → Passes u p h f room k → judgedOf u p h f room ≡ Passed k

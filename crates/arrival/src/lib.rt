@@ -165,7 +165,8 @@ fn is_spared(r_ctl: u8, code: u8) -> bool
     }
 }
 
-fn kind_of(r_ctl: u8) -> Kind
+// What a frame that passes is, by its R_CTL.
+pub fn kind_of(r_ctl: u8) -> Kind
     ensures { λ r. ⌜ r ≡ kindOf «r_ctl» ⌝ }
 {
     match r_ctl {

@@ -1,11 +1,11 @@
 -- The lent drive after a turn is the drive of the answer to it, where the turn keeps every login and where all logins are fine: a login that a change does not reach, by its key, is one that the change leaves as it is. Assumes nothing.
-use Prim.Native.Nat.{ℕ, _+_, _<_}
-use mathlib.Core.Path.{_≡_, refl, sym, ap, _∙_}
-use mathlib.Core.Bool.{Bool, true, false, cond}
+use Prim.Native.Nat.{ℕ, _+_, _<_, _^_}
+use mathlib.Core.Path.{_≡_, refl, sym, ap, _∙_, subst}
+use mathlib.Core.Bool.{Bool, true, false, cond, not}
 use mathlib.Core.List.{List, [], _∷_, map, map-id}
 use native.Mathlib.Decide.{ℕ-discrete}
 use native.Mathlib.Omega.{arith}
-use lib.Dec.{eqb}
+use lib.Dec.{T, eqb, eqb→eq}
 use lib.ListN.{length, length-map}
 use borrow.Author.Tests.{eq-eqb, ne-eqb}
 use Rattle.tables.specs.Lists.{all}
@@ -19,16 +19,21 @@ use Rattle.formed.specs.Formed.{loginFine, wellFormed}
 use Rattle.formed.specs.Keys.{keyOf, loginKey}
 use Rattle.formed.proofs.Parts.{formed-parts}
 use Rattle.arrival.specs.declared.Refusal.the-variants.{ShortBuffer}
-use Rattle.arrival.specs.Arrival.{shortBuffer, judgedBy, judgedOf}
+use Rattle.arrival.specs.declared.Judged.{Judged}
+use Rattle.arrival.specs.declared.Judged.the-variants as judged
+use Rattle.arrival.specs.Arrival.{numberOf, shortBuffer, judgedBy, judgedOf}
+use Rattle.arrival.proofs.Passes.{numbers}
 use Rattle.drive.specs.declared.Answer.{Answer}
 use Rattle.drive.specs.declared.Drive.{Drive}
 use Rattle.drive.specs.declared.Event.{Event}
 use Rattle.drive.specs.declared.Said.the-variants.{Refused}
 use Rattle.drive.specs.declared.Turn.{Turn}
+use Rattle.drive.specs.declared.View.{View}
 use Rattle.drive.specs.Drive.{refused, eventAnswer}
-use Rattle.drive.specs.Entry.{frameIn, frameInBuffer, nextFrame, nextFrameBuffer}
-use Rattle.drive.specs.Turn.{keysOf, viewOf, frameTurn, nextTurn, eventTurn, answerTo}
-use Rattle.drive.proofs.Turns.{fine-is, frame-turn, frame-within, frame-keeps, next-turn, next-within, next-keeps, event-turn, event-within, event-keeps}
+use Rattle.drive.specs.Entry.{onJudged, frameIn, frameInBuffer, nextFrame, nextFrameBuffer}
+use Rattle.drive.specs.Turn.{keysOf, viewOf, judgedIn, refusalOf, passedTurn, passedBuffer, nextTurn, eventTurn, answerTo}
+use Rattle.drive.proofs.Turns.{fine-is, judged-is, frame-turn, frame-turn-buffer, frame-within, frame-keeps, next-turn, next-within, next-keeps, event-turn, event-within, event-keeps}
+use Rattle.drive.proofs.Ways.{frame-passed}
 use Rattle.boundary.specs.Boundary.{codeOf, Told}
 use Rattle.boundary.specs.Settled.{reaches, reachedBy, settledOf}
 use Rattle.boundary.proofs.Lending.{keysIn}
@@ -140,9 +145,42 @@ event-settles d e len =
     settles d 0 (event-within (viewOf d 0) len e) (λ w. event-keeps (viewOf d 0) (fine-is d 0 ∙ w) e)
     (event-turn d e)
 
-pub frame-settles : (d : Drive) (f : List ℕ) (room : ℕ) → length (viewOf d (headerOf f .«s_id») .keys) ≡ 8 → Settles d (headerOf f .«s_id») (frameTurn (viewOf d (headerOf f .«s_id»)) f room) (frameIn d f room)
-frame-settles d f room len =
-    settles d (headerOf f .«s_id») (frame-within (viewOf d (headerOf f .«s_id»)) len f room) (λ w. frame-keeps (viewOf d (headerOf f .«s_id»)) (fine-is d (headerOf f .«s_id») ∙ w) f room) (frame-turn d f room)
+-- a frame whose refusal has a number is refused with it, and left as it was; one that passes comes to the turn of one that passed
+module _ (d : Drive) (f l : List ℕ) where
+  abbrev seen : View
+  seen = viewOf d (headerOf f .«s_id»)
+
+  pub number-fits : 65536 + refusalOf seen f (length l) < 2 ^ 64
+  unfolding refusalOf
+  number-fits = by (judgedIn seen f (length l))
+    where
+      by : (j : Judged) → 65536 + onJudged j numberOf (λ _. 0) < 2 ^ 64
+      by (judged.Refused x) = let few = numbers x .1 in omega (arith, few)
+      by (judged.Passed k) = omega arith
+
+  pub frame-numbered : T (not (eqb (refusalOf seen f (length l)) 0)) → Told (frameIn d f (length l)) (65536 + refusalOf seen f (length l)) d × (l ≡ frameInBuffer d f l)
+  unfolding refusalOf frameIn frameInBuffer
+  frame-numbered = by (judgedIn seen f (length l)) refl
+    where
+      by : (j : Judged) → judgedIn seen f (length l) ≡ j → T (not (eqb (refusalOf seen f (length l)) 0)) → Told (frameIn d f (length l)) (65536 + refusalOf seen f (length l)) d × (l ≡ frameInBuffer d f l)
+      by (judged.Refused x) e some = rw (e, sym (judged-is d f (length l)) ∙ e) ((refl, refl), refl)
+      by (judged.Passed k) e some = let z : refusalOf seen f (length l) ≡ 0 = rw e in absurd (subst (λ (n : ℕ). T (not (eqb n 0))) z some)
+
+  module _ (none : T (not (not (eqb (refusalOf seen f (length l)) 0)))) where
+    zero : refusalOf seen f (length l) ≡ 0
+    zero = eqb→eq (refusalOf seen f (length l)) 0 (by (eqb (refusalOf seen f (length l)) 0) none)
+      where
+        by : (b : Bool) → T (not (not b)) → T b
+        by true t = t
+        by false t = t
+
+    pub frame-settles : length (seen .keys) ≡ 8 → Settles d (headerOf f .«s_id») (passedTurn seen f (length l)) (frameIn d f (length l))
+    frame-settles len =
+        rw (frame-passed seen f l zero .0)
+        (settles d (headerOf f .«s_id») (frame-within seen len f (length l)) (λ w. frame-keeps seen (fine-is d (headerOf f .«s_id») ∙ w) f (length l)) (frame-turn d f (length l)))
+
+    pub frame-written : passedBuffer seen f l ≡ frameInBuffer d f l
+    frame-written = frame-passed seen f l zero .1 ∙ frame-turn-buffer d f l
 
 pub next-settles : (d : Drive) (a x start : ℕ) (bytes : List ℕ) (room : ℕ) → length (viewOf d a .keys) ≡ 8 → Settles d a (nextTurn (viewOf d a) a x start bytes room) (nextFrame d a x start bytes room)
 next-settles d a x start bytes room len =

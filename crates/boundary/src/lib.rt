@@ -54,8 +54,13 @@ pub extern "C" fn drive_frame(d: &mut Drive, frame: &[u8], reply: &mut [u8]) -> 
         return code(Said::Refused(Refusal::ShortBuffer));
     } else {
         let v = view(d, sender(frame));
-        let t = v.frame_turn(frame, reply);
-        return settle(d, v.keys, t);
+        let x = v.refusal(frame, reply.len());
+        if x != 0 {
+            return 65536 + x;
+        } else {
+            let t = v.passed_turn(frame, reply);
+            return settle(d, v.keys, t);
+        }
     }
 }
 

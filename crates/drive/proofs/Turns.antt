@@ -92,7 +92,7 @@ module _ (d : Drive) where
     placed-decided f Command = command-turn (d .unit .capacity) (d .port .address) (d .port) fine (headerOf f) f
 
   -- a frame is judged by what its sender sees as it is by the drive
-  judged-is : (f : List ℕ) (room : ℕ) → judgedIn (viewOf d (headerOf f .«s_id»)) f room ≡ judgedOf (d .unit) (d .port) (headerOf f) f room
+  pub judged-is : (f : List ℕ) (room : ℕ) → judgedIn (viewOf d (headerOf f .«s_id»)) f room ≡ judgedOf (d .unit) (d .port) (headerOf f) f room
   unfolding judgedIn judgedOf judgedBy viewOf ownOf
   judged-is f room = rw (fine-is d (headerOf f .«s_id»)) (by (wellFormed (d .unit) (d .port)) refl)
     where

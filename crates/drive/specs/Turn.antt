@@ -17,7 +17,7 @@ use Rattle.formed.specs.Formed.{setupRules}
 use Rattle.formed.specs.Keys.{keysFine, loginKey}
 use Rattle.seat.specs.Seat.{seatOf, seatPlace}
 use Rattle.reply.specs.declared.Reply.the-variants as reply
-use Rattle.reply.specs.Reply.{bytesOf}
+use Rattle.reply.specs.Reply.{bytesOf, sentOf, writtenOf}
 use Rattle.link.specs.declared.Placed.{Placed}
 use Rattle.link.specs.Turn.{placedAs, linkTurn, abtsTurn}
 use Rattle.command.specs.Turn.{commandTurn}
@@ -28,7 +28,7 @@ use Rattle.arrival.specs.declared.Refusal.the-variants.{ShortBuffer, IllFormed}
 use Rattle.arrival.specs.declared.Kind.{Kind}
 use Rattle.arrival.specs.declared.Kind.the-variants.{Link, Done, Abort, Command}
 use Rattle.arrival.specs.declared.Judged.{Judged}
-use Rattle.arrival.specs.Arrival.{shortBuffer, judgedBy}
+use Rattle.arrival.specs.Arrival.{numberOf, shortBuffer, kindOf, judgedBy}
 use Rattle.drive.specs.declared.Drive.{Drive}
 use Rattle.drive.specs.declared.Answer.{Answer}
 use Rattle.drive.specs.declared.Said.the-variants.{Sent, Refused}
@@ -83,6 +83,27 @@ frameTurn v f room = onJudged (judgedIn v f room) (λ x. stays x v (headerOf f .
 
 unfoldable pub frameTurnBuffer : View → List ℕ → List ℕ → List ℕ
 frameTurnBuffer v f l = onJudged (judgedIn v f (length l)) (λ x. l) (λ k. onto (placedBytes v (headerOf f) (placedOf v (headerOf f) k f)) l)
+
+-- the number of the refusal, or 0 where the frame passes
+unfoldable pub refusalOf : View → List ℕ → ℕ → ℕ
+refusalOf v f room = onJudged (judgedIn v f room) numberOf (λ _. 0)
+
+-- the reply to a frame that passed, and what changes, by its R_CTL
+abbrev pub passedPlaced : View → List ℕ → Placed
+passedPlaced v f = placedOf v (headerOf f) (kindOf (headerOf f .«r_ctl»)) f
+
+-- what a frame that passed comes to; a buffer under 2,136 bytes is left alone
+unfoldable pub passedTurn : View → List ℕ → ℕ → Turn
+passedTurn v f room =
+    record {
+      said = Sent (sentOf (v .own) (headerOf f) (passedPlaced v f .reply) [] room);
+      change = passedPlaced v f .change;
+      at = passedPlaced v f .at;
+      login = passedPlaced v f .login;
+    }
+
+unfoldable pub passedBuffer : View → List ℕ → List ℕ → List ℕ
+passedBuffer v f l = writtenOf (v .own) (headerOf f) (passedPlaced v f .reply) [] l
 
 -- what became of a next frame, and the login that moved on
 abbrev pub moved : Moved → Turn

@@ -3,6 +3,7 @@ use arrival::Judged;
 use arrival::Kind;
 use arrival::Refusal;
 use arrival::judge;
+use arrival::kind_of;
 use command::command;
 use formed::keys_fine;
 use formed::login_keys;
@@ -36,7 +37,7 @@ ghost use mathlib.Core.Path.{_≡_};
 ghost use lib.ListN.{length};
 ghost use Rattle.drive.specs.Drive.{refused, madeFrom, noDrive, newAnswer, eventAnswer};
 ghost use Rattle.drive.specs.Entry.{frameIn, frameInBuffer, saidOf, nextFrame, nextFrameBuffer};
-ghost use Rattle.drive.specs.Turn.{viewOf, viewFine, unprovenIn, stays, placedOf, frameTurn, frameTurnBuffer, nextTurn, nextTurnBuffer, changeOf, eventTurn, answerTo};
+ghost use Rattle.drive.specs.Turn.{viewOf, viewFine, unprovenIn, stays, placedOf, frameTurn, frameTurnBuffer, refusalOf, passedTurn, passedBuffer, nextTurn, nextTurnBuffer, changeOf, eventTurn, answerTo};
 
 #[repr(C)]
 pub struct Drive {
@@ -179,20 +180,44 @@ impl View {
         let j = judge(fine, unproven, o.address, h, frame, reply.len());
         match j {
             Judged::Refused(x) => stay(x, self, h.s_id),
-            Judged::Passed(k) => {
-                let d = decide(self, h, k, frame);
-                let r = d.reply;
-                let c = d.change;
-                let l = d.login;
-                let none = [0u8; 0];
-                let n = write(o, h, r, &none, reply);
-                Turn {
-                    said: Said::Sent(n),
-                    change: c,
-                    at: d.at,
-                    login: l,
-                }
-            }
+            Judged::Passed(_) => self.passed_turn(frame, reply),
+        }
+    }
+
+    // The number of the refusal of a frame in, seen by its sender, or 0 where it passes.
+    pub fn refusal(self, frame: &[u8], room: usize) -> u64
+        ensures { λ r. ⌜ r ≡ refusalOf self (now (frame .entry)) room ⌝ }
+    {
+        let o = self.own;
+        let h = read_header(frame);
+        let fine = is_fine(self);
+        let unproven = is_unproven(self, h.s_id);
+        let j = judge(fine, unproven, o.address, h, frame, room);
+        match j {
+            Judged::Refused(x) => x.number() as u64,
+            Judged::Passed(_) => 0,
+        }
+    }
+
+    // What a frame in that passed comes to, seen by its sender. A buffer under 2,136 bytes is left alone.
+    pub fn passed_turn(self, frame: &[u8], reply: &mut [u8]) -> Turn
+        ensures { λ r. ⌜ r ≡ passedTurn self (now (frame .entry)) (length (now (reply .entry))) ⌝ }
+        ensures { λ _. ⌜ now (reply .exit) ≡ passedBuffer self (now (frame .entry)) (now (reply .entry)) ⌝ }
+    {
+        let o = self.own;
+        let h = read_header(frame);
+        let k = kind_of(h.r_ctl);
+        let d = decide(self, h, k, frame);
+        let r = d.reply;
+        let c = d.change;
+        let l = d.login;
+        let none = [0u8; 0];
+        let n = write(o, h, r, &none, reply);
+        Turn {
+            said: Said::Sent(n),
+            change: c,
+            at: d.at,
+            login: l,
         }
     }
 

@@ -11,8 +11,8 @@ returns c =
 
 returns-2 : tie.Need-returns-2
 returns-2 c =
-    let a = c .before .before .before .before .before .before .before .before .before .before .before .before .before .before .before .before .before .args in
-    frame-answered (a .self) (a .frame .now) (a .reply .now) _ _ _ _ (c .before .before .before .before .before .before .before .before .before .before .before .before .before .read-header .ensures) (c .before .before .before .before .before .before .before .before .before .before .before .before .is-fine .ensures) (c .before .before .before .before .before .before .before .before .before .before .before .is-unproven .ensures) (c .before .before .before .before .before .before .before .before .before .before .judge .ensures) _ _ _ _ (c .before .before .before .before .before .before .before .before .j2 .given .1) (c .before .before .before .before .before .before .decide .ensures) (c .before .before .write .ensures .0) (c .before .before .write .ensures .1)
+    let a = c .before .before .before .before .before .before .before .before .before .before .before .before .before .args in
+    frame-answered (a .self) (a .frame .now) (a .reply .now) _ _ _ _ (c .before .before .before .before .before .before .before .before .before .read-header .ensures) (c .before .before .before .before .before .before .before .before .is-fine .ensures) (c .before .before .before .before .before .before .before .is-unproven .ensures) (c .before .before .before .before .before .before .judge .ensures) _ _ _ (c .before .before .before .before .enum-told .given .1) (c .before .before .passed-turn .ensures .0) (c .before .before .passed-turn .ensures .1)
 
 pub frame-turn-spec : {M : Type 1} → statement M
 frame-turn-spec =
@@ -21,8 +21,6 @@ frame-turn-spec =
     (λ c κs. search needs)
     (λ c κs. search needs)
     (λ c κs. search needs)
-    (λ c κs. search needs)
-    (λ c. search needs)
     (λ c κs. search needs)
     (λ c. search needs)
     (λ c κs. search needs)
