@@ -3,7 +3,7 @@
 use tables::Found;
 ghost use mathlib.Core.Path.{_≡_};
 ghost use Rattle.tables.specs.Lists.{Within, all};
-ghost use Rattle.state.specs.Tables.{isFree, hasId, findLogin, freeLogin, findExchange, freeExchange, LookedUp};
+ghost use Rattle.state.specs.Tables.{isFree, hasId, findLogin, findExchange, freeExchange, LookedUp};
 ghost use Rattle.state.specs.Changes.{emptyExchange, emptyLogin, loginAt, exchangeAt, withLogin, withExchange, withoutExchanges, withAttention, advanced, endedAt, hasAddress, freedOf, endedOf, unproven, verified, abortedOf, resetOf, losesTo, clearedBy, changedOf, changedAll, isClosed};
 
 // A place for an open exchange of a login. What it sends is told by kind; a free place has kind 0.
@@ -193,22 +193,6 @@ pub fn find_login(p: Port, address: u32) -> Found
     while i < Port::LOGINS {
         let l = t[i];
         if has_address(l, address) {
-            return Found::At(i);
-        }
-        i += 1;
-    }
-    Found::Nothing
-}
-
-// The lowest free place for a login.
-pub fn free_login(p: Port) -> Found
-    ensures { λ r. ⌜ Within (freeLogin p) 8 r ⌝ }
-{
-    let t = p.logins;
-    let mut i: usize = 0;
-    while i < Port::LOGINS {
-        let l = t[i];
-        if is_free(l) {
             return Found::At(i);
         }
         i += 1;
@@ -420,11 +404,7 @@ pub fn change_all(p: Port, c: Change) -> Port
 fn freed(l: Login) -> Login
     ensures { λ r. ⌜ r ≡ freedOf l ⌝ }
 {
-    if l.used == 1 {
-        empty_login()
-    } else {
-        l
-    }
+    if l.used == 1 { empty_login() } else { l }
 }
 
 fn ended(l: Login, address: u32) -> Login
