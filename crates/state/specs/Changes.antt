@@ -7,6 +7,7 @@ use lib.ListN.{getD, set, replicate}
 use Rattle.tables.specs.Lists.{all}
 use Rattle.state.specs.declared.Exchange.{Exchange}
 use Rattle.state.specs.declared.Login.{Login}
+use Rattle.state.specs.declared.Own.{Own}
 use Rattle.state.specs.declared.Port.{Port}
 use Rattle.state.specs.declared.Change.{Change}
 use Rattle.state.specs.declared.Change.the-variants.{Keep, EndAll, EndLogin, Unprove, EndUnproven, EndExchangesOf, Reset, Clear}
@@ -49,6 +50,10 @@ noLogin = blank [] []
 -- "A freed place": a free place for a login
 abbrev pub emptyLogin : Login
 emptyLogin = blank (replicate 8 0) (replicate 8 emptyExchange)
+
+-- what a reply and the rules take from a port: its address and accept words
+unfoldable pub ownOf : Port → Own
+ownOf p = record { address = p .address; accept = p .accept }
 
 -- the login at a place, an empty one past the end
 unfoldable pub loginAt : Port → ℕ → Login

@@ -4,7 +4,7 @@ use tables::Found;
 ghost use mathlib.Core.Path.{_≡_};
 ghost use Rattle.tables.specs.Lists.{Within, all};
 ghost use Rattle.state.specs.Tables.{isFree, hasId, findLogin, findExchange, freeExchange, LookedUp};
-ghost use Rattle.state.specs.Changes.{emptyExchange, emptyLogin, loginAt, exchangeAt, withLogin, withExchange, withoutExchanges, withAttention, advanced, endedAt, hasAddress, freedOf, endedOf, unproven, verified, abortedOf, resetOf, losesTo, clearedBy, changedOf, changedAll, isClosed};
+ghost use Rattle.state.specs.Changes.{emptyExchange, emptyLogin, ownOf, loginAt, exchangeAt, withLogin, withExchange, withoutExchanges, withAttention, advanced, endedAt, hasAddress, freedOf, endedOf, unproven, verified, abortedOf, resetOf, losesTo, clearedBy, changedOf, changedAll, isClosed};
 
 // A place for an open exchange of a login. What it sends is told by kind; a free place has kind 0.
 #[repr(C)]
@@ -81,6 +81,12 @@ pub struct Port {
 
 impl Port {
     pub const LOGINS: usize = 8;
+}
+
+// What a reply and the rules take from a port: its address and accept words.
+pub struct Own {
+    pub address: u32,
+    pub accept: [u8; 112],
 }
 
 // The logical unit: its capacity in blocks of 512 bytes, and its 28 identity bytes.
@@ -232,6 +238,17 @@ pub fn free_exchange(l: Login) -> Found
     Found::Nothing
 }
 
+// What a reply and the rules take from a port.
+pub fn own_of(p: Port) -> Own
+    ensures { λ r. ⌜ r ≡ ownOf p ⌝ }
+{
+    let accept = p.accept;
+    Own {
+        address: p.address,
+        accept: accept,
+    }
+}
+
 // Where the exchange of an address and an OX_ID stands.
 pub fn lookup(p: Port, address: u32, ox_id: u16) -> Standing
     ensures { λ r. ⌜ LookedUp p address «ox_id» r ⌝ }
@@ -377,7 +394,7 @@ pub fn changed(l: Login, c: Change) -> Login
         Change::EndAll => freed(l),
         Change::EndLogin(address) => ended(l, address),
         Change::Unprove => unproved(l),
-        Change::EndUnproven => kept(l),
+        Change::EndUnproven => time_over(l),
         Change::EndExchangesOf(address) => aborted(l, address),
         Change::Reset => reset(l),
         Change::Clear(from) => cleared(l, from),
@@ -429,7 +446,7 @@ fn unproved(l: Login) -> Login
     }
 }
 
-fn kept(l: Login) -> Login
+fn time_over(l: Login) -> Login
     ensures { λ r. ⌜ r ≡ verified l ⌝ }
 {
     if l.used == 1 {

@@ -16,7 +16,7 @@ returns-4 : tie.Need-returns-4
 returns-4 c = rw (c .before .enum-told3 .given .1) (c .unproved .ensures)
 
 returns-5 : tie.Need-returns-5
-returns-5 c = rw (c .before .enum-told4 .given .1) (c .kept .ensures)
+returns-5 c = rw (c .before .enum-told4 .given .1) (c .time-over .ensures)
 
 returns-6 : tie.Need-returns-6
 returns-6 c = rw (c .before .before .c2 .given .1) (c .aborted .ensures)

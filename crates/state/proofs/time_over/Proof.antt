@@ -1,9 +1,9 @@
--- `state::kept` meets its contract. Assumes nothing.
+-- `state::time_over` meets its contract. Assumes nothing.
 use borrow.Author.Tests.{eq-eqb, ne-eqb}
 use Rattle.state.specs.Changes.{verified}
 use borrow.Author.Needs.{needs}
-use Rattle.state.proofs.kept.Statement.{statement}
-use Rattle.state.proofs.kept.Tie as tie
+use Rattle.state.proofs.time_over.Statement.{statement}
+use Rattle.state.proofs.time_over.Tie as tie
 
 returns : tie.Need-returns
 unfolding verified
@@ -17,8 +17,8 @@ returns-3 : tie.Need-returns-3
 unfolding verified
 returns-3 c = rw (ne-eqb _ _ (c .if1 .left))
 
-pub kept-spec : {M : Type 1} → statement M
-kept-spec =
+pub time-over-spec : {M : Type 1} → statement M
+time-over-spec =
     tie.close
     (tie.spec
     (λ c κs. search needs)
