@@ -1,21 +1,27 @@
 -- When a state is well formed (document 01, "Setup" and "Well formed").
 use Prim.Native.Nat.{ℕ, _+_, _-_, _*_, _/_, _%_, min}
 use mathlib.Core.Bool.{Bool, cond, not, _&&_, _||_}
-use mathlib.Core.List.{List}
 use lib.Dec.{eqb, leb, ltb}
 use Rattle.tables.specs.Lists.{all, pairs}
 use Rattle.address.specs.Address.{validAddress}
 use Rattle.params.specs.Words.{paramsOf, sizeFails, zeroName, setupPasses}
 use Rattle.state.specs.declared.Exchange.{Exchange}
 use Rattle.state.specs.declared.Login.{Login}
+use Rattle.state.specs.declared.Own.{Own}
 use Rattle.state.specs.declared.Port.{Port}
+use Rattle.state.specs.declared.Setup.{Setup}
 use Rattle.state.specs.declared.Unit.{Unit}
-use Rattle.state.specs.Changes.{isUsed, isClosed}
+use Rattle.state.specs.Changes.{isUsed, isClosed, ownOf}
+use Rattle.state.specs.Kinds.{kindRead, kindInquiryOther, kindCapacity, kindSenseOther}
 use Rattle.state.specs.Tables.{isFree}
 
 -- "Capacity 1 to 4,294,967,295 blocks of 512 bytes; own address; 28 identity bytes; words 1 to 28 of the login accept, which must pass the PLOGI rules below with W20/B1 = 01h"
-unfoldable pub setupRules : ℕ → ℕ → List ℕ → Bool
-setupRules capacity address accept = leb 1 capacity && leb capacity 4294967295 && validAddress address && setupPasses (paramsOf accept 0)
+unfoldable pub setupRules : Setup → Bool
+setupRules s = leb 1 (s .capacity) && leb (s .capacity) 4294967295 && validAddress (s .address) && setupPasses (paramsOf (s .accept) 0)
+
+-- the setup that a unit and a port have
+unfoldable pub setupOf : Unit → Own → Setup
+setupOf u o = record { capacity = u .capacity; address = o .address; identity = u .identity; accept = o .accept }
 
 -- "A frame carries the login's W18 size, 2,048 at most": the bytes of a full data frame
 abbrev pub fullFrame : ℕ → ℕ
@@ -30,22 +36,21 @@ abbrev pub nextBytes : ℕ → Exchange → ℕ
 nextBytes full e = min full (total e - e .sent)
 
 -- READ(10): 1 to 65,535 blocks, all of them on the unit, and 512 bytes wanted for each
-unfoldable pub readFits : ℕ → Exchange → Bool
-readFits capacity e =
-    leb 1 (e .blocks) && leb (e .blocks) 65535 && eqb (e .wanted) (512 * e .blocks) && ltb (e .start) capacity && leb (e .start + e .blocks) capacity
+unfoldable pub readFits : Unit → Exchange → Bool
+readFits u e =
+    leb 1 (e .blocks) && leb (e .blocks) 65535 && eqb (e .wanted) (512 * e .blocks) && ltb (e .start) (u .capacity) && leb (e .start + e .blocks) (u .capacity)
 
--- the bytes that a command of the exchange's kind wants: READ(10) 1; INQUIRY 2, of another unit 3; READ CAPACITY 4;
--- REQUEST SENSE 5 with 00/00/00, 6 with 06/29/00, 7 with 06/2F/00, 8 with 05/25/00; there is no other kind
-unfoldable pub wantedFits : ℕ → Exchange → Bool
-wantedFits capacity e =
-    cond (eqb (e .kind) 1) (readFits capacity e)
-    (cond (leb (e .kind) 3) (leb 1 (e .wanted) && leb (e .wanted) 36)
-    (cond (eqb (e .kind) 4) (eqb (e .wanted) 8)
-    (leb (e .kind) 8 && leb 1 (e .wanted) && leb (e .wanted) 18)))
+-- "Wanted: .. 18 or byte 4 if smaller ..; 36 or byte 4 if smaller ..; 8; count × 512": what a command of the exchange's kind wants, and there is no other kind
+unfoldable pub wantedFits : Unit → Exchange → Bool
+wantedFits u e =
+    cond (eqb (e .kind) kindRead) (readFits u e)
+    (cond (leb (e .kind) kindInquiryOther) (leb 1 (e .wanted) && leb (e .wanted) 36)
+    (cond (eqb (e .kind) kindCapacity) (eqb (e .wanted) 8)
+    (leb (e .kind) kindSenseOther && leb 1 (e .wanted) && leb (e .wanted) 18)))
 
 -- "each exchange is one an accepted command could open"
-abbrev pub openable : ℕ → Exchange → Bool
-openable capacity e = leb 1 (e .expected) && wantedFits capacity e
+abbrev pub openable : Unit → Exchange → Bool
+openable u e = leb 1 (e .expected) && wantedFits u e
 
 -- the data frames of a full frame's bytes that carry what was sent
 abbrev pub framesOf : ℕ → ℕ → ℕ
@@ -57,8 +62,8 @@ sentFits full e =
     leb (e .sent) (total e) && (leb (total e) (e .sent) || eqb (e .sent % full) 0) && eqb (e .count) (framesOf (e .sent) full % 65536)
 
 -- "exchanges only at paired logins": a place is free, or its login is paired and its exchange fits
-unfoldable pub exchangeFine : ℕ → ℕ → ℕ → Exchange → Bool
-exchangeFine capacity full paired e = isClosed e || eqb paired 1 && openable capacity e && sentFits full e
+unfoldable pub exchangeFine : Unit → ℕ → ℕ → Exchange → Bool
+exchangeFine u full paired e = isClosed e || eqb paired 1 && openable u e && sentFits full e
 
 -- "OX_IDs distinct within a login"
 unfoldable pub apartId : Exchange → Exchange → Bool
@@ -78,13 +83,13 @@ unfoldable pub addressFine : ℕ → Login → Bool
 addressFine own l = validAddress (l .address) && not (eqb (l .address) own)
 
 -- a login that is used
-unfoldable pub usedFine : ℕ → ℕ → Login → Bool
-usedFine capacity own l =
-    flagsFine l && addressFine own l && paramsFine l && all (exchangeFine capacity (fullFrame (l .size)) (l .paired)) (l .places) && pairs apartId (l .places)
+unfoldable pub usedFine : Unit → ℕ → Login → Bool
+usedFine u own l =
+    flagsFine l && addressFine own l && paramsFine l && all (exchangeFine u (fullFrame (l .size)) (l .paired)) (l .places) && pairs apartId (l .places)
 
 -- a place for a login: free with no open exchange, or a login that is fine
-unfoldable pub loginFine : ℕ → ℕ → Login → Bool
-loginFine capacity own l = cond (isUsed l) (usedFine capacity own l) (eqb (l .used) 0 && all isClosed (l .places))
+unfoldable pub loginFine : Unit → ℕ → Login → Bool
+loginFine u own l = cond (isUsed l) (usedFine u own l) (eqb (l .used) 0 && all isClosed (l .places))
 
 -- "login addresses .. distinct"
 unfoldable pub apartAddress : Login → Login → Bool
@@ -93,4 +98,4 @@ apartAddress l m = isFree l || isFree m || not (eqb (l .address) (m .address))
 -- "Well formed: setup rules hold; ..": the unit and a port
 unfoldable pub wellFormed : Unit → Port → Bool
 wellFormed u p =
-    setupRules (u .capacity) (p .address) (p .accept) && all (loginFine (u .capacity) (p .address)) (p .logins) && pairs apartAddress (p .logins)
+    setupRules (setupOf u (ownOf p)) && all (loginFine u (p .address)) (p .logins) && pairs apartAddress (p .logins)

@@ -6,6 +6,7 @@ use params::size_fails;
 use params::zero_name;
 use state::Exchange;
 use state::Login;
+use state::Own;
 use state::Port;
 use state::Setup;
 use state::Unit;
@@ -19,48 +20,68 @@ ghost use mathlib.Core.List.{map};
 ghost use lib.Dec.{leb, eqb};
 ghost use lib.ListN.{drop};
 ghost use Rattle.tables.specs.Lists.{all};
-ghost use Rattle.formed.specs.Formed.{setupRules, fullFrame, total, readFits, wantedFits, sentFits, exchangeFine, paramsFine, flagsFine, addressFine, usedFine, loginFine, wellFormed};
-ghost use Rattle.formed.specs.Keys.{keyOf, apartKey, keyFine, keysFine, exchangeKey, loginKey};
+ghost use Rattle.formed.specs.Formed.{setupRules, setupOf, fullFrame, total, readFits, wantedFits, sentFits, exchangeFine, paramsFine, flagsFine, addressFine, usedFine, loginFine};
+ghost use Rattle.formed.specs.Keys.{keyOf, apartKey, keyFine, keysFine, exchangeKey, loginKey, keysOf, fineBy};
+
+// What a place of a table is known by: `id` is 0 where the place is not fine, 1 where it is free, and from 2 on the number of what stands there.
+// A table is read once, for its keys, and the test of each two places is made on these.
+pub struct Key {
+    pub id: u64,
+}
 
 // Whether a setup keeps its rules.
-pub fn setup_rules(capacity: u64, address: u32, accept: [u8; 112]) -> bool
-    ensures { λ r. ⌜ r ≡ setupRules capacity address accept ⌝ }
+pub fn setup_rules(s: Setup) -> bool
+    ensures { λ r. ⌜ r ≡ setupRules s ⌝ }
 {
-    if capacity < Setup::LEAST_BLOCKS {
+    let accept = s.accept;
+    if s.capacity < Setup::LEAST_BLOCKS {
         return false;
     }
-    if Setup::MOST_BLOCKS < capacity {
+    if Setup::MOST_BLOCKS < s.capacity {
         return false;
     }
-    if valid_address(address) {
+    if valid_address(s.address) {
         Params::read(&accept, 0).pass_setup()
     } else {
         false
     }
 }
 
-// Whether the unit and a port are well formed.
-pub fn well_formed(u: Unit, p: Port) -> bool
-    ensures { λ r. ⌜ r ≡ wellFormed u p ⌝ }
+// The setup that a unit and a port have.
+pub fn setup_of(u: Unit, o: Own) -> Setup
+    ensures { λ r. ⌜ r ≡ setupOf u o ⌝ }
 {
-    let accept = p.accept;
-    if setup_rules(u.capacity, p.address, accept) {
-        keys_fine(login_keys(u.capacity, p))
+    let identity = u.identity;
+    let accept = o.accept;
+    Setup {
+        capacity: u.capacity,
+        address: o.address,
+        identity: identity,
+        accept: accept,
+    }
+}
+
+// Whether a unit and a port whose logins have these keys are well formed.
+pub fn all_fine(u: Unit, o: Own, keys: [Key; 8]) -> bool
+    ensures { λ r. ⌜ r ≡ fineBy u o keys ⌝ }
+{
+    if setup_rules(setup_of(u, o)) {
+        keys_fine(keys)
     } else {
         false
     }
 }
 
 // The keys of a port's logins.
-pub fn login_keys(capacity: u64, p: Port) -> [u64; 8]
-    ensures { λ r. ⌜ r ≡ map (loginKey capacity (p .address)) (p .logins) ⌝ }
+pub fn login_keys(u: Unit, p: Port) -> [Key; 8]
+    ensures { λ r. ⌜ r ≡ keysOf u p ⌝ }
 {
     let t = p.logins;
-    let mut k = [0; 8];
+    let mut k = [Key { id: 0 }; 8];
     let mut i: usize = 0;
     while i < Port::LOGINS {
         let l = t[i];
-        let n = login_key(capacity, p.address, l);
+        let n = login_key(u, p.address, l);
         k[i] = n;
         i += 1;
     }
@@ -89,8 +110,8 @@ pub fn total_of(e: Exchange) -> u32
     }
 }
 
-fn read_fits(capacity: u64, e: Exchange) -> bool
-    ensures { λ r. ⌜ r ≡ readFits capacity e ⌝ }
+fn read_fits(u: Unit, e: Exchange) -> bool
+    ensures { λ r. ⌜ r ≡ readFits u e ⌝ }
 {
     let blocks = e.blocks as u64;
     if blocks < 1 {
@@ -102,18 +123,18 @@ fn read_fits(capacity: u64, e: Exchange) -> bool
     if e.wanted as u64 != 512 * blocks {
         return false;
     }
-    if e.start < capacity {
-        blocks <= capacity - e.start
+    if e.start < u.capacity {
+        blocks <= u.capacity - e.start
     } else {
         false
     }
 }
 
-fn wanted_fits(capacity: u64, e: Exchange) -> bool
-    ensures { λ r. ⌜ r ≡ wantedFits capacity e ⌝ }
+fn wanted_fits(u: Unit, e: Exchange) -> bool
+    ensures { λ r. ⌜ r ≡ wantedFits u e ⌝ }
 {
     if e.kind == Exchange::READ {
-        return read_fits(capacity, e);
+        return read_fits(u, e);
     }
     if e.kind <= Exchange::INQUIRY_OTHER_UNIT {
         return within(e.wanted, 36);
@@ -134,13 +155,7 @@ fn within(n: u32, most: u32) -> bool
     if 1 <= n { n <= most } else { false }
 }
 
-fn whole_frames(full: u32, all: u32, sent: u32) -> bool
-    requires { ⌜ 0 < full ⌝ }
-    ensures { λ r. ⌜ r ≡ (leb all sent || eqb (sent % full) 0) ⌝ }
-{
-    if all <= sent { true } else { sent % full == 0 }
-}
-
+// One quotient serves both: the frames that were full, and whether bytes are left past them.
 fn sent_fits(full: u32, e: Exchange) -> bool
     requires { ⌜ (0 < full) × (full ≤ 2048) ⌝ }
     ensures { λ r. ⌜ r ≡ sentFits full e ⌝ }
@@ -150,17 +165,20 @@ fn sent_fits(full: u32, e: Exchange) -> bool
     if all < sent {
         return false;
     }
-    if whole_frames(full, all, sent) {
-        let wide = full as u64;
-        e.count as u64 == (sent as u64 + (wide - 1)) / wide % 65536
-    } else {
+    let frames = sent / full;
+    if frames * full == sent {
+        return e.count as u32 == frames % 65536;
+    }
+    if sent < all {
         false
+    } else {
+        e.count as u32 == (frames + 1) % 65536
     }
 }
 
-fn exchange_fine(capacity: u64, full: u32, paired: u8, e: Exchange) -> bool
+fn exchange_fine(u: Unit, full: u32, paired: u8, e: Exchange) -> bool
     requires { ⌜ (0 < full) × (full ≤ 2048) ⌝ }
-    ensures { λ r. ⌜ r ≡ exchangeFine capacity full paired e ⌝ }
+    ensures { λ r. ⌜ r ≡ exchangeFine u full paired e ⌝ }
 {
     if is_closed(e) {
         return true;
@@ -171,33 +189,35 @@ fn exchange_fine(capacity: u64, full: u32, paired: u8, e: Exchange) -> bool
     if e.expected < 1 {
         return false;
     }
-    if wanted_fits(capacity, e) {
+    if wanted_fits(u, e) {
         sent_fits(full, e)
     } else {
         false
     }
 }
 
-// The key of a place of a table: 0 where it is not fine, 1 where it is free, and from 2 on the number that it is known by.
-// A table is read once, for its keys, and the test of each two places is made on these.
-fn key_of(fine: bool, free: bool, id: u32) -> u64
+fn key_of(fine: bool, free: bool, id: u32) -> Key
     ensures { λ r. ⌜ r ≡ keyOf fine free id ⌝ }
 {
     if fine {
-        if free { 1 } else { 2 + id as u64 }
+        if free {
+            Key { id: 1 }
+        } else {
+            Key { id: 2 + id as u64 }
+        }
     } else {
-        0
+        Key { id: 0 }
     }
 }
 
-fn apart_key(k: u64, n: u64) -> bool
+fn apart_key(k: Key, n: Key) -> bool
     ensures { λ r. ⌜ r ≡ apartKey k n ⌝ }
 {
-    if k == 1 { true } else { k != n }
+    if k.id == 1 { true } else { k.id != n.id }
 }
 
 // Whether a key is apart from those of the places from a place on.
-fn key_alone(t: [u64; 8], k: u64, from: usize) -> bool
+fn key_alone(t: [Key; 8], k: Key, from: usize) -> bool
     requires { ⌜ from < 9 ⌝ }
     ensures { λ r. ⌜ r ≡ all (apartKey k) (drop from t) ⌝ }
 {
@@ -214,15 +234,19 @@ fn key_alone(t: [u64; 8], k: u64, from: usize) -> bool
 }
 
 // Whether a key is that of a place that is fine, and apart from those of the places from a place on.
-fn key_fine(t: [u64; 8], k: u64, from: usize) -> bool
+fn key_fine(t: [Key; 8], k: Key, from: usize) -> bool
     requires { ⌜ from < 9 ⌝ }
     ensures { λ r. ⌜ r ≡ keyFine k (drop from t) ⌝ }
 {
-    if k == 0 { false } else { key_alone(t, k, from) }
+    if k.id == 0 {
+        false
+    } else {
+        key_alone(t, k, from)
+    }
 }
 
 // Whether these are the keys of a table's places that are all fine, and no two of them known by the same number.
-pub fn keys_fine(t: [u64; 8]) -> bool
+pub fn keys_fine(t: [Key; 8]) -> bool
     ensures { λ r. ⌜ r ≡ keysFine t ⌝ }
 {
     let mut i: usize = 0;
@@ -238,24 +262,24 @@ pub fn keys_fine(t: [u64; 8]) -> bool
     true
 }
 
-fn exchange_key(capacity: u64, full: u32, paired: u8, e: Exchange) -> u64
+fn exchange_key(u: Unit, full: u32, paired: u8, e: Exchange) -> Key
     requires { ⌜ (0 < full) × (full ≤ 2048) ⌝ }
-    ensures { λ r. ⌜ r ≡ exchangeKey capacity full paired e ⌝ }
+    ensures { λ r. ⌜ r ≡ exchangeKey u full paired e ⌝ }
 {
-    let fine = exchange_fine(capacity, full, paired, e);
+    let fine = exchange_fine(u, full, paired, e);
     let free = is_closed(e);
     key_of(fine, free, e.ox_id as u32)
 }
 
-fn exchange_keys(t: [Exchange; 8], capacity: u64, full: u32, paired: u8) -> [u64; 8]
+fn exchange_keys(t: [Exchange; 8], u: Unit, full: u32, paired: u8) -> [Key; 8]
     requires { ⌜ (0 < full) × (full ≤ 2048) ⌝ }
-    ensures { λ r. ⌜ r ≡ map (exchangeKey capacity full paired) t ⌝ }
+    ensures { λ r. ⌜ r ≡ map (exchangeKey u full paired) t ⌝ }
 {
-    let mut k = [0; 8];
+    let mut k = [Key { id: 0 }; 8];
     let mut i: usize = 0;
     while i < Login::PLACES {
         let e = t[i];
-        let n = exchange_key(capacity, full, paired, e);
+        let n = exchange_key(u, full, paired, e);
         k[i] = n;
         i += 1;
     }
@@ -310,8 +334,8 @@ fn params_fine(l: Login) -> bool
     l.sequences != 0
 }
 
-fn used_fine(capacity: u64, own: u32, l: Login) -> bool
-    ensures { λ r. ⌜ r ≡ usedFine capacity own l ⌝ }
+fn used_fine(u: Unit, own: u32, l: Login) -> bool
+    ensures { λ r. ⌜ r ≡ usedFine u own l ⌝ }
 {
     let t = l.places;
     let full = full_frame(l.size);
@@ -319,7 +343,7 @@ fn used_fine(capacity: u64, own: u32, l: Login) -> bool
     if flags_fine(l) {
         if address_fine(own, l) {
             if params_fine(l) {
-                let k = exchange_keys(t, capacity, full, paired);
+                let k = exchange_keys(t, u, full, paired);
                 return keys_fine(k);
             }
         }
@@ -327,21 +351,21 @@ fn used_fine(capacity: u64, own: u32, l: Login) -> bool
     false
 }
 
-fn login_fine(capacity: u64, own: u32, l: Login) -> bool
-    ensures { λ r. ⌜ r ≡ loginFine capacity own l ⌝ }
+fn login_fine(u: Unit, own: u32, l: Login) -> bool
+    ensures { λ r. ⌜ r ≡ loginFine u own l ⌝ }
 {
     let t = l.places;
     if l.used == 1 {
-        return used_fine(capacity, own, l);
+        return used_fine(u, own, l);
     }
     if l.used == 0 { all_closed(t) } else { false }
 }
 
 // The key of a place for a login.
-pub fn login_key(capacity: u64, own: u32, l: Login) -> u64
-    ensures { λ r. ⌜ r ≡ loginKey capacity own l ⌝ }
+pub fn login_key(u: Unit, own: u32, l: Login) -> Key
+    ensures { λ r. ⌜ r ≡ loginKey u own l ⌝ }
 {
-    let fine = login_fine(capacity, own, l);
+    let fine = login_fine(u, own, l);
     let free = is_free(l);
     key_of(fine, free, l.address)
 }
