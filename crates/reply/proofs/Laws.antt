@@ -14,7 +14,7 @@ use Rattle.wire.proofs.Parts.{over-part, onto-after, wrote-then, wrote-within}
 use Rattle.frame.specs.declared.Header.{Header}
 use Rattle.frame.specs.Head.{headerBytes}
 use Rattle.frame.proofs.Trips.{length-header}
-use Rattle.reply.specs.declared.Own.{Own}
+use Rattle.state.specs.declared.Own.{Own}
 use Rattle.reply.specs.declared.Reply.{Reply}
 use Rattle.reply.specs.Payload.{payloadOf}
 use Rattle.reply.specs.Reply.{headOf, filled, silent, bytesOf}

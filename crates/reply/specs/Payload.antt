@@ -4,7 +4,7 @@ use mathlib.Core.List.{List, [], _∷_, _++_}
 use lib.ListN.{take, replicate}
 use Rattle.wire.specs.Bytes.{bytes, part}
 use Rattle.frame.specs.declared.Header.{Header}
-use Rattle.reply.specs.declared.Own.{Own}
+use Rattle.state.specs.declared.Own.{Own}
 use Rattle.reply.specs.declared.Accepted.{Accepted}
 use Rattle.reply.specs.declared.Accepted.the-variants.{Short, Login, Address, Pair, Unpair}
 use Rattle.reply.specs.declared.Residual.{Residual}

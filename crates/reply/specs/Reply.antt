@@ -7,7 +7,7 @@ use lib.ListN.{length}
 use Rattle.wire.specs.Bytes.{onto, fillCount, fillOf}
 use Rattle.frame.specs.declared.Header.{Header}
 use Rattle.frame.specs.Head.{headerBytes}
-use Rattle.reply.specs.declared.Own.{Own}
+use Rattle.state.specs.declared.Own.{Own}
 use Rattle.reply.specs.declared.DataFrame.{DataFrame}
 use Rattle.reply.specs.declared.Reply.{Reply}
 use Rattle.reply.specs.declared.Reply.the-variants.{Nothing, Accept, Reject, Logout, AbortAccept, AbortReject, Respond, Data}

@@ -1,6 +1,7 @@
 // What the drive answers, as numbers, and the one writer of it.
 use frame::Header;
 use frame::write_header;
+use state::Own;
 use wire::least;
 use wire::put_fill;
 use wire::put_front;
@@ -11,12 +12,6 @@ ghost use lib.ListN.{length};
 ghost use Rattle.wire.specs.Bytes.{Wrote, onto, fillCount};
 ghost use Rattle.reply.specs.Payload.{shortBytes, loginBytes, addressBytes, pairBytes, unpairBytes, acceptedBytes, rejectBytes, logoutBytes, abortAcceptBytes, abortRejectBytes, residualFlag, residualSize, statusBytes, senseWith, senseBytes, responseBytes, dataBytes, payloadOf};
 ghost use Rattle.reply.specs.Reply.{answerHead, logoutHead, dataHead, headOf, filled, silent, bytesOf, sentOf, writtenOf};
-
-// What a reply takes from the setup: the own address and the accept words.
-pub struct Own {
-    pub address: u32,
-    pub accept: [u8; 112],
-}
 
 // The kinds of ACC: of 4 bytes, to PLOGI and PDISC, to ADISC, to PRLI, to PRLO.
 pub enum Accepted {

@@ -1,7 +1,7 @@
--- `seat::is_either` meets its contract: each test that was made is one of the definition. Assumes nothing.
+-- `calls::is_either` meets its contract: each test that was made is one of the definition. Assumes nothing.
 use borrow.Author.Tests.{eq-eqb, ne-eqb}
-use Rattle.seat.proofs.is_either.Statement.{statement}
-use Rattle.seat.proofs.is_either.Tie as tie
+use Rattle.calls.proofs.is_either.Statement.{statement}
+use Rattle.calls.proofs.is_either.Tie as tie
 
 returns : tie.Need-returns
 returns c = rw (eq-eqb _ _ (c .if1 .taken))

@@ -1,8 +1,8 @@
--- `seat::seat_of` meets its contract: what the search finds. Assumes nothing.
+-- `calls::seat_of` meets its contract: what the search finds. Assumes nothing.
 use borrow.Author.Needs.{needs}
-use Rattle.seat.specs.Seat.{seatOf}
-use Rattle.seat.proofs.seat_of.Statement.{statement}
-use Rattle.seat.proofs.seat_of.Tie as tie
+use Rattle.calls.specs.Seat.{seatOf}
+use Rattle.calls.proofs.seat_of.Statement.{statement}
+use Rattle.calls.proofs.seat_of.Tie as tie
 
 returns : tie.Need-returns
 unfolding seatOf

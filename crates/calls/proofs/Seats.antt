@@ -18,7 +18,7 @@ use Rattle.state.specs.Changes.{emptyLogin, isUsed, hasAddress, endedOf}
 use Rattle.state.specs.Tables.{isFree}
 use Rattle.formed.specs.Formed.{loginFine}
 use Rattle.formed.specs.Keys.{keyOf, loginKey}
-use Rattle.seat.specs.Seat.{isEither, findEither, seatOf, placeFor, seatPlace}
+use Rattle.calls.specs.Seat.{isEither, findEither, seatOf, placeFor, seatPlace}
 
 -- a search in what f makes of a list whose elements are all fine
 module _ {A B : Type 0} (fine q : A → Bool) (p : B → Bool) (f : A → B) (same : (x : A) → fine x ≡ true → p (f x) ≡ q x) where

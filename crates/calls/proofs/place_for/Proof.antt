@@ -1,8 +1,8 @@
--- `seat::place_for` meets its contract: what the search finds. Assumes nothing.
+-- `calls::place_for` meets its contract: what the search finds. Assumes nothing.
 use borrow.Author.Needs.{needs}
-use Rattle.seat.specs.Seat.{placeFor}
-use Rattle.seat.proofs.place_for.Statement.{statement}
-use Rattle.seat.proofs.place_for.Tie as tie
+use Rattle.calls.specs.Seat.{placeFor}
+use Rattle.calls.proofs.place_for.Statement.{statement}
+use Rattle.calls.proofs.place_for.Tie as tie
 
 returns : tie.Need-returns
 unfolding placeFor

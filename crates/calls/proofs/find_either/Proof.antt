@@ -1,13 +1,13 @@
--- `seat::find_either` meets its contract: a search, by the laws of one. Assumes nothing.
+-- `calls::find_either` meets its contract: a search, by the laws of one. Assumes nothing.
 use Prim.Native.Nat.{_-_}
 use mathlib.Core.Path.{_≡_}
 use lib.ListN.{length}
 use borrow.Author.Needs.{needs}
 use Rattle.tables.proofs.Loops.{Searched, search-starts, search-on, search-here, search-out}
 use Rattle.tables.proofs.Searches.{within}
-use Rattle.seat.specs.Seat.{isEither, findEither}
-use Rattle.seat.proofs.find_either.Statement.{statement}
-use Rattle.seat.proofs.find_either.Tie as tie
+use Rattle.calls.specs.Seat.{isEither, findEither}
+use Rattle.calls.proofs.find_either.Statement.{statement}
+use Rattle.calls.proofs.find_either.Tie as tie
 
 abbrev Inv-loop : tie.InvT-loop
 Inv-loop a b keys i₀ i = Searched 0 (isEither a b) keys 8 i
