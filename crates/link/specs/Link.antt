@@ -19,23 +19,15 @@ use Rattle.state.specs.declared.Change.the-variants.{EndLogin}
 use Rattle.state.specs.declared.Standing.{Standing}
 use Rattle.state.specs.declared.Standing.the-variants.{Open, NoExchange, NoLogin}
 use Rattle.state.specs.Changes.{emptyExchange, emptyLogin, loginAt, withLogin, withProven, withPaired, withoutExchanges, endedAt, changedAll}
-use Rattle.state.specs.Tables.{findLogin, freeLogin, findExchange, lookupOf}
+use Rattle.state.specs.Tables.{findLogin, freeLogin, lookupOf, soughtIn}
 use Rattle.reply.specs.declared.Reply.{Reply}
 use Rattle.reply.specs.declared.Reply.the-variants as reply
 use Rattle.reply.specs.declared.Accepted.{Accepted}
 use Rattle.reply.specs.declared.Accepted.the-variants as accepted
-use Rattle.link.specs.declared.Decided.{Decided}
-use Rattle.link.specs.declared.Served.{Served}
+use Rattle.calls.specs.declared.Served.{Served}
+use Rattle.calls.specs.Turn.{Decided, decidedAs, servedAs, servedAt}
 use Rattle.link.specs.declared.Outcome.{Outcome}
 use Rattle.link.specs.declared.Outcome.the-variants.{Place, Rejected}
-
--- the reply, and the port after it
-abbrev pub decidedAs : Reply → Port → Decided
-decidedAs r p = record { reply = r; port = p }
-
--- the reply, and the login after it
-abbrev pub servedAs : Reply → Login → Served
-servedAs r l = record { reply = r; login = l }
 
 -- "Codes and payload sizes: PLOGI 03h 116, LOGO 05h 16, RRQ 12h 44, PRLI 20h 20, PRLO 21h 20, PDISC 50h 116, ADISC 52h 28"; 0 for another code
 unfoldable pub sizeOf : ℕ → ℕ
@@ -144,23 +136,19 @@ prliOf l page kind flags roles =
 unfoldable pub prloOf : Login → ℕ → ℕ → Served
 prloOf l page kind = cond (pageFine page kind) (servedAs (reply.Accept accepted.Unpair) (withPaired (withoutExchanges l) 0)) (servedAs (reply.Reject 0x09 0x00) l)
 
--- RRQ: "W1/B1-3 not S_ID 03,15; that OX_ID open 03,17; else ACC of 4 bytes"
-unfoldable pub rrqOf : Login → ℕ → ℕ → ℕ → Served
-rrqOf l from named ox =
-    cond (eqb named from) (onFound (findExchange l ox) (λ j. servedAs (reply.Reject 0x03 0x17) l) (servedAs (reply.Accept accepted.Short) l)) (servedAs (reply.Reject 0x03 0x15) l)
+-- RRQ: "W1/B1-3 not S_ID 03,15; that OX_ID open 03,17; else ACC of 4 bytes", by the place where that exchange was found
+unfoldable pub rrqOf : Login → ℕ → ℕ → Found → Served
+rrqOf l from named place =
+    cond (eqb named from) (onFound place (λ j. servedAs (reply.Reject 0x03 0x17) l) (servedAs (reply.Accept accepted.Short) l)) (servedAs (reply.Reject 0x03 0x15) l)
 
--- a service on the sender's login, from the words of the payload: word w starts at byte 24 + 4 w of the frame
-unfoldable pub serviceOf : ℕ → Login → ℕ → List ℕ → Served
-serviceOf code l from f =
+-- a service on the sender's login, from the words of the payload: word w starts at byte 24 + 4 w of the frame; sought is where an exchange of that login stands, by its OX_ID
+unfoldable pub serviceOf : ℕ → Login → (ℕ → Found) → ℕ → List ℕ → Served
+serviceOf code l sought from f =
     cond (eqb code 0x50) (pdiscOf l (paramsOf f 28))
     (cond (eqb code 0x52) (adiscOf l from (num 3 f 49) (part 8 f 32) (part 8 f 40))
     (cond (eqb code 0x20) (prliOf l (num 3 f 25) (getD f 28 0) (getD f 30 0) (getD f 43 0))
     (cond (eqb code 0x21) (prloOf l (num 3 f 25) (getD f 28 0))
-    (rrqOf l from (num 3 f 29) (num 2 f 32)))))
-
--- the login out of the table, the service, the login back
-abbrev pub servedAt : Port → ℕ → Served → Decided
-servedAt p i s = decidedAs (s .reply) (withLogin p i (s .login))
+    (rrqOf l from (num 3 f 29) (sought (num 2 f 32))))))
 
 -- "Order: other code 0B,00; wrong size 03,00; no login (PLOGI and LOGO excepted) a drive LOGO; then"
 unfoldable pub linkOf : Port → Header → List ℕ → Decided
@@ -171,7 +159,7 @@ linkOf p h f =
     (cond (not (eqb (length f) (24 + sizeOf code))) (decidedAs (reply.Reject 0x03 0x00) p)
     (cond (eqb code 0x03) (plogiOf p from (paramsOf f 28))
     (cond (eqb code 0x05) (logoOf p from (num 3 f 29))
-    (onFound (findLogin p from) (λ i. servedAt p i (serviceOf code (loginAt p i) from f)) (decidedAs reply.Logout p)))))
+    (onFound (findLogin p from) (λ i. servedAt p i (serviceOf code (loginAt p i) (soughtIn p from) from f)) (decidedAs reply.Logout p)))))
 
 -- ABTS: "no login, drive LOGO. RX_ID not FFFFh, BA_RJT 00 03 03 00. Else the sender's exchange of that OX_ID, if any, ends; BA_ACC"
 abbrev pub abortedAt : Standing → ℕ → Port → Decided

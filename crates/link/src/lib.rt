@@ -1,16 +1,21 @@
 // What each link service answers and what it stores. Values are decided here, no byte is written.
+use calls::Decision;
+use calls::Served;
+use calls::View;
+use calls::answer_only;
+use calls::change_logins;
+use calls::place_for;
+use calls::serve_as;
+use calls::serve_at;
+use calls::store_login;
+use formed::Key;
 use frame::Header;
 use params::Params;
 use params::Verdict;
 use reply::Accepted;
 use reply::Reply;
-use seat::place_for;
-use seat::seat_of;
-use seat::seat_place;
 use state::Change;
 use state::Login;
-use state::Port;
-use state::changed;
 use state::empty_login;
 use state::end_exchange;
 use state::end_exchanges;
@@ -23,28 +28,9 @@ use wire::name_at;
 ghost use mathlib.Core.Path.{_≡_};
 ghost use Prim.Native.Nat.{_<_};
 ghost use Rattle.tables.specs.Lists.{same};
-ghost use Rattle.link.specs.Link.{servedAs, provenAs, sizeOf, newLogin, outcomeReply, namesDiffer, pdiscOf, adiscOf, pageFine, pairFine, prliOf, prloOf, rrqOf, serviceOf};
-ghost use Rattle.link.specs.Turn.{placedAs, changedAs, outcomeIn, plogiTurn, logoTurn, abortedLogin, linkTurn, abtsTurn};
-
-// A reply, and the port after it: what the definitions say of a request.
-pub struct Decided {
-    pub reply: Reply,
-    pub port: Port,
-}
-
-// The same, told by what changes: a change of every login, and then the login at a place.
-pub struct Placed {
-    pub reply: Reply,
-    pub change: Change,
-    pub at: usize,
-    pub login: Login,
-}
-
-// A service's reply, and the login after it.
-pub struct Served {
-    pub reply: Reply,
-    pub login: Login,
-}
+ghost use Rattle.state.specs.Tables.{findExchange};
+ghost use Rattle.link.specs.Link.{provenAs, sizeOf, newLogin, outcomeReply, namesDiffer, pdiscOf, adiscOf, pageFine, pairFine, prliOf, prloOf, rrqOf, serviceOf};
+ghost use Rattle.link.specs.Turn.{outcomeIn, plogiTurn, logoTurn, abortedLogin, linkTurn, abtsTurn};
 
 // What becomes of a PLOGI: the place of its login, or why it is rejected.
 pub enum Outcome {
@@ -53,47 +39,46 @@ pub enum Outcome {
 }
 
 // A request to the link services: other code, wrong size, PLOGI, LOGO, no login, and then the services on the sender's login.
-// It comes to a port whose logins have these keys; l is the sender's login, or that at place 0.
-pub fn link(keys: [u64; 8], l: Login, h: Header, frame: &[u8]) -> Placed
-    ensures { λ r. ⌜ r ≡ linkTurn keys l h (now (frame .entry)) ⌝ }
+pub fn link(v: View, h: Header, frame: &[u8]) -> Decision
+    ensures { λ r. ⌜ r ≡ linkTurn v h (now (frame .entry)) ⌝ }
 {
     let code = byte_at(frame, 24);
     let size = size_of(code);
     let from = h.s_id;
-    let i = seat_place(keys, from);
     if size == 0 {
-        return place_as(Reply::Reject(0x0b, 0), i, l);
+        return answer_only(Reply::Reject(0x0b, 0));
     }
     if frame.len() != 24 + size {
-        return place_as(Reply::Reject(0x03, 0), i, l);
+        return answer_only(Reply::Reject(0x03, 0));
     }
     if code == 0x03 {
-        return plogi(keys, l, from, Params::read(frame, 28));
+        let keys = v.keys;
+        return plogi(keys, from, Params::read(frame, 28));
     }
     if code == 0x05 {
-        return logo(i, l, from, be24(frame, 29));
+        return logo(from, be24(frame, 29));
     }
-    let Found::At(_) = seat_of(keys, from) else {
-        return place_as(Reply::Logout, i, l);
+    let seat = v.seat;
+    let Found::At(i) = seat else {
+        return answer_only(Reply::Logout);
     };
-    let s = service(code, l, from, frame);
-    let r = s.reply;
-    let m = s.login;
-    place_as(r, i, m)
+    let l = v.login;
+    serve_at(i, service(code, l, from, frame))
 }
 
 // ABTS of an exchange: without a login a drive LOGO; a named responder exchange is rejected; else the exchange ends, if there is one.
-pub fn abts(keys: [u64; 8], l: Login, from: u32, ox_id: u16, rx_id: u16) -> Placed
-    ensures { λ r. ⌜ r ≡ abtsTurn keys l from «ox_id» «rx_id» ⌝ }
+pub fn abts(v: View, h: Header) -> Decision
+    ensures { λ r. ⌜ r ≡ abtsTurn v h ⌝ }
 {
-    let i = seat_place(keys, from);
-    let Found::At(_) = seat_of(keys, from) else {
-        return place_as(Reply::Logout, i, l);
+    let seat = v.seat;
+    let Found::At(i) = seat else {
+        return answer_only(Reply::Logout);
     };
-    if rx_id == 0xffff {
-        place_as(Reply::AbortAccept, i, end_named(l, ox_id))
+    if h.rx_id == 0xffff {
+        let l = v.login;
+        store_login(Reply::AbortAccept, i, end_named(l, h.ox_id))
     } else {
-        place_as(Reply::AbortReject, i, l)
+        answer_only(Reply::AbortReject)
     }
 }
 
@@ -106,38 +91,6 @@ fn end_named(l: Login, ox_id: u16) -> Login
         Found::At(j) => end_exchange(l, j),
         Found::Nothing => l,
     }
-}
-
-// A reply, and the login at a place after it; no other login changes.
-pub fn place_as(r: Reply, at: usize, l: Login) -> Placed
-    ensures { λ t. ⌜ t ≡ placedAs r at l ⌝ }
-{
-    Placed {
-        reply: r,
-        change: Change::Keep,
-        at: at,
-        login: l,
-    }
-}
-
-// A reply, and a change of every login, with what it makes of the login at a place.
-pub fn change_as(r: Reply, c: Change, at: usize, l: Login) -> Placed
-    ensures { λ t. ⌜ t ≡ changedAs r c at l ⌝ }
-{
-    let m = changed(l, c);
-    Placed {
-        reply: r,
-        change: c,
-        at: at,
-        login: m,
-    }
-}
-
-// A reply with the login after it.
-pub fn serve_as(r: Reply, l: Login) -> Served
-    ensures { λ d. ⌜ d ≡ servedAs r l ⌝ }
-{
-    Served { reply: r, login: l }
 }
 
 // The payload size of a code, 0 for another code.
@@ -157,24 +110,24 @@ fn size_of(code: u8) -> usize
 }
 
 // PLOGI: ends the sender's login first, accepted or not; then the word tests in their order and the room test.
-fn plogi(keys: [u64; 8], l: Login, from: u32, q: Params) -> Placed
-    ensures { λ r. ⌜ r ≡ plogiTurn keys l from q ⌝ }
+fn plogi(keys: [Key; 8], from: u32, q: Params) -> Decision
+    ensures { λ r. ⌜ r ≡ plogiTurn keys from q ⌝ }
 {
     let o = judged(keys, from, q);
     let r = outcome_reply(o);
     let Outcome::Place(j) = o else {
-        return change_as(r, Change::EndLogin(from), seat_place(keys, from), l);
+        return change_logins(r, Change::EndLogin(from));
     };
     let m = new_login(from, q);
-    Placed {
+    Decision {
         reply: r,
         change: Change::EndLogin(from),
-        at: j,
+        at: Found::At(j),
         login: m,
     }
 }
 
-fn judged(keys: [u64; 8], from: u32, q: Params) -> Outcome
+fn judged(keys: [Key; 8], from: u32, q: Params) -> Outcome
     ensures { λ r. ⌜ r ≡ outcomeIn keys from q ⌝ }
 {
     let v = q.verdict();
@@ -221,19 +174,19 @@ fn new_login(from: u32, q: Params) -> Login
 }
 
 // LOGO: ends the login, if any, of a sender that names itself.
-fn logo(i: usize, l: Login, from: u32, named: u32) -> Placed
-    ensures { λ r. ⌜ r ≡ logoTurn i l from named ⌝ }
+fn logo(from: u32, named: u32) -> Decision
+    ensures { λ r. ⌜ r ≡ logoTurn from named ⌝ }
 {
     if named == from {
-        change_as(Reply::Accept(Accepted::Short), Change::EndLogin(from), i, l)
+        change_logins(Reply::Accept(Accepted::Short), Change::EndLogin(from))
     } else {
-        place_as(Reply::Reject(0x03, 0x1f), i, l)
+        answer_only(Reply::Reject(0x03, 0x1f))
     }
 }
 
 // The services on the sender's login: PDISC, ADISC, PRLI, PRLO, RRQ.
 fn service(code: u8, l: Login, from: u32, frame: &[u8]) -> Served
-    ensures { λ r. ⌜ r ≡ serviceOf code l from (now (frame .entry)) ⌝ }
+    ensures { λ r. ⌜ r ≡ serviceOf code l (findExchange l) from (now (frame .entry)) ⌝ }
 {
     if code == 0x50 {
         return pdisc(l, Params::read(frame, 28));
@@ -332,7 +285,7 @@ fn prlo(l: Login, page: u32, kind: u8) -> Served
 
 // RRQ: of the sender itself, and of no exchange that is open.
 fn rrq(l: Login, from: u32, named: u32, ox_id: u16) -> Served
-    ensures { λ r. ⌜ r ≡ rrqOf l from named «ox_id» ⌝ }
+    ensures { λ r. ⌜ r ≡ rrqOf l from named (findExchange l «ox_id») ⌝ }
 {
     if named == from {
         let f = find_exchange(l, ox_id);

@@ -4,6 +4,7 @@ use mathlib.Core.Path.{_≡_}
 use mathlib.Core.Bool.{Bool, not, _&&_}
 use lib.Dec.{eqb}
 use Rattle.tables.specs.declared.Found.{Found}
+use Rattle.tables.specs.declared.Found.the-variants.{At, Nothing}
 use Rattle.tables.specs.Lists.{first, onFound}
 use Rattle.state.specs.declared.Exchange.{Exchange}
 use Rattle.state.specs.declared.Login.{Login}
@@ -39,6 +40,15 @@ freeExchange l = first isClosed (l .places)
 -- the exchange of an address and an OX_ID
 unfoldable pub lookupOf : Port → ℕ → ℕ → Standing
 lookupOf p a x = onFound (findLogin p a) (λ i. onFound (findExchange (loginAt p i) x) (λ j. Open i j) (NoExchange i)) NoLogin
+
+-- the place of that exchange at its login
+abbrev pub placeIn : Standing → Found
+placeIn (Open i j) = At j
+placeIn (NoExchange i) = Nothing
+placeIn NoLogin = Nothing
+
+abbrev pub soughtIn : Port → ℕ → ℕ → Found
+soughtIn p a x = placeIn (lookupOf p a x)
 
 -- the places that a lookup names are places of the tables
 abbrev pub inTables : Standing → Type 0
