@@ -13,7 +13,7 @@ use Rattle.command.specs.declared.Task.the-variants.{Code, Apply, Execut
 
 -- "FCP_CMND: LUN 8, byte 9 attribute (ignored), 10 task flags, 11 bit 1 read and bit 0 write, CDB 16, FCP_DL 4"; the payload starts at byte 24 of the frame
 unfoldable pub cmndOf : List ℕ → Cmnd
-cmndOf f = record { unit = num 8 f 24; task = getD f 34 0; bits = getD f 35 0; cdb = part 16 f 36; expected = num 4 f 52 }
+cmndOf f = record { lun = num 8 f 24; task = getD f 34 0; bits = getD f 35 0; cdb = part 16 f 36; expected = num 4 f 52 }
 
 -- bit 0 of a byte
 abbrev pub lowBit : ℕ → Bool
@@ -29,19 +29,19 @@ malformed length bits = not (eqb length 56) || readBit bits && lowBit bits
 
 -- "04h clear task set .., 02h abort task set ..; with a nonzero LUN 05"
 abbrev pub onUnit : ℕ → Change → Task
-onUnit unit e = cond (eqb unit 0) (Apply e) (Code 0x05)
+onUnit lun e = cond (eqb lun 0) (Apply e) (Code 0x05)
 
 -- "80h, 40h: 04. 20h target reset .. 04h clear task set ends all, 02h abort task set the sender's"; no flag: the command of the CDB;
 -- every other byte is "a task flag of 01h, 08h, 10h, or two flags": 02
 unfoldable pub taskFor : ℕ → ℕ → ℕ → Task
-taskFor task unit from =
+taskFor task lun from =
     cond (eqb task 0x00) Execute
     (cond (eqb task 0x80) (Code 0x04)
     (cond (eqb task 0x40) (Code 0x04)
     (cond (eqb task 0x20) (Apply Reset)
-    (cond (eqb task 0x04) (onUnit unit (Clear from))
-    (cond (eqb task 0x02) (onUnit unit (EndExchangesOf from))
+    (cond (eqb task 0x04) (onUnit lun (Clear from))
+    (cond (eqb task 0x02) (onUnit lun (EndExchangesOf from))
     (Code 0x02))))))
 
 unfoldable pub taskOf : Cmnd → ℕ → ℕ → Task
-taskOf c length from = cond (malformed length (c .bits)) (Code 0x02) (taskFor (c .task) (c .unit) from)
+taskOf c length from = cond (malformed length (c .bits)) (Code 0x02) (taskFor (c .task) (c .lun) from)

@@ -4,22 +4,24 @@ use mathlib.Core.Bool.{Bool, cond, _||_}
 use mathlib.Core.List.{List}
 use lib.Dec.{eqb}
 use lib.ListN.{length}
+use Rattle.tables.specs.declared.Found.{Found}
 use Rattle.tables.specs.Lists.{onFound}
 use Rattle.frame.specs.declared.Header.{Header}
 use Rattle.state.specs.declared.Exchange.{Exchange}
 use Rattle.state.specs.declared.Login.{Login}
 use Rattle.state.specs.declared.Port.{Port}
+use Rattle.state.specs.declared.Unit.{Unit}
 use Rattle.state.specs.declared.Change.the-variants.{EndLogin}
 use Rattle.state.specs.Changes.{loginAt, withAttention, withExchange, endedAt, changedAll}
-use Rattle.state.specs.Tables.{findLogin, findExchange, freeExchange}
+use Rattle.state.specs.Kinds.{kindSenseReset, kindSenseCleared}
+use Rattle.state.specs.Tables.{findLogin, freeExchange, soughtIn}
 use Rattle.formed.specs.Formed.{total}
 use Rattle.reply.specs.declared.Reply.the-variants as reply
 use Rattle.reply.specs.declared.Response.the-variants as response
 use Rattle.reply.specs.Payload.{senseWith}
 use Rattle.residual.specs.Residual.{residualOf}
-use Rattle.link.specs.declared.Decided.{Decided}
-use Rattle.link.specs.declared.Served.{Served}
-use Rattle.link.specs.Link.{decidedAs, servedAs, servedAt}
+use Rattle.calls.specs.declared.Served.{Served}
+use Rattle.calls.specs.Turn.{Decided, decidedAs, servedAs, servedAt}
 use Rattle.command.specs.declared.Cmnd.{Cmnd}
 use Rattle.command.specs.declared.Task.{Task}
 use Rattle.command.specs.declared.Task.the-variants as task
@@ -35,7 +37,7 @@ refusedWith l key code expected =
 
 -- the exchange reports an attention
 abbrev pub reports : ℕ → Bool
-reports kind = eqb kind 6 || eqb kind 7
+reports kind = eqb kind kindSenseReset || eqb kind kindSenseCleared
 
 -- "the attention, cleared as its exchange opens"
 unfoldable pub toldOf : Login → ℕ → Login
@@ -55,10 +57,10 @@ answeredAs (asked.Refused key code) l c = refusedWith l key code (c .expected)
 answeredAs asked.Attention l c = refusedWith (withAttention l 0) 0x06 (l .attention) (c .expected)
 answeredAs (asked.Wants e) l c = answerOf l (c .bits) e
 
--- "(1) OX_ID open at this login: that exchange ends, 0B/4E/00", and then the other tests
-unfoldable pub executeOf : ℕ → Login → ℕ → Cmnd → Served
-executeOf capacity l ox c =
-    onFound (findExchange l ox) (λ j. refusedWith (endedAt l j) 0x0b 0x4e (c .expected)) (answeredAs (askedOf capacity (l .attention) ox c) l c)
+-- "(1) OX_ID open at this login: that exchange ends, 0B/4E/00", by the place where it was found, and then the other tests
+unfoldable pub executeOf : Unit → Login → Found → ℕ → Cmnd → Served
+executeOf u l place ox c =
+    onFound place (λ j. refusedWith (endedAt l j) 0x0b 0x4e (c .expected)) (answeredAs (askedOf u (l .attention) ox c) l c)
 
 -- what the task flags ask for: the answer alone; "Done: 00"; or the command
 abbrev pub doneAs : Task → Port → Decided → Decided
@@ -67,15 +69,16 @@ doneAs (task.Apply e) p d = decidedAs (reply.Respond (response.Code 0x00)) (chan
 doneAs task.Execute p d = d
 
 -- an FCP_CMND from the paired login at place i, in a frame of this length
-unfoldable pub commandedAt : ℕ → Port → ℕ → Header → Cmnd → ℕ → Decided
-commandedAt capacity p i h c length = doneAs (taskOf c length (h .«s_id»)) p (servedAt p i (executeOf capacity (loginAt p i) (h .«ox_id») c))
+unfoldable pub commandedAt : Unit → Port → ℕ → Header → Cmnd → ℕ → Decided
+commandedAt u p i h c length =
+    doneAs (taskOf c length (h .«s_id»)) p (servedAt p i (executeOf u (loginAt p i) (soughtIn p (h .«s_id») (h .«ox_id»)) (h .«ox_id») c))
 
 -- "No paired login: drive LOGO, login ended"
 unfoldable pub loggedOut : Port → ℕ → Decided
 loggedOut p from = decidedAs reply.Logout (changedAll (EndLogin from) p)
 
 -- an FCP_CMND, read from its frame
-unfoldable pub commandOf : ℕ → Port → Header → List ℕ → Decided
-commandOf capacity p h f =
+unfoldable pub commandOf : Unit → Port → Header → List ℕ → Decided
+commandOf u p h f =
     let from = h .«s_id» in
-    onFound (findLogin p from) (λ i. cond (eqb (loginAt p i .paired) 1) (commandedAt capacity p i h (cmndOf f) (length f)) (loggedOut p from)) (loggedOut p from)
+    onFound (findLogin p from) (λ i. cond (eqb (loginAt p i .paired) 1) (commandedAt u p i h (cmndOf f) (length f)) (loggedOut p from)) (loggedOut p from)

@@ -1,58 +1,78 @@
 -- Tests 2 to 7 of a command, and what it wants (document 01, "Tests for the rest" and "Wanted").
 use Prim.Native.Nat.{ℕ, _+_, _*_, min}
-use mathlib.Core.Bool.{Bool, cond, not, _&&_, _||_}
-use mathlib.Core.List.{List}
+use mathlib.Core.Bool.{Bool, true, false, cond, not, _&&_, _||_}
 use lib.Dec.{eqb, leb, ltb}
-use lib.ListN.{getD}
-use Rattle.wire.specs.Bytes.{num}
 use Rattle.state.specs.declared.Exchange.{Exchange}
+use Rattle.state.specs.declared.Unit.{Unit}
+use Rattle.state.specs.Kinds.{kindFree, kindRead, kindInquiry, kindInquiryOther, kindCapacity, kindSenseNone, kindSenseReset, kindSenseCleared, kindSenseOther}
 use Rattle.command.specs.declared.Cmnd.{Cmnd}
+use Rattle.command.specs.declared.Range.{Range}
+use Rattle.command.specs.declared.Operation.{Operation}
+use Rattle.command.specs.declared.Operation.the-variants.{TestUnitReady, RequestSense, Inquiry, ReadCapacity, Read, Write, Unknown}
+use Rattle.command.specs.declared.Decoded.{Decoded}
 use Rattle.command.specs.declared.Asked.{Asked}
 use Rattle.command.specs.declared.Asked.the-variants.{Refused, Attention, Wants}
-use Rattle.command.specs.Cmnd.{lowBit}
+use Rattle.command.specs.Cdb.{decodedOf}
 
 -- "INQUIRY and REQUEST SENSE skip 2 and 3"
-unfoldable pub skips : ℕ → Bool
-skips code = eqb code 0x12 || eqb code 0x03
+abbrev pub skips : Operation → Bool
+skips TestUnitReady = false
+skips (RequestSense most) = true
+skips (Inquiry most) = true
+skips ReadCapacity = false
+skips (Read r) = false
+skips Write = false
+skips Unknown = false
 
 -- "(2) LUN not 0"
-unfoldable pub otherUnit : ℕ → ℕ → Bool
-otherUnit code unit = not (skips code) && not (eqb unit 0)
+unfoldable pub otherUnit : Operation → ℕ → Bool
+otherUnit o lun = not (skips o) && not (eqb lun 0)
 
 -- "(3) attention"
-unfoldable pub attends : ℕ → ℕ → Bool
-attends code attention = not (skips code) && not (eqb attention 0)
+unfoldable pub attends : Operation → ℕ → Bool
+attends o attention = not (skips o) && not (eqb attention 0)
 
 -- "(4) code not 00h, 03h, 12h, 25h, 28h, 2Ah"
-unfoldable pub unknownCode : ℕ → Bool
-unknownCode code = not (eqb code 0x00 || eqb code 0x03 || eqb code 0x12 || eqb code 0x25 || eqb code 0x28 || eqb code 0x2a)
+abbrev pub unknown : Operation → Bool
+unknown TestUnitReady = false
+unknown (RequestSense most) = false
+unknown (Inquiry most) = false
+unknown ReadCapacity = false
+unknown (Read r) = false
+unknown Write = false
+unknown Unknown = true
 
--- "(6) INQUIRY byte 1 bit 0 or byte 2"
-unfoldable pub inquiryField : List ℕ → Bool
-inquiryField cdb = lowBit (getD cdb 1 0) || not (eqb (getD cdb 2 0) 0)
+-- "(5) 2Ah"
+abbrev pub writes : Operation → Bool
+writes TestUnitReady = false
+writes (RequestSense most) = false
+writes (Inquiry most) = false
+writes ReadCapacity = false
+writes (Read r) = false
+writes Write = true
+writes Unknown = false
 
--- "READ CAPACITY bytes 2-5 or byte 8 bit 0"
-unfoldable pub capacityField : List ℕ → Bool
-capacityField cdb = not (eqb (num 4 cdb 2) 0) || lowBit (getD cdb 8 0)
+-- "address not below capacity, or address plus count above it"
+unfoldable pub beyond : Unit → Range → Bool
+beyond u r = leb (u .capacity) (r .start) || ltb (u .capacity) (r .start + r .blocks)
 
--- "READ(10) byte 1 bit 0 set"
-unfoldable pub fieldSet : ℕ → List ℕ → Bool
-fieldSet code cdb =
-    cond (eqb code 0x12) (inquiryField cdb)
-    (cond (eqb code 0x25) (capacityField cdb)
-    (eqb code 0x28 && lowBit (getD cdb 1 0)))
-
--- "(7) READ(10) address not below capacity, or address plus count above it"; address CDB bytes 2-5, count 7-8
-unfoldable pub outside : ℕ → ℕ → List ℕ → Bool
-outside capacity code cdb = eqb code 0x28 && (leb capacity (num 4 cdb 2) || ltb capacity (num 4 cdb 2 + num 2 cdb 7))
+-- "(7) READ(10)"
+abbrev pub outside : Unit → Operation → Bool
+outside u TestUnitReady = false
+outside u (RequestSense most) = false
+outside u (Inquiry most) = false
+outside u ReadCapacity = false
+outside u (Read r) = beyond u r
+outside u Write = false
+outside u Unknown = false
 
 -- "00/00/00, the attention, .. or 05/25/00 for another LUN", as the kind of the exchange that reports it
 unfoldable pub senseKind : ℕ → ℕ → ℕ
-senseKind unit attention = cond (not (eqb unit 0)) 8 (cond (eqb attention 0) 5 (cond (eqb attention 0x29) 6 7))
+senseKind lun attention = cond (not (eqb lun 0)) kindSenseOther (cond (eqb attention 0) kindSenseNone (cond (eqb attention 0x29) kindSenseReset kindSenseCleared))
 
 -- "7Fh first for another LUN", as the kind of the exchange that sends it
 unfoldable pub inquiryKind : ℕ → ℕ
-inquiryKind unit = cond (eqb unit 0) 2 3
+inquiryKind lun = cond (eqb lun 0) kindInquiry kindInquiryOther
 
 -- an exchange of which nothing is sent
 abbrev pub fresh : ℕ → ℕ → ℕ → ℕ → ℕ → ℕ → Exchange
@@ -69,24 +89,25 @@ fresh ox expected kind wanted start blocks =
     }
 
 -- "Wanted: 0; 18 or byte 4 if smaller (..); 36 or byte 4 if smaller (..); 8 (..); count × 512": of TEST UNIT READY, REQUEST SENSE, INQUIRY, READ CAPACITY, READ(10)
-unfoldable pub exchangeFor : ℕ → ℕ → ℕ → Cmnd → Exchange
-exchangeFor code attention ox c =
-    let cdb = c .cdb in
-    let expected = c .expected in
-    cond (eqb code 0x03) (fresh ox expected (senseKind (c .unit) attention) (min 18 (getD cdb 4 0)) 0 0)
-    (cond (eqb code 0x12) (fresh ox expected (inquiryKind (c .unit)) (min 36 (getD cdb 4 0)) 0 0)
-    (cond (eqb code 0x25) (fresh ox expected 4 8 0 0)
-    (cond (eqb code 0x28) (fresh ox expected 1 (512 * num 2 cdb 7) (num 4 cdb 2) (num 2 cdb 7))
-    (fresh ox expected 0 0 0 0))))
+abbrev pub exchangeFor : Operation → ℕ → ℕ → ℕ → ℕ → Exchange
+exchangeFor TestUnitReady attention ox lun expected = fresh ox expected kindFree 0 0 0
+exchangeFor (RequestSense most) attention ox lun expected = fresh ox expected (senseKind lun attention) (min 18 most) 0 0
+exchangeFor (Inquiry most) attention ox lun expected = fresh ox expected (inquiryKind lun) (min 36 most) 0 0
+exchangeFor ReadCapacity attention ox lun expected = fresh ox expected kindCapacity 8 0 0
+exchangeFor (Read r) attention ox lun expected = fresh ox expected kindRead (512 * r .blocks) (r .start) (r .blocks)
+exchangeFor Write attention ox lun expected = fresh ox expected kindFree 0 0 0
+exchangeFor Unknown attention ox lun expected = fresh ox expected kindFree 0 0 0
 
 -- "(2) .., 05/25/00; (3) .., and cleared; (4) .., 05/20/00; (5) 2Ah, 07/27/00; (6) .., 05/24/00; (7) .., 05/21/00"
-unfoldable pub askedOf : ℕ → ℕ → ℕ → Cmnd → Asked
-askedOf capacity attention ox c =
-    let code = getD (c .cdb) 0 0 in
-    cond (otherUnit code (c .unit)) (Refused 0x05 0x25)
-    (cond (attends code attention) Attention
-    (cond (unknownCode code) (Refused 0x05 0x20)
-    (cond (eqb code 0x2a) (Refused 0x07 0x27)
-    (cond (fieldSet code (c .cdb)) (Refused 0x05 0x24)
-    (cond (outside capacity code (c .cdb)) (Refused 0x05 0x21)
-    (Wants (exchangeFor code attention ox c)))))))
+unfoldable pub askedBy : Unit → ℕ → ℕ → Cmnd → Decoded → Asked
+askedBy u attention ox c d =
+    cond (otherUnit (d .operation) (c .lun)) (Refused 0x05 0x25)
+    (cond (attends (d .operation) attention) Attention
+    (cond (unknown (d .operation)) (Refused 0x05 0x20)
+    (cond (writes (d .operation)) (Refused 0x07 0x27)
+    (cond (d .«wrong_field») (Refused 0x05 0x24)
+    (cond (outside u (d .operation)) (Refused 0x05 0x21)
+    (Wants (exchangeFor (d .operation) attention ox (c .lun) (c .expected))))))))
+
+unfoldable pub askedOf : Unit → ℕ → ℕ → Cmnd → Asked
+askedOf u attention ox c = askedBy u attention ox c (decodedOf (c .cdb))

@@ -1,21 +1,22 @@
 // What an FCP_CMND answers and what it stores: no paired login, the task flags, and the tests of a command in their order.
 // Values are decided here, no byte is written.
+use calls::Decision;
+use calls::Served;
+use calls::View;
+use calls::answer_only;
+use calls::change_logins;
+use calls::serve_as;
+use calls::serve_at;
 use formed::total_of;
 use frame::Header;
-use link::Placed;
-use link::Served;
-use link::change_as;
-use link::place_as;
-use link::serve_as;
 use reply::Reply;
 use reply::Response;
 use reply::sense_with;
 use residual::residual_of;
-use seat::seat_of;
-use seat::seat_place;
 use state::Change;
 use state::Exchange;
 use state::Login;
+use state::Unit;
 use state::end_exchange;
 use state::find_exchange;
 use state::free_exchange;
@@ -28,23 +29,48 @@ use wire::be64;
 use wire::byte_at;
 use wire::name_at;
 ghost use mathlib.Core.Path.{_≡_};
-ghost use Prim.Native.Nat.{_*_, min};
+ghost use Prim.Native.Nat.{_*_, _≤_, min};
 ghost use Rattle.wire.specs.Bytes.{part};
+ghost use Rattle.state.specs.Kinds.{kindRead};
+ghost use Rattle.state.specs.Tables.{findExchange};
 ghost use Rattle.command.specs.Cmnd.{cmndOf, lowBit, readBit, malformed, onUnit, taskFor, taskOf};
-ghost use Rattle.command.specs.Tests.{skips, otherUnit, attends, unknownCode, inquiryField, capacityField, fieldSet, outside, senseKind, inquiryKind, fresh, exchangeFor, askedOf};
+ghost use Rattle.command.specs.Cdb.{decodedAs, decodedOf, range10, inquiryField, capacityField, Countable};
+ghost use Rattle.command.specs.Tests.{skips, otherUnit, attends, unknown, writes, beyond, outside, senseKind, inquiryKind, fresh, exchangeFor, askedOf};
 ghost use Rattle.command.specs.Command.{refusedWith, toldOf, answerOf, executeOf};
-ghost use Rattle.command.specs.Turn.{loggedOutIn, commandedTurn, commandTurn};
+ghost use Rattle.command.specs.Turn.{loggedOutTurn, commandedTurn, commandTurn};
 
 // The fields of an FCP_CMND.
 pub struct Cmnd {
-    // LUN
-    pub unit: u64,
+    pub lun: u64,
     pub task: u8,
     // bit 1 read, bit 0 write
     pub bits: u8,
     pub cdb: [u8; 16],
     // FCP_DL
     pub expected: u32,
+}
+
+// Blocks of the unit: the first, and how many.
+pub struct Range {
+    pub start: u64,
+    pub blocks: u32,
+}
+
+// What a CDB asks for, by its operation code; REQUEST SENSE and INQUIRY with the bytes that they allow (byte 4).
+pub enum Operation {
+    TestUnitReady,
+    RequestSense(u8),
+    Inquiry(u8),
+    ReadCapacity,
+    Read(Range),
+    Write,
+    Unknown,
+}
+
+// A CDB, decoded, and whether a field that must be zero is not.
+pub struct Decoded {
+    pub operation: Operation,
+    pub wrong_field: bool,
 }
 
 // What the task flags ask for: an answer with this RSP_CODE, a change of the logins, or the command of the CDB.
@@ -64,44 +90,39 @@ pub enum Asked {
     Wants(Exchange),
 }
 
-// An FCP_CMND to a drive of this capacity, at a port whose logins have these keys: without a paired login a drive LOGO, and the login ends.
-// l is the sender's login, or that at place 0.
-pub fn command(capacity: u64, keys: [u64; 8], l: Login, h: Header, frame: &[u8]) -> Placed
-    ensures { λ r. ⌜ r ≡ commandTurn capacity keys l h (now (frame .entry)) ⌝ }
+// An FCP_CMND: without a paired login a drive LOGO, and the login ends.
+pub fn command(v: View, h: Header, frame: &[u8]) -> Decision
+    ensures { λ r. ⌜ r ≡ commandTurn v h (now (frame .entry)) ⌝ }
 {
-    let from = h.s_id;
-    let i = seat_place(keys, from);
-    let Found::At(_) = seat_of(keys, from) else {
-        return logged_out(i, l, from);
+    let seat = v.seat;
+    let Found::At(i) = seat else {
+        return logged_out(h.s_id);
     };
+    let u = v.unit;
+    let l = v.login;
     if l.paired == 1 {
         let c = read_cmnd(frame);
-        commanded(capacity, i, l, h, c, frame.len())
+        commanded(u, i, l, h, c, frame.len())
     } else {
-        logged_out(i, l, from)
+        logged_out(h.s_id)
     }
 }
 
-fn logged_out(i: usize, l: Login, from: u32) -> Placed
-    ensures { λ r. ⌜ r ≡ loggedOutIn i l from ⌝ }
+fn logged_out(from: u32) -> Decision
+    ensures { λ r. ⌜ r ≡ loggedOutTurn from ⌝ }
 {
-    change_as(Reply::Logout, Change::EndLogin(from), i, l)
+    change_logins(Reply::Logout, Change::EndLogin(from))
 }
 
 // An FCP_CMND from the paired login l at place i, in a frame of this length.
-fn commanded(capacity: u64, i: usize, l: Login, h: Header, c: Cmnd, length: usize) -> Placed
-    ensures { λ r. ⌜ r ≡ commandedTurn capacity i l h c length ⌝ }
+fn commanded(u: Unit, i: usize, l: Login, h: Header, c: Cmnd, length: usize) -> Decision
+    ensures { λ r. ⌜ r ≡ commandedTurn u i l h c length ⌝ }
 {
     let t = task_of(c, length, h.s_id);
     match t {
-        Task::Code(code) => place_as(Reply::Respond(Response::Code(code)), i, l),
-        Task::Apply(e) => change_as(Reply::Respond(Response::Code(0)), e, i, l),
-        Task::Execute => {
-            let s = execute(capacity, l, h.ox_id, c);
-            let r = s.reply;
-            let m = s.login;
-            place_as(r, i, m)
-        }
+        Task::Code(code) => answer_only(Reply::Respond(Response::Code(code))),
+        Task::Apply(e) => change_logins(Reply::Respond(Response::Code(0)), e),
+        Task::Execute => serve_at(i, execute(u, l, h.ox_id, c)),
     }
 }
 
@@ -111,7 +132,7 @@ fn read_cmnd(frame: &[u8]) -> Cmnd
 {
     let cdb = cdb_at(frame);
     Cmnd {
-        unit: be64(frame, 24),
+        lun: be64(frame, 24),
         task: byte_at(frame, 34),
         bits: byte_at(frame, 35),
         cdb: cdb,
@@ -151,7 +172,7 @@ fn task_of(c: Cmnd, length: usize, from: u32) -> Task
     if is_malformed(length, c.bits) {
         Task::Code(0x02)
     } else {
-        task_for(c.task, c.unit, from)
+        task_for(c.task, c.lun, from)
     }
 }
 
@@ -165,25 +186,25 @@ fn is_malformed(length: usize, bits: u8) -> bool
 }
 
 // Any byte that is not named has a flag of 01h, 08h or 10h, or two flags.
-fn task_for(task: u8, unit: u64, from: u32) -> Task
-    ensures { λ r. ⌜ r ≡ taskFor task unit from ⌝ }
+fn task_for(task: u8, lun: u64, from: u32) -> Task
+    ensures { λ r. ⌜ r ≡ taskFor task lun from ⌝ }
 {
     match task {
         0x00 => Task::Execute,
         0x80 => Task::Code(0x04),
         0x40 => Task::Code(0x04),
         0x20 => Task::Apply(Change::Reset),
-        0x04 => on_unit(unit, Change::Clear(from)),
-        0x02 => on_unit(unit, Change::EndExchangesOf(from)),
+        0x04 => on_unit(lun, Change::Clear(from)),
+        0x02 => on_unit(lun, Change::EndExchangesOf(from)),
         _ => Task::Code(0x02),
     }
 }
 
 // A task set is that of unit 0 alone.
-fn on_unit(unit: u64, e: Change) -> Task
-    ensures { λ r. ⌜ r ≡ onUnit unit e ⌝ }
+fn on_unit(lun: u64, e: Change) -> Task
+    ensures { λ r. ⌜ r ≡ onUnit lun e ⌝ }
 {
-    if unit == 0 {
+    if lun == 0 {
         Task::Apply(e)
     } else {
         Task::Code(0x05)
@@ -191,14 +212,14 @@ fn on_unit(unit: u64, e: Change) -> Task
 }
 
 // A command on its sender's login: test 1, that its OX_ID is not open, and what the other tests make of it.
-fn execute(capacity: u64, l: Login, ox_id: u16, c: Cmnd) -> Served
-    ensures { λ r. ⌜ r ≡ executeOf capacity l «ox_id» c ⌝ }
+fn execute(u: Unit, l: Login, ox_id: u16, c: Cmnd) -> Served
+    ensures { λ r. ⌜ r ≡ executeOf u l (findExchange l «ox_id») «ox_id» c ⌝ }
 {
     let expected = c.expected;
     if let Found::At(j) = find_exchange(l, ox_id) {
         return refuse(end_exchange(l, j), 0x0b, 0x4e, expected);
     }
-    let a = tested(capacity, l.attention, ox_id, c);
+    let a = tested(u, l.attention, ox_id, c);
     match a {
         Asked::Refused(key, code) => refuse(l, key, code, expected),
         Asked::Attention => refuse(
@@ -223,83 +244,66 @@ fn refuse(l: Login, key: u8, code: u8, expected: u32) -> Served
 }
 
 // Tests 2 to 7, the first that fails.
-fn tested(capacity: u64, attention: u8, ox_id: u16, c: Cmnd) -> Asked
-    ensures { λ r. ⌜ r ≡ askedOf capacity attention «ox_id» c ⌝ }
+fn tested(u: Unit, attention: u8, ox_id: u16, c: Cmnd) -> Asked
+    ensures { λ r. ⌜ r ≡ askedOf u attention «ox_id» c ⌝ }
 {
     let cdb = c.cdb;
-    let code = cdb[0];
-    if other_unit(code, c.unit) {
+    let d = decode(cdb);
+    let o = d.operation;
+    if other_unit(o, c.lun) {
         return Asked::Refused(0x05, 0x25);
     }
-    if attention_stands(code, attention) {
+    if attention_stands(o, attention) {
         return Asked::Attention;
     }
-    if is_unknown(code) {
+    if is_unknown(o) {
         return Asked::Refused(0x05, 0x20);
     }
-    if code == 0x2a {
+    if is_write(o) {
         return Asked::Refused(0x07, 0x27);
     }
-    if field_set(code, cdb) {
+    if d.wrong_field {
         return Asked::Refused(0x05, 0x24);
     }
-    if is_outside(capacity, code, cdb) {
+    if is_outside(u, o) {
         return Asked::Refused(0x05, 0x21);
     }
-    Asked::Wants(exchange_for(code, attention, ox_id, c))
+    Asked::Wants(exchange_for(o, attention, ox_id, c.lun, c.expected))
 }
 
-// Test 2.
-fn other_unit(code: u8, unit: u64) -> bool
-    ensures { λ r. ⌜ r ≡ otherUnit code unit ⌝ }
+// The one place where operation codes are told apart.
+fn decode(cdb: [u8; 16]) -> Decoded
+    ensures { λ r. ⌜ (r ≡ decodedOf cdb) × Countable (r .operation) ⌝ }
 {
-    if skips_two(code) { false } else { unit != 0 }
-}
-
-// Test 3.
-fn attention_stands(code: u8, attention: u8) -> bool
-    ensures { λ r. ⌜ r ≡ attends code attention ⌝ }
-{
-    if skips_two(code) {
-        false
-    } else {
-        attention != Login::NO_ATTENTION
+    let most = cdb[4];
+    match cdb[0] {
+        0x00 => decoded(Operation::TestUnitReady, false),
+        0x03 => decoded(Operation::RequestSense(most), false),
+        0x12 => decoded(Operation::Inquiry(most), inquiry_field(cdb)),
+        0x25 => decoded(Operation::ReadCapacity, capacity_field(cdb)),
+        0x28 => decoded(Operation::Read(range_10(cdb)), low_bit(cdb[1])),
+        0x2a => decoded(Operation::Write, false),
+        _ => decoded(Operation::Unknown, false),
     }
 }
 
-// INQUIRY and REQUEST SENSE skip tests 2 and 3.
-fn skips_two(code: u8) -> bool
-    ensures { λ r. ⌜ r ≡ skips code ⌝ }
+fn decoded(o: Operation, wrong_field: bool) -> Decoded
+    ensures { λ r. ⌜ r ≡ decodedAs o «wrong_field» ⌝ }
 {
-    if code == 0x12 { true } else { code == 0x03 }
-}
-
-// Test 4.
-fn is_unknown(code: u8) -> bool
-    ensures { λ r. ⌜ r ≡ unknownCode code ⌝ }
-{
-    match code {
-        0x00 => false,
-        0x03 => false,
-        0x12 => false,
-        0x25 => false,
-        0x28 => false,
-        0x2a => false,
-        _ => true,
+    Decoded {
+        operation: o,
+        wrong_field: wrong_field,
     }
 }
 
-// Test 6.
-fn field_set(code: u8, cdb: [u8; 16]) -> bool
-    ensures { λ r. ⌜ r ≡ fieldSet code cdb ⌝ }
+// The range of a CDB of ten bytes: address bytes 2-5, count 7-8.
+fn range_10(cdb: [u8; 16]) -> Range
+    ensures { λ r. ⌜ (r ≡ range10 cdb) × (r .blocks ≤ 65535) ⌝ }
 {
-    if code == 0x12 {
-        return inquiry_field(cdb);
+    Range {
+        start: be32(&cdb, 2) as u64,
+        blocks: be16(&cdb, 7) as u32,
     }
-    if code == 0x25 {
-        return capacity_field(cdb);
-    }
-    if code == 0x28 { low_bit(cdb[1]) } else { false }
 }
 
 fn inquiry_field(cdb: [u8; 16]) -> bool
@@ -318,66 +322,159 @@ fn capacity_field(cdb: [u8; 16]) -> bool
     }
 }
 
-// Test 7. The sum of address and count is taken in 64 bits.
-fn is_outside(capacity: u64, code: u8, cdb: [u8; 16]) -> bool
-    ensures { λ r. ⌜ r ≡ outside capacity code cdb ⌝ }
+// Test 2.
+fn other_unit(o: Operation, lun: u64) -> bool
+    ensures { λ r. ⌜ r ≡ otherUnit o lun ⌝ }
 {
-    let start = be32(&cdb, 2) as u64;
-    let count = be16(&cdb, 7) as u64;
-    if code == 0x28 {
-        if capacity <= start {
-            true
-        } else {
-            capacity < start + count
-        }
-    } else {
+    if skips_two(o) { false } else { lun != 0 }
+}
+
+// Test 3.
+fn attention_stands(o: Operation, attention: u8) -> bool
+    ensures { λ r. ⌜ r ≡ attends o attention ⌝ }
+{
+    if skips_two(o) {
         false
+    } else {
+        attention != Login::NO_ATTENTION
+    }
+}
+
+// INQUIRY and REQUEST SENSE skip tests 2 and 3.
+fn skips_two(o: Operation) -> bool
+    ensures { λ r. ⌜ r ≡ skips o ⌝ }
+{
+    match o {
+        Operation::TestUnitReady => false,
+        Operation::RequestSense(_) => true,
+        Operation::Inquiry(_) => true,
+        Operation::ReadCapacity => false,
+        Operation::Read(_) => false,
+        Operation::Write => false,
+        Operation::Unknown => false,
+    }
+}
+
+// Test 4.
+fn is_unknown(o: Operation) -> bool
+    ensures { λ r. ⌜ r ≡ unknown o ⌝ }
+{
+    match o {
+        Operation::TestUnitReady => false,
+        Operation::RequestSense(_) => false,
+        Operation::Inquiry(_) => false,
+        Operation::ReadCapacity => false,
+        Operation::Read(_) => false,
+        Operation::Write => false,
+        Operation::Unknown => true,
+    }
+}
+
+// Test 5: the unit is read only.
+fn is_write(o: Operation) -> bool
+    ensures { λ r. ⌜ r ≡ writes o ⌝ }
+{
+    match o {
+        Operation::TestUnitReady => false,
+        Operation::RequestSense(_) => false,
+        Operation::Inquiry(_) => false,
+        Operation::ReadCapacity => false,
+        Operation::Read(_) => false,
+        Operation::Write => true,
+        Operation::Unknown => false,
+    }
+}
+
+// Test 7.
+fn is_outside(u: Unit, o: Operation) -> bool
+    ensures { λ r. ⌜ r ≡ outside u o ⌝ }
+{
+    match o {
+        Operation::TestUnitReady => false,
+        Operation::RequestSense(_) => false,
+        Operation::Inquiry(_) => false,
+        Operation::ReadCapacity => false,
+        Operation::Read(r) => is_beyond(u, r),
+        Operation::Write => false,
+        Operation::Unknown => false,
+    }
+}
+
+// Not below the capacity, or past it; by subtraction, so that no sum wraps.
+fn is_beyond(u: Unit, r: Range) -> bool
+    ensures { λ b. ⌜ b ≡ beyond u r ⌝ }
+{
+    if u.capacity <= r.start {
+        true
+    } else {
+        u.capacity - r.start < r.blocks as u64
     }
 }
 
 // The exchange that would send what a command wants; one that wants nothing opens none.
-fn exchange_for(code: u8, attention: u8, ox_id: u16, c: Cmnd) -> Exchange
-    ensures { λ r. ⌜ r ≡ exchangeFor code attention «ox_id» c ⌝ }
+fn exchange_for(o: Operation, attention: u8, ox_id: u16, lun: u64, expected: u32) -> Exchange
+    requires { ⌜ Countable o ⌝ }
+    ensures { λ r. ⌜ r ≡ exchangeFor o attention «ox_id» lun expected ⌝ }
 {
-    let cdb = c.cdb;
-    let most = cdb[4] as u32;
-    let expected = c.expected;
-    if code == 0x03 {
-        let kind = sense_kind(c.unit, attention);
-        return new_exchange(ox_id, expected, kind, smaller(18, most), 0, 0);
+    match o {
+        Operation::TestUnitReady => made_exchange(ox_id, expected, Exchange::FREE, 0),
+        Operation::RequestSense(most) => made_exchange(
+            ox_id,
+            expected,
+            sense_kind(lun, attention),
+            smaller(18, most as u32),
+        ),
+        Operation::Inquiry(most) => made_exchange(
+            ox_id,
+            expected,
+            inquiry_kind(lun),
+            smaller(36, most as u32),
+        ),
+        Operation::ReadCapacity => made_exchange(ox_id, expected, Exchange::READ_CAPACITY, 8),
+        Operation::Read(r) => read_exchange(ox_id, expected, r),
+        Operation::Write => made_exchange(ox_id, expected, Exchange::FREE, 0),
+        Operation::Unknown => made_exchange(ox_id, expected, Exchange::FREE, 0),
     }
-    if code == 0x12 {
-        let kind = inquiry_kind(c.unit);
-        return new_exchange(ox_id, expected, kind, smaller(36, most), 0, 0);
-    }
-    if code == 0x25 {
-        return new_exchange(ox_id, expected, Exchange::READ_CAPACITY, 8, 0, 0);
-    }
-    if code == 0x28 {
-        return read_exchange(ox_id, expected, be32(&cdb, 2), be16(&cdb, 7));
-    }
-    new_exchange(ox_id, expected, Exchange::FREE, 0, 0, 0)
 }
 
-fn read_exchange(ox_id: u16, expected: u32, start: u32, count: u16) -> Exchange
-    ensures { λ r. ⌜ r ≡ fresh «ox_id» expected 1 (512 * count) start count ⌝ }
+// READ: 512 bytes for each block.
+fn read_exchange(ox_id: u16, expected: u32, r: Range) -> Exchange
+    requires { ⌜ r .blocks ≤ 65535 ⌝ }
+    ensures { λ e. ⌜ e ≡ fresh «ox_id» expected kindRead (512 * r .blocks) (r .start) (r .blocks) ⌝ }
 {
-    let blocks = count as u32;
-    new_exchange(
-        ox_id,
-        expected,
-        Exchange::READ,
-        512 * blocks,
-        start as u64,
-        blocks,
-    )
+    Exchange {
+        start: r.start,
+        blocks: r.blocks,
+        wanted: 512 * r.blocks,
+        expected: expected,
+        sent: 0,
+        ox_id: ox_id,
+        count: 0,
+        kind: Exchange::READ,
+    }
+}
+
+// An exchange of made data: of no blocks.
+fn made_exchange(ox_id: u16, expected: u32, kind: u8, wanted: u32) -> Exchange
+    ensures { λ r. ⌜ r ≡ fresh «ox_id» expected kind wanted 0 0 ⌝ }
+{
+    Exchange {
+        start: 0,
+        blocks: 0,
+        wanted: wanted,
+        expected: expected,
+        sent: 0,
+        ox_id: ox_id,
+        count: 0,
+        kind: kind,
+    }
 }
 
 // What REQUEST SENSE reports, as the kind of its exchange.
-fn sense_kind(unit: u64, attention: u8) -> u8
-    ensures { λ r. ⌜ r ≡ senseKind unit attention ⌝ }
+fn sense_kind(lun: u64, attention: u8) -> u8
+    ensures { λ r. ⌜ r ≡ senseKind lun attention ⌝ }
 {
-    if unit != 0 {
+    if lun != 0 {
         return Exchange::SENSE_OTHER_UNIT;
     }
     if attention == Login::NO_ATTENTION {
@@ -390,35 +487,13 @@ fn sense_kind(unit: u64, attention: u8) -> u8
     }
 }
 
-fn inquiry_kind(unit: u64) -> u8
-    ensures { λ r. ⌜ r ≡ inquiryKind unit ⌝ }
+fn inquiry_kind(lun: u64) -> u8
+    ensures { λ r. ⌜ r ≡ inquiryKind lun ⌝ }
 {
-    if unit == 0 {
+    if lun == 0 {
         Exchange::INQUIRY
     } else {
         Exchange::INQUIRY_OTHER_UNIT
-    }
-}
-
-fn new_exchange(
-    ox_id: u16,
-    expected: u32,
-    kind: u8,
-    wanted: u32,
-    start: u64,
-    blocks: u32,
-) -> Exchange
-    ensures { λ r. ⌜ r ≡ fresh «ox_id» expected kind wanted start blocks ⌝ }
-{
-    Exchange {
-        start: start,
-        blocks: blocks,
-        wanted: wanted,
-        expected: expected,
-        sent: 0,
-        ox_id: ox_id,
-        count: 0,
-        kind: kind,
     }
 }
 
