@@ -1,4 +1,4 @@
--- Demand 3 is not empty: a host that keeps its rules logs in and pairs; after power on it is sure and wrong, until the next frame puts it right. Assumes nothing.
+-- Demand 3 is not empty: a host that keeps its rules logs in and pairs; the verification time runs out and it is right still; after power on it is sure and wrong, until the next frame puts it right. Assumes nothing.
 use Prim.Native.Nat.{ℕ}
 use mathlib.Core.Path.{_≡_, refl}
 use mathlib.Core.Bool.{true}
@@ -15,7 +15,7 @@ use Rattle.wire.specs.Layout.{AllBytes}
 use Rattle.frame.specs.Head.{headerOf, headerBytes}
 use Rattle.address.specs.Address.{validAddress}
 use Rattle.params.specs.Words.{paramsOf, sizeFails, zeroName, verdictOf, setupPasses}
-use Rattle.state.specs.Changes.{loginAt, withLogin, hasAddress, freedOf, endedOf, changedAll}
+use Rattle.state.specs.Changes.{loginAt, withLogin, hasAddress, freedOf, endedOf, unproven, verified, changedAll}
 use Rattle.state.specs.Tables.{hasId, findLogin, freeLogin, findExchange}
 use Rattle.formed.specs.Formed.{setupRules, exchangeFine, apartId, paramsFine, flagsFine, addressFine, usedFine, loginFine, apartAddress, wellFormed}
 use Rattle.reply.specs.Payload.{shortBytes, loginBytes, pairBytes, logoutBytes}
@@ -30,8 +30,8 @@ use Rattle.drive.specs.Entry.{replyBytes, frameIn, frameInBuffer}
 use Rattle.demands.specs.Numbers.{made, plogi, prli, ready}
 use Rattle.belief.specs.Host as host
 use Rattle.belief.specs.Host.{sure}
-use Rattle.belief.specs.Demand3.{Event, send, heard, lapse, World, run, start, Keeps}
-use Rattle.belief.specs.Wire.{FromHost, power-on, theDrive}
+use Rattle.belief.specs.Demand3.{Event, send, heard, reset, lapse, World, run, start, Keeps, loss, Free}
+use Rattle.belief.specs.Wire.{FromHost, power-on, time-over, theDrive}
 
 -- elements that are bytes, by one test
 pub bytes-known : (s : List ℕ) → all (λ b. ltb b 256) s ≡ true → AllBytes s
@@ -88,6 +88,13 @@ world h = run (theDrive 0x01) (start (theDrive 0x01) (made 100)) h
 abbrev pub pairing : List (Event (theDrive 0x01))
 pairing = send logs-in heard ∷ send pairs heard ∷ []
 
+abbrev pub waited : List (Event (theDrive 0x01))
+waited = send logs-in heard ∷ send pairs heard ∷ lapse time-over ∷ []
+
+-- the host has yet to verify
+abbrev pub unverified : List (Event (theDrive 0x01))
+unverified = send logs-in heard ∷ reset ∷ []
+
 abbrev pub forgotten : List (Event (theDrive 0x01))
 forgotten = send logs-in heard ∷ send pairs heard ∷ lapse power-on ∷ []
 
@@ -99,6 +106,11 @@ pub record NotEmpty : Type 0 where
   pub keeps : Keeps (theDrive 0x01) (start (theDrive 0x01) (made 100)) corrected
   pub sure-paired : world pairing .belief ≡ sure (held true true sentKept)
   pub right : recordOf (world pairing .drive .port) 0x01 ≡ held true true sentKept
+  -- the time runs out: a proven login stays, so no memory is lost, and the host is right still
+  pub no-loss : Free (theDrive 0x01) (world pairing) (lapse time-over ∷ [])
+  pub right-still : recordOf (world waited .drive .port) 0x01 ≡ held true true sentKept
+  -- where a loop reset came before, it is a loss
+  pub a-loss : loss (theDrive 0x01) (world unverified) (lapse time-over) ≡ true
   -- after power on it is sure, and wrong
   pub still-sure : world forgotten .belief ≡ sure (held true true sentKept)
   pub wrong : recordOf (world forgotten .drive .port) 0x01 ≡ out
@@ -107,12 +119,15 @@ pub record NotEmpty : Type 0 where
   pub so : recordOf (world corrected .drive .port) 0x01 ≡ out
 
 pub not-empty : NotEmpty
-unfolding frameIn frameInBuffer replyBytes judgedOf judgedBy headerOf headerBytes badSize badSource knownPair unknownForm spared unprovenLogin unprovenCall kindOf validAddress madeFrom wellFormed setupRules setupPasses paramsOf sizeFails zeroName verdictOf loginFine usedFine flagsFine addressFine paramsFine exchangeFine apartId apartAddress findLogin freeLogin findExchange hasAddress hasId loginAt withLogin endedOf changedAll bytesOf filled onto answerHead logoutHead shortBytes loginBytes pairBytes logoutBytes linkOf sizeOf plogiOf outcomeOf newLogin serviceOf prliOf pairFine pageFine commandOf loggedOut recordOf ownOf eventAnswer afterEvent freedOf logs-in pairs asks
+unfolding frameIn frameInBuffer replyBytes judgedOf judgedBy headerOf headerBytes badSize badSource knownPair unknownForm spared unprovenLogin unprovenCall kindOf validAddress madeFrom wellFormed setupRules setupPasses paramsOf sizeFails zeroName verdictOf loginFine usedFine flagsFine addressFine paramsFine exchangeFine apartId apartAddress findLogin freeLogin findExchange hasAddress hasId loginAt withLogin endedOf changedAll bytesOf filled onto answerHead logoutHead shortBytes loginBytes pairBytes logoutBytes linkOf sizeOf plogiOf outcomeOf newLogin serviceOf prliOf pairFine pageFine commandOf loggedOut recordOf ownOf eventAnswer afterEvent freedOf unproven verified logs-in pairs asks
 not-empty =
     record {
       keeps = (tt, (tt, (tt, (tt, tt))));
       sure-paired = refl;
       right = refl;
+      no-loss = (refl, tt);
+      right-still = refl;
+      a-loss = refl;
       still-sure = refl;
       wrong = refl;
       again = refl;

@@ -2,11 +2,11 @@
 -- Assumes nothing.
 use mathlib.Core.Path.{_≡_, refl, sym, _∙_, ap, subst}
 use mathlib.Core.Bool.{true, false}
-use mathlib.Core.List.{[]}
+use mathlib.Core.List.{[], _∷_}
 use Rattle.link.specs.Record.{Kept, out, held}
 use Rattle.belief.specs.Host.{Belief, unsure, sure, Request, plogi, logo, Answer, acc, rjt, MayOut, hears}
 use Rattle.belief.specs.Side.{Side, Laws, Held, OnPlogi, OnLogo, Meets}
-use Rattle.belief.specs.Demand3.{some, Demand3}
+use Rattle.belief.specs.Demand3.{send, heard, lapse, some, Agrees, Demand3}
 
 module _ (D : Side) (laws : Laws D) where
   -- the record after an accepted PLOGI, and after an accepted LOGO
@@ -61,3 +61,12 @@ module _ (D : Side) (demand : Demand3 D) where
   pub demand-drops-old : (s : D .State) (f : D .Sent) (l : Kept) → D .Wf s → Held (D .login s) →
       D .asks f ≡ plogi l → D .answer s f ≡ rjt → D .login (D .take s f) ≡ D .login s → ⊥
   demand-drops-old s f l k h q a e = subst Sure-held (ap sure (sym e) ∙ sym (answered s f (plogi l) rjt k q a tt refl)) h
+
+  -- What is no loss of memory leaves the login of an accepted PLOGI: a drive that ends it then is kept out too.
+  pub demand-remembers : (s : D .State) (f : D .Sent) (l : Kept) (x : D .Lapse) → D .Wf s →
+      D .asks f ≡ plogi l → D .answer s f ≡ acc → D .loses (D .take s f) x ≡ false → held false true l ≡ D .login (D .lapse (D .take s f) x)
+  demand-remembers s f l x k q a n =
+      let m : MayOut (D .asks f) = subst MayOut (sym q) tt in
+      let b : hears (D .asks f) (D .answer s f) unsure ≡ sure (held false true l) = ap (λ (y : Request). hears y (D .answer s f) unsure) q ∙ ap (λ (y : Answer). hears (plogi l) y unsure) a in
+      subst (λ (y : Belief). Agrees y (D .login (D .lapse (D .take s f) x))) b
+      (demand .sure-until s [] (send f heard) (lapse x ∷ []) (held false true l) (record { formed = k; first = tt; then = m; last = (tt, tt) }) refl b (n, tt))

@@ -3,7 +3,6 @@ use Prim.Native.Nat.{ℕ}
 use mathlib.Core.Path.{_≡_, refl, sym, ap, _∙_, subst}
 use mathlib.Core.Bool.{Bool, true, false, cond, not}
 use mathlib.Core.List.{List}
-use mathlib.Core.Logic.{_⊎_, inl, inr}
 use lib.ListN.{length}
 use Rattle.tables.specs.declared.Found.the-variants.{At}
 use Rattle.tables.proofs.Bools.{apart}
@@ -45,7 +44,7 @@ use Rattle.drive.proofs.Made.{event-answered}
 use Rattle.drive.proofs.Keeping.{frame-kept, next-frame-kept, event-fine}
 use Rattle.belief.specs.Side.{Held, Laws}
 use Rattle.belief.specs.Demand3.{Demand3}
-use Rattle.belief.specs.Wire.{isSent, Others, frame, answer, next, others, Loss, power-on, time-over, afterLoss, theDrive}
+use Rattle.belief.specs.Wire.{isSent, Others, frame, answer, next, others, Ending, power-on, time-over, afterEnding, ends, theDrive}
 use Rattle.belief.proofs.Keep.{demand3}
 use Rattle.belief.proofs.Takes.{host-takes}
 
@@ -122,26 +121,25 @@ pass-fine a d (frame f l known n) w = frame-kept d f (length l) known w
 pass-fine a d (answer f l known r) w = frame-kept d f (length l) known w
 pass-fine a d (next b ox start W l n) w = next-frame-kept d b ox start W (length l) w
 
--- a loss of memory leaves the record or ends it
-expired-is : (r : Record) → (expired r ≡ r) ⊎ (expired r ≡ out)
-expired-is out = inl refl
-expired-is (held p true k) = inl refl
-expired-is (held p false k) = inr refl
+-- power on and the time over: what is no loss of memory leaves the record, and a loss ends it
+power-is : (r : Record) → out ≡ cond (ends power-on r) out r
+power-is out = refl
+power-is (held p v k) = refl
 
-loss-record : (a : ℕ) (d : Drive) (x : Loss) → wellFormed (d .unit) (d .port) ≡ true → (recordOf (afterLoss d x .port) a ≡ recordOf (d .port) a) ⊎ (recordOf (afterLoss d x .port) a ≡ out)
+expired-is : (r : Record) → expired r ≡ cond (ends time-over r) out r
+expired-is out = refl
+expired-is (held p true k) = refl
+expired-is (held p false k) = refl
+
+ending-record : (a : ℕ) (d : Drive) (x : Ending) → wellFormed (d .unit) (d .port) ≡ true → recordOf (afterEnding d x .port) a ≡ cond (ends x (recordOf (d .port) a)) out (recordOf (d .port) a)
 unfolding afterEvent
-loss-record a d power-on w = inr (ap (λ (y : Answer). recordOf (y .drive .port) a) (event-answered d PowerOn w) ∙ power-record (d .port) a)
-loss-record a d time-over w =
-    let e = ap (λ (y : Answer). recordOf (y .drive .port) a) (event-answered d TimeOver w) ∙ over-record (d .port) (formed-parts w .addresses) a in
-    either (expired-is (recordOf (d .port) a)) e
-  where
-    either : {r s t : Record} → (s ≡ t) ⊎ (s ≡ out) → r ≡ s → (r ≡ t) ⊎ (r ≡ out)
-    either (inl x) e = inl (e ∙ x)
-    either (inr x) e = inr (e ∙ x)
+ending-record a d power-on w = ap (λ (y : Answer). recordOf (y .drive .port) a) (event-answered d PowerOn w) ∙ power-record (d .port) a ∙ power-is (recordOf (d .port) a)
+ending-record a d time-over w =
+    ap (λ (y : Answer). recordOf (y .drive .port) a) (event-answered d TimeOver w) ∙ over-record (d .port) (formed-parts w .addresses) a ∙ expired-is (recordOf (d .port) a)
 
-loss-fine : (d : Drive) (x : Loss) → wellFormed (d .unit) (d .port) ≡ true → wellFormed (afterLoss d x .unit) (afterLoss d x .port) ≡ true
-loss-fine d power-on w = event-fine d PowerOn w
-loss-fine d time-over w = event-fine d TimeOver w
+ending-fine : (d : Drive) (x : Ending) → wellFormed (d .unit) (d .port) ≡ true → wellFormed (afterEnding d x .unit) (afterEnding d x .port) ≡ true
+ending-fine d power-on w = event-fine d PowerOn w
+ending-fine d time-over w = event-fine d TimeOver w
 
 reset-doubts : (a : ℕ) (d : Drive) → wellFormed (d .unit) (d .port) ≡ true → recordOf (eventAnswer d LoopReset .drive .port) a ≡ doubted (recordOf (d .port) a)
 unfolding afterEvent
@@ -154,13 +152,13 @@ drive-laws a =
       call-wf = λ d c w. next-frame-kept d a (c .ox) (c .start) (c .window) (length (c .buffer)) w;
       pass-wf = λ d x w. pass-fine a d x w;
       reset-wf = λ d w. event-fine d LoopReset w;
-      lapse-wf = λ d x w. loss-fine d x w;
+      lapse-wf = λ d x w. ending-fine d x w;
       takes = λ d f w. host-takes a d w (f .bytes) (f .buffer) (f .request) (f .makes);
       calls = λ d c w. next-record d a (c .ox) (c .start) (c .window) (length (c .buffer)) a;
       speaks-held = λ d c w e. sent-held d a (c .ox) (c .start) (c .window) (length (c .buffer)) e;
       passes = λ d x w. pass-record a d x w;
       resets = λ d w. reset-doubts a d w;
-      lapses = λ d x w. loss-record a d x w;
+      lapses = λ d x w. ending-record a d x w;
     }
 
 -- demand 3, of the drive itself: every history over its entries, for the host of any address

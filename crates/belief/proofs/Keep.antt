@@ -1,14 +1,14 @@
 -- Demand 3 for every drive that keeps the laws of `specs/Side`.
 -- Assumes nothing.
 use mathlib.Core.Path.{_≡_, refl, sym, _∙_, ap, subst}
-use mathlib.Core.Bool.{Bool, true, false, false≢true}
+use mathlib.Core.Bool.{Bool, true, false, cond, false≢true}
 use mathlib.Core.List.{List, [], _∷_}
 use mathlib.Core.Logic.{_⊎_, inl, inr}
 use Rattle.link.specs.Record.{Kept, Record, out, held, proved, paired, unpaired, doubted}
 use Rattle.belief.specs.Host.{Belief, unsure, sure, Request, plogi, pdisc, logo, adisc, prli, prlo, rrq, command, abts}
 use Rattle.belief.specs.Host.{Answer, none, acc, rjt, dlogo, other, same, think, May, MayOut, hears, afterPlogi, afterLogo, afterLink, afterCommand}
 use Rattle.belief.specs.Side.{Side, Laws, Held, Paired, OnPlogi, OnLogo, OnLink, OnCommand, Meets}
-use Rattle.belief.specs.Demand3.{Fate, lost, mute, heard, Event, send, next, pass, reset, lapse, forget, World, sees, step, run, Follows, Keeps, Free, Agrees, Fine, both, some, reaches, start, History, Demand3}
+use Rattle.belief.specs.Demand3.{Fate, lost, mute, heard, Event, send, next, pass, reset, lapse, forget, World, sees, step, run, Follows, Keeps, loss, Free, NoLapse, Agrees, Fine, both, some, reaches, start, History, Demand3}
 
 -- The invariant. d: a loss of memory may have come since the last frame that reached the host.
 abbrev Fits : Bool → Belief → Record → Type 0
@@ -19,6 +19,11 @@ Fits d (sure x) r = (x ≡ r) ⊎ ((d ≡ true) × (r ≡ out))
 abbrev clear : Bool → Bool → Bool
 clear true d = false
 clear false d = d
+
+-- a loss of memory sets it
+abbrev mark : Bool → Bool → Bool
+mark true d = true
+mark false d = d
 
 module _ where
   no-login : (r : Record) → r ≡ out → Held r → ⊥
@@ -40,7 +45,7 @@ module _ where
   moved d (sure x) r r′ e (inl p) = inl (p ∙ sym e)
   moved d (sure x) r r′ e (inr p) = inr (p .0, e ∙ p .1)
 
-  -- where there is a login, a doubted is no doubted
+  -- where there is a login, memory was not lost
   firm : (t d : Bool) (b : Belief) (r : Record) → (t ≡ true → Held r) → Fits d b r → Fits (clear t d) b r
   firm false d b r h p = p
   firm true d unsure r h p = tt
@@ -154,10 +159,11 @@ module _ where
   after-reset d (sure x) r r′ e (inl p) = inl (ap doubted p ∙ sym e)
   after-reset d (sure x) r r′ e (inr p) = inr (p .0, e ∙ ap doubted (p .1))
 
-  after-lapse : (d : Bool) (b : Belief) (r r′ : Record) → (r′ ≡ r) ⊎ (r′ ≡ out) → Fits d b r → Fits true b r′
-  after-lapse d b r r′ (inl e) p = moved true b r r′ e (weaken d b r p)
-  after-lapse d unsure r r′ (inr e) p = tt
-  after-lapse d (sure x) r r′ (inr e) p = inr (refl, e)
+  -- an event that may lose memory (t: it does)
+  after-lapse : (t d : Bool) (b : Belief) (r r′ : Record) → r′ ≡ cond t out r → Fits d b r → Fits (mark t d) b r′
+  after-lapse false d b r r′ e p = moved d b r r′ e p
+  after-lapse true d unsure r r′ e p = tt
+  after-lapse true d (sure x) r r′ e p = inr (refl, e)
 
   -- who becomes sure has heard something
   silence : (q : Request) → hears q none unsure ≡ unsure
@@ -210,6 +216,16 @@ both-right : (b t : Bool) → both b t ≡ true → t ≡ true
 both-right true t e = e
 both-right false t e = absurd (false≢true e)
 
+-- where the drive neither powers on nor its verification time runs out, no memory is lost
+pub free-without-lapse : (D : Side) (h : List (Event D)) (w : World D) → NoLapse D h → Free D w h
+free-without-lapse D [] w q = tt
+free-without-lapse D (send f x ∷ h) w q = (refl, free-without-lapse D h (step D w (send f x)) q)
+free-without-lapse D (next c b ∷ h) w q = (refl, free-without-lapse D h (step D w (next c b)) q)
+free-without-lapse D (pass x ∷ h) w q = (refl, free-without-lapse D h (step D w (pass x)) q)
+free-without-lapse D (reset ∷ h) w q = (refl, free-without-lapse D h (step D w reset) q)
+free-without-lapse D (lapse x ∷ h) w q = absurd q
+free-without-lapse D (forget ∷ h) w q = (refl, free-without-lapse D h (step D w forget) q)
+
 module _ (D : Side) (laws : Laws D) where
   record Good (d : Bool) (w : World D) : Type 0 where
     formed : D .Wf (w .drive)
@@ -217,12 +233,7 @@ module _ (D : Side) (laws : Laws D) where
 
   -- d after an event
   abbrev later : World D → Bool → Event D → Bool
-  later w d (send f x) = clear (reaches D w (send f x)) d
-  later w d (next c b) = clear (reaches D w (next c b)) d
-  later w d (pass x) = d
-  later w d reset = d
-  later w d (lapse x) = true
-  later w d forget = d
+  later w d e = clear (reaches D w e) (mark (loss D w e) d)
 
   sent : (f : D .Sent) (x : Fate) (d : Bool) (w : World D) → May (w .belief) (D .asks f) → Good d w → Good (later w d (send f x)) (step D w (send f x))
   sent f lost d w m g = record { formed = g .formed; fits = request-lost (D .asks f) d (w .belief) (D .login (w .drive)) (g .fits) }
@@ -252,7 +263,7 @@ module _ (D : Side) (laws : Laws D) where
   }
   stepped (lapse x) d w m g = record {
     formed = laws .lapse-wf (w .drive) x (g .formed);
-    fits = after-lapse d (w .belief) (D .login (w .drive)) (D .login (D .lapse (w .drive) x)) (laws .lapses (w .drive) x (g .formed)) (g .fits);
+    fits = after-lapse (D .loses (w .drive) x) d (w .belief) (D .login (w .drive)) (D .login (D .lapse (w .drive) x)) (laws .lapses (w .drive) x (g .formed)) (g .fits);
   }
   stepped forget d w m g = record { formed = g .formed; fits = tt }
 
@@ -272,29 +283,21 @@ module _ (D : Side) (laws : Laws D) where
   clean d w e g = subst (λ (x : Bool). Good x w) e g
 
   -- over every history without a loss of memory
-  between : (h : List (Event D)) (w : World D) → Keeps D w h → Free D h → Good false w → Good false (run D w h)
+  between : (h : List (Event D)) (w : World D) → Keeps D w h → Free D w h → Good false w → Good false (run D w h)
   between [] w k q g = g
-  between (send f x ∷ h) w k q g = between h (step D w (send f x)) (k .1) q (clean (later w false (send f x)) (step D w (send f x)) (calm (reaches D w (send f x))) (stepped (send f x) false w (k .0) g))
-  between (next c b ∷ h) w k q g = between h (step D w (next c b)) (k .1) q (clean (later w false (next c b)) (step D w (next c b)) (calm (reaches D w (next c b))) (stepped (next c b) false w (k .0) g))
-  between (pass x ∷ h) w k q g = between h (step D w (pass x)) (k .1) q (stepped (pass x) false w (k .0) g)
-  between (reset ∷ h) w k q g = between h (step D w reset) (k .1) q (stepped reset false w (k .0) g)
-  between (lapse x ∷ h) w k q g = absurd q
-  between (forget ∷ h) w k q g = between h (step D w forget) (k .1) q (stepped forget false w (k .0) g)
+  between (e ∷ h) w k q g =
+      let c : later w false e ≡ false = ap (λ (t : Bool). clear (reaches D w e) (mark t false)) (q .0) ∙ calm (reaches D w e) in
+      between h (step D w e) (k .1) (q .1) (clean (later w false e) (step D w e) c (stepped e false w (k .0) g))
 
   -- a frame that reaches the host
   cleared : (e : Event D) (d : Bool) (w : World D) → reaches D w e ≡ true → later w d e ≡ false
-  cleared (send f x) d w t = ap (λ (u : Bool). clear u d) t
-  cleared (next c b) d w t = ap (λ (u : Bool). clear u d) t
-  cleared (pass x) d w t = absurd (false≢true t)
-  cleared reset d w t = absurd (false≢true t)
-  cleared (lapse x) d w t = absurd (false≢true t)
-  cleared forget d w t = absurd (false≢true t)
+  cleared e d w t = ap (λ (u : Bool). clear u (mark (loss D w e) d)) t
 
   begun : (s : D .State) → D .Wf s → Good true (start D s)
   begun s k = record { formed = k; fits = tt }
 
   again : (s : D .State) (h₁ : List (Event D)) (e : Event D) (h₂ : List (Event D)) → History D s h₁ e h₂ → reaches D (run D (start D s) h₁) e ≡ true →
-      Free D h₂ → Fine D (run D (step D (run D (start D s) h₁) e) h₂)
+      Free D (step D (run D (start D s) h₁) e) h₂ → Fine D (run D (step D (run D (start D s) h₁) e) h₂)
   again s h₁ e h₂ k t q =
       let w : World D = run D (start D s) h₁ in
       let g : Good true w = always h₁ (start D s) (k .first) (begun s (k .formed)) in

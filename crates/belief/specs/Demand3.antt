@@ -62,15 +62,29 @@ abbrev pub Keeps : (D : Side) → World D → List (Event D) → Type 0
 Keeps D w [] = Unit {0}
 Keeps D w (e ∷ h) = Follows D w e × Keeps D (step D w e) h
 
--- no loss of memory
-abbrev pub Free : (D : Side) → List (Event D) → Type 0
-Free D [] = Unit {0}
-Free D (send f x ∷ h) = Free D h
-Free D (next c b ∷ h) = Free D h
-Free D (pass x ∷ h) = Free D h
-Free D (reset ∷ h) = Free D h
-Free D (lapse x ∷ h) = ⊥
-Free D (forget ∷ h) = Free D h
+-- "such a loss of memory": the event is one, by what the drive's state is when it comes
+abbrev pub loss : (D : Side) → World D → Event D → Bool
+loss D w (send f x) = false
+loss D w (next c b) = false
+loss D w (pass x) = false
+loss D w reset = false
+loss D w (lapse x) = D .loses (w .drive) x
+loss D w forget = false
+
+-- no loss of memory in the whole history
+abbrev pub Free : (D : Side) → World D → List (Event D) → Type 0
+Free D w [] = Unit {0}
+Free D w (e ∷ h) = (loss D w e ≡ false) × Free D (step D w e) h
+
+-- no event that may be one: the drive neither "powers on" nor "its verification time runs out"; such a history is free (`free-without-lapse`)
+abbrev pub NoLapse : (D : Side) → List (Event D) → Type 0
+NoLapse D [] = Unit {0}
+NoLapse D (send f x ∷ h) = NoLapse D h
+NoLapse D (next c b ∷ h) = NoLapse D h
+NoLapse D (pass x ∷ h) = NoLapse D h
+NoLapse D (reset ∷ h) = NoLapse D h
+NoLapse D (lapse x ∷ h) = ⊥
+NoLapse D (forget ∷ h) = NoLapse D h
 
 -- the host is unsure, or its belief equals the drive's record
 abbrev pub Agrees : Belief → Record → Type 0
@@ -115,11 +129,11 @@ pub record Demand3 (D : Side) : Type 0 where
   -- from the moment that the host becomes sure (by e) until a loss of memory
   pub sure-until : (s : D .State) (h₁ : List (Event D)) (e : Event D) (h₂ : List (Event D)) (x : Record) → History D s h₁ e h₂ →
       (run D (start D s) h₁) .belief ≡ unsure → (step D (run D (start D s) h₁) e) .belief ≡ sure x →
-      Free D h₂ → Fine D (run D (step D (run D (start D s) h₁) e) h₂)
+      Free D (step D (run D (start D s) h₁) e) h₂ → Fine D (run D (step D (run D (start D s) h₁) e) h₂)
   -- after any losses of memory, from the moment that a frame from the drive reaches the host (by e) until the next
   pub right-again : (s : D .State) (h₁ : List (Event D)) (e : Event D) (h₂ : List (Event D)) → History D s h₁ e h₂ →
       reaches D (run D (start D s) h₁) e ≡ true →
-      Free D h₂ → Fine D (run D (step D (run D (start D s) h₁) e) h₂)
+      Free D (step D (run D (start D s) h₁) e) h₂ → Fine D (run D (step D (run D (start D s) h₁) e) h₂)
   -- an answered PLOGI or LOGO: sure, and right
   pub ends-doubt : (s : D .State) (h₁ : List (Event D)) (f : D .Sent) → History D s h₁ (send f heard) [] →
       MayOut (D .asks f) → reaches D (run D (start D s) h₁) (send f heard) ≡ true →

@@ -2,8 +2,7 @@
 -- The drive itself, over bytes, is one: `specs/Wire.antt`.
 -- Assumes nothing.
 use mathlib.Core.Path.{_≡_}
-use mathlib.Core.Bool.{Bool, true, false}
-use mathlib.Core.Logic.{_⊎_}
+use mathlib.Core.Bool.{Bool, true, false, cond}
 use Rattle.link.specs.Record.{Kept, Record, out, held, proved, paired, unpaired, doubted}
 use Rattle.belief.specs.Host.{Request, plogi, pdisc, logo, adisc, prli, prlo, rrq, command, abts, Answer, none, acc, rjt, dlogo, other, same}
 
@@ -25,8 +24,9 @@ pub record Side : Type 1 where
   pub Else : Type 0
   pub pass : State → Else → State
   pub reset : State → State
-  -- losses of memory: power on, verification time over
+  -- events that may lose memory: whether this host's login is lost by one, and the next state
   pub Lapse : Type 0
+  pub loses : State → Lapse → Bool
   pub lapse : State → Lapse → State
 
 abbrev pub Held : Record → Type 0
@@ -92,4 +92,5 @@ pub record Laws (D : Side) : Type 0 where
   -- nothing else touches this host's record
   pub passes : (s : D .State) (x : D .Else) → D .Wf s → D .login (D .pass s x) ≡ D .login s
   pub resets : (s : D .State) → D .Wf s → D .login (D .reset s) ≡ doubted (D .login s)
-  pub lapses : (s : D .State) (x : D .Lapse) → D .Wf s → (D .login (D .lapse s x) ≡ D .login s) ⊎ (D .login (D .lapse s x) ≡ out)
+  -- a loss of memory ends the login, and what is none leaves the record as it was
+  pub lapses : (s : D .State) (x : D .Lapse) → D .Wf s → D .login (D .lapse s x) ≡ cond (D .loses s x) out (D .login s)

@@ -1,7 +1,7 @@
 -- The drive itself as demand 3 sees it: its entries' definitions of record over bytes, for the host of one address (document 01, "The host's rules").
 use Prim.Native.Nat.{ℕ, _+_}
 use mathlib.Core.Path.{_≡_}
-use mathlib.Core.Bool.{Bool, true, false, cond}
+use mathlib.Core.Bool.{Bool, true, false, cond, not}
 use mathlib.Core.List.{List}
 use lib.Dec.{eqb}
 use lib.ListN.{length, getD}
@@ -10,7 +10,7 @@ use Rattle.wire.specs.Layout.{AllBytes}
 use Rattle.frame.specs.Head.{headerOf}
 use Rattle.params.specs.Words.{paramsOf}
 use Rattle.formed.specs.Formed.{wellFormed}
-use Rattle.link.specs.Record.{keptFrom, recordOf}
+use Rattle.link.specs.Record.{Record, out, held, keptFrom, recordOf}
 use Rattle.drive.specs.declared.Drive.{Drive}
 use Rattle.drive.specs.declared.Said.{Said}
 use Rattle.drive.specs.declared.Said.the-variants.{Sent, Refused}
@@ -83,13 +83,19 @@ others d (frame f l k n) = frameIn d f (length l) .drive
 others d (answer f l k r) = frameIn d f (length l) .drive
 others d (next b x start W l n) = nextFrame d b x start W (length l) .drive
 
--- losses of memory: "until the drive powers on or its verification time runs out"
-pub data Loss : Type 0 where
-  power-on time-over : Loss
+-- the events that end logins: "until the drive powers on or its verification time runs out"
+pub data Ending : Type 0 where
+  power-on time-over : Ending
 
-abbrev pub afterLoss : Drive → Loss → Drive
-afterLoss d power-on = eventAnswer d PowerOn .drive
-afterLoss d time-over = eventAnswer d TimeOver .drive
+abbrev pub afterEnding : Drive → Ending → Drive
+afterEnding d power-on = eventAnswer d PowerOn .drive
+afterEnding d time-over = eventAnswer d TimeOver .drive
+
+-- a loss of memory is one that ends this host's login: "verification time over ends the unproven ones; power on ends all"
+abbrev pub ends : Ending → Record → Bool
+ends x out = false
+ends power-on (held p v k) = true
+ends time-over (held p v k) = not v
 
 -- the drive, for the host of address a
 abbrev pub theDrive : ℕ → Side
@@ -108,6 +114,7 @@ theDrive a =
       Else = Others a;
       pass = others;
       reset = λ d. eventAnswer d LoopReset .drive;
-      Lapse = Loss;
-      lapse = afterLoss;
+      Lapse = Ending;
+      loses = λ d x. ends x (recordOf (d .port) a);
+      lapse = afterEnding;
     }
