@@ -14,7 +14,8 @@ use Rattle.link.specs.Link.{sizeOf, newLogin, outcomeOf, plogiOf, pageFine, pai
 use Rattle.command.specs.Cmnd.{cmndOf, malformed, taskFor, taskOf}
 use Rattle.command.specs.Tests.{skips, otherUnit, attends, unknownCode, inquiryField, capacityField, fieldSet, outside, exchangeFor, askedOf}
 use Rattle.command.specs.Command.{refusedWith, toldOf, answerOf, executeOf, commandedAt, commandOf}
-use Rattle.serve.specs.Next.{hasMore, readsMore, coverOf, placeOf, frameOf, nextReply, nextExchange, sourceOf, ownOf, askedBy, openStep, stepOf, frameBytes, portAfter, nextOf, nextBuffer}
+use Rattle.cover.specs.Cover.{coverOf}
+use Rattle.serve.specs.Next.{hasMore, readsMore, placeOf, frameOf, nextReply, nextExchange, sourceOf, ownOf, askedBy, openStep, stepOf, frameBytes, portAfter, nextOf, nextBuffer}
 use Rattle.arrival.specs.Arrival.{badSize, badSource, knownPair, unknownForm, spared, unprovenLogin, unprovenCall, kindOf, judgedBy, judgedOf}
 use Rattle.drive.specs.Drive.{madeFrom}
 use Rattle.drive.specs.Entry.{replyBytes, frameIn, frameInBuffer, nextFrame, nextFrameBuffer}

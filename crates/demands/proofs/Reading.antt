@@ -22,7 +22,8 @@ use Rattle.reply.specs.declared.Response.the-variants.{Status}
 use Rattle.reply.specs.Payload.{residualFlag, residualSize}
 use Rattle.serve.specs.declared.Step.the-variants.{Frame}
 use Rattle.serve.specs.Next.{hasMore, frameOf, exchangeOf, fullOf, stepOf, frameBytes, nextOf}
-use Rattle.serve.specs.Whole.{cut, Piece, payloadAt, Run}
+use Rattle.cover.specs.Cover.{cut}
+use Rattle.serve.specs.Whole.{Piece, payloadAt, Run}
 use Rattle.serve.specs.Whole as whole
 use Rattle.serve.proofs.Steps.{passed, given}
 use Rattle.serve.proofs.Frames.{runs, is-data, is-response, port-is}

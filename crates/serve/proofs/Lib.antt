@@ -1,4 +1,3 @@
-pub mod Covers
 pub mod Steps
 pub mod Ways
 pub mod Keeping

@@ -10,6 +10,7 @@ use lib.ListN.{length, take, drop, length-take, length-drop}
 use lib.Seq.{take-add, drop-drop}
 use borrow.Author.Tests.{leb-true, eqb-true, eq-eqb, ne-eqb}
 use Rattle.tables.proofs.Bools.{and-right}
+use Rattle.cover.specs.Cover.{cut}
 use Rattle.state.specs.declared.Exchange.{Exchange}
 use Rattle.state.specs.declared.Port.{Port}
 use Rattle.state.specs.declared.Unit.{Unit}
@@ -28,7 +29,7 @@ use Rattle.reply.specs.Payload.{senseBytes}
 use Rattle.serve.specs.declared.Step.the-variants.{Frame}
 use Rattle.serve.specs.Made.{inquiryBytes, capacityBytes, senseOf, madeBytes}
 use Rattle.serve.specs.Next.{hasMore, frameOf, nextReply, nextExchange, exchangeOf, fullOf, stepOf, portAfter, nextOf}
-use Rattle.serve.specs.Whole.{cut, Piece, payloadAt, Run, piece, ends, joined, InOrder, none, one, dataOf, Served, AllFrames}
+use Rattle.serve.specs.Whole.{Piece, payloadAt, Run, piece, ends, joined, InOrder, none, one, dataOf, Served, AllFrames}
 use Rattle.serve.proofs.Steps.{passed}
 use Rattle.serve.proofs.Keeping.{next-kept}
 use Rattle.serve.proofs.Frames.{runs, full-pos, total-small, is-data, is-response, more-left, none-left, next-counted, source-is, payload-is, port-is}

@@ -1,13 +1,14 @@
 -- The next frame of an open exchange (document 01, "Commands" and "Numbers returned for refused calls").
-use Prim.Native.Nat.{ℕ, _+_, _-_, _*_}
+use Prim.Native.Nat.{ℕ, _+_}
 use mathlib.Core.Bool.{Bool, cond, not, _&&_}
 use mathlib.Core.List.{List}
-use lib.Dec.{eqb, leb, ltb}
+use lib.Dec.{eqb, ltb}
 use lib.ListN.{length, drop}
 use Rattle.tables.specs.declared.Found.{Found}
-use Rattle.tables.specs.declared.Found.the-variants.{At, Nothing}
+use Rattle.tables.specs.declared.Found.the-variants.{At}
 use Rattle.tables.specs.Lists.{onFound}
 use Rattle.wire.specs.Bytes.{onto}
+use Rattle.cover.specs.Cover.{positionOf, coverOf}
 use Rattle.frame.specs.declared.Header.{Header}
 use Rattle.state.specs.declared.Exchange.{Exchange}
 use Rattle.state.specs.declared.Login.{Login}
@@ -42,17 +43,9 @@ hasMore e = ltb (e .sent) (total e)
 unfoldable pub readsMore : Exchange → Bool
 readsMore e = eqb (e .kind) 1 && hasMore e
 
--- the unit's byte at which the next READ data begin: blocks have 512 bytes
+-- the unit's byte at which the next READ data begin
 abbrev pub position : Exchange → ℕ
-position e = 512 * e .start + e .sent
-
--- place k, if the n bytes from it on are among len
-unfoldable pub fitsAt : ℕ → ℕ → ℕ → Found
-fitsAt k n len = cond (leb (k + n) len) (At k) Nothing
-
--- "a window: a starting block and at most 65,536 bytes holding that frame's bytes": where these begin in it, or that it does not hold them
-unfoldable pub coverOf : ℕ → ℕ → ℕ → ℕ → Found
-coverOf at n start len = cond (leb (512 * start) at && leb (at + n) (512 * start + len)) (At (at - 512 * start)) Nothing
+position e = positionOf (e .start) (e .sent)
 
 -- where the next frame's data begin: in the window for READ data, else among the made data
 unfoldable pub placeOf : ℕ → Exchange → ℕ → ℕ → Found

@@ -5,6 +5,7 @@ use mathlib.Core.Bool.{Bool, true, false, cond}
 use mathlib.Core.List.{List, [], _∷_, _++_}
 use lib.Dec.{eqb}
 use lib.ListN.{length, take, drop}
+use Rattle.cover.specs.Cover.{cut}
 use Rattle.state.specs.declared.Exchange.{Exchange}
 use Rattle.state.specs.declared.Port.{Port}
 use Rattle.state.specs.declared.Unit.{Unit}
@@ -43,10 +44,6 @@ pub record Moved (p : Port) (a x : ℕ) (q : Port) : Type 0 where
   pub logins : (m : ℕ) → (m ≡ i → ⊥) → loginAt q m ≡ loginAt p m
   pub address : q .address ≡ p .address
   pub accept : q .accept ≡ p .accept
-
--- "a window": so many of the unit's bytes from a block on, or as many as there are
-abbrev pub cut : List ℕ → ℕ → ℕ → List ℕ
-cut unit start len = take len (drop (512 * start) unit)
 
 -- a data frame: its OFFSET, its SEQ_CNT, and its payload before the fill
 pub record Piece : Type 0 where

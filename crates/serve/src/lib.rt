@@ -1,4 +1,5 @@
 // The next frame of an open exchange: its data frames one after the other, and then its FCP_RSP.
+use cover::covered;
 use formed::full_frame;
 use formed::total_of;
 use frame::Header;
@@ -27,16 +28,13 @@ use wire::least;
 use wire::put_at;
 use wire::put_front;
 ghost use mathlib.Core.Path.{_≡_};
-ghost use mathlib.Core.Bool.{cond};
-ghost use Prim.Native.Nat.{_+_, _-_, _*_, _≤_, _<_};
-ghost use lib.Dec.{leb};
+ghost use Prim.Native.Nat.{_-_, _≤_};
 ghost use lib.ListN.{length, drop};
-ghost use Rattle.tables.specs.declared.Found.the-variants.{At, Nothing};
 ghost use Rattle.reply.specs.Payload.{senseBytes};
 ghost use Rattle.reply.specs.Reply.{sentOf, writtenOf};
 ghost use Rattle.formed.specs.Formed.{fullFrame, nextBytes};
 ghost use Rattle.serve.specs.Made.{inquiryFirst, inquiryBytes, capacityBytes, senseOf, madeBytes};
-ghost use Rattle.serve.specs.Next.{hasMore, readsMore, fitsAt, coverOf, placeOf, frameOf, nextReply, nextExchange, sourceOf, ownOf, askedBy, openStep, movedNot, movedOpen, bufferOpen, movedSeat, bufferSeat};
+ghost use Rattle.serve.specs.Next.{hasMore, readsMore, placeOf, frameOf, nextReply, nextExchange, sourceOf, ownOf, askedBy, openStep, movedNot, movedOpen, bufferOpen, movedSeat, bufferSeat};
 
 // What became of the call: the length of the frame, or why it was refused.
 pub enum Given {
@@ -215,48 +213,6 @@ fn next_bytes(size: u16, e: Exchange) -> u32
     }
     let left = all - e.sent;
     if full < left { full } else { left }
-}
-
-// Where n bytes, from so many past the start of a block on, stand in a window of len bytes that starts at a block.
-fn covered(block: u64, sent: u32, n: u32, start: u64, len: usize) -> Found
-    ensures { λ r. ⌜ r ≡ coverOf (512 * block + sent) n start len ⌝ }
-{
-    if start <= block {
-        after_start(block - start, sent, n, len)
-    } else {
-        before_start(start - block, sent, n, len)
-    }
-}
-
-// The same where the block is so many blocks past the window's first.
-fn after_start(blocks: u64, sent: u32, n: u32, len: usize) -> Found
-    ensures { λ r. ⌜ r ≡ fitsAt (512 * blocks + sent) n len ⌝ }
-{
-    let most = len as u64;
-    if most / 512 < blocks {
-        return Found::Nothing;
-    }
-    let at = 512 * blocks;
-    if most - at < sent as u64 + n as u64 {
-        return Found::Nothing;
-    }
-    Found::At((at + sent as u64) as usize)
-}
-
-// The same where the window's first block is so many blocks past the block.
-fn before_start(blocks: u64, sent: u32, n: u32, len: usize) -> Found
-    ensures { λ r. ⌜ r ≡ cond (leb (512 * blocks) sent) (fitsAt (sent - 512 * blocks) n len) Nothing ⌝ }
-{
-    let most = len as u64;
-    let all = sent as u64;
-    if all / 512 < blocks {
-        return Found::Nothing;
-    }
-    let at = all - 512 * blocks;
-    if most < at + n as u64 {
-        return Found::Nothing;
-    }
-    Found::At(at as usize)
 }
 
 // Writes the next frame, its data from place k of their source on.

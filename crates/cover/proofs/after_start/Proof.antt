@@ -1,9 +1,9 @@
--- `serve::after_start` meets its contract: the bytes are in the window, or it ends before them. Assumes nothing.
+-- `cover::after_start` meets its contract: the bytes are in the window, or it ends before them. Assumes nothing.
 use native.Mathlib.Omega.{arith}
-use Rattle.serve.proofs.Covers.{fits, fits-not}
+use Rattle.cover.proofs.Covers.{fits, fits-not}
 use borrow.Author.Needs.{needs}
-use Rattle.serve.proofs.after_start.Statement.{statement}
-use Rattle.serve.proofs.after_start.Tie as tie
+use Rattle.cover.proofs.after_start.Statement.{statement}
+use Rattle.cover.proofs.after_start.Tie as tie
 
 returns : tie.Need-returns
 returns c = fits-not _ _ _ (omega arith)

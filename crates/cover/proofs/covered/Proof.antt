@@ -1,9 +1,9 @@
--- `serve::covered` meets its contract, by the difference of the two blocks. Assumes nothing.
+-- `cover::covered` meets its contract, by the difference of the two blocks. Assumes nothing.
 use mathlib.Core.Path.{_∙_}
-use Rattle.serve.proofs.Covers.{cover-after, cover-before}
+use Rattle.cover.proofs.Covers.{cover-after, cover-before}
 use borrow.Author.Needs.{needs}
-use Rattle.serve.proofs.covered.Statement.{statement}
-use Rattle.serve.proofs.covered.Tie as tie
+use Rattle.cover.proofs.covered.Statement.{statement}
+use Rattle.cover.proofs.covered.Tie as tie
 
 returns : tie.Need-returns
 returns c = c .after-start .ensures ∙ cover-after _ _ _ _ _ (c .before .if1 .taken)

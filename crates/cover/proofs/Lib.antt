@@ -1,0 +1,3 @@
+pub mod Covers
+pub mod Cuts
+pub mod Cases
