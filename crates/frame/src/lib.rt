@@ -3,6 +3,9 @@ use wire::be16;
 use wire::be24;
 use wire::be32;
 use wire::byte_at;
+use wire::bytes2;
+use wire::bytes3;
+use wire::bytes4;
 use wire::put_front;
 ghost use mathlib.Core.Path.{_≡_};
 ghost use Rattle.wire.specs.Bytes.{onto};
@@ -57,38 +60,38 @@ pub fn read_header(frame: &[u8]) -> Header
 fn header_bytes(h: Header) -> [u8; 24]
     ensures { λ r. ⌜ r ≡ headerBytes h ⌝ }
 {
-    let d = h.d_id;
-    let s = h.s_id;
-    let f = h.f_ctl;
-    let n = h.seq_cnt;
-    let o = h.ox_id;
-    let r = h.rx_id;
-    let p = h.offset;
+    let d = bytes3(h.d_id);
+    let s = bytes3(h.s_id);
+    let f = bytes3(h.f_ctl);
+    let n = bytes2(h.seq_cnt);
+    let o = bytes2(h.ox_id);
+    let r = bytes2(h.rx_id);
+    let p = bytes4(h.offset);
     [
         h.r_ctl,
-        (d / 256 / 256 % 256) as u8,
-        (d / 256 % 256) as u8,
-        (d % 256) as u8,
+        d[0],
+        d[1],
+        d[2],
         h.reserved,
-        (s / 256 / 256 % 256) as u8,
-        (s / 256 % 256) as u8,
-        (s % 256) as u8,
+        s[0],
+        s[1],
+        s[2],
         h.kind,
-        (f / 256 / 256 % 256) as u8,
-        (f / 256 % 256) as u8,
-        (f % 256) as u8,
+        f[0],
+        f[1],
+        f[2],
         h.seq_id,
         h.df_ctl,
-        (n / 256 % 256) as u8,
-        (n % 256) as u8,
-        (o / 256 % 256) as u8,
-        (o % 256) as u8,
-        (r / 256 % 256) as u8,
-        (r % 256) as u8,
-        (p / 256 / 256 / 256 % 256) as u8,
-        (p / 256 / 256 % 256) as u8,
-        (p / 256 % 256) as u8,
-        (p % 256) as u8,
+        n[0],
+        n[1],
+        o[0],
+        o[1],
+        r[0],
+        r[1],
+        p[0],
+        p[1],
+        p[2],
+        p[3],
     ]
 }
 

@@ -2,7 +2,10 @@
 use frame::Header;
 use frame::write_header;
 use state::Own;
+use wire::bytes2;
+use wire::bytes4;
 use wire::least;
+use wire::put_at;
 use wire::put_fill;
 use wire::put_front;
 ghost use mathlib.Core.Path.{_≡_};
@@ -101,19 +104,15 @@ pub fn sense_with(key: u8, code: u8) -> Sense
 pub fn put_sense(s: Sense, out: &mut [u8]) -> usize
     ensures { λ n. ⌜ Wrote (senseBytes s) (now (out .entry)) (now (out .exit)) n 18 ⌝ }
 {
-    let i = s.information;
-    let a = (i / 256 / 256 / 256 % 256) as u8;
-    let b = (i / 256 / 256 % 256) as u8;
-    let c = (i / 256 % 256) as u8;
-    let d = (i % 256) as u8;
+    let i = bytes4(s.information);
     let all = [
         s.first,
         0,
         s.key,
-        a,
-        b,
-        c,
-        d,
+        i[0],
+        i[1],
+        i[2],
+        i[3],
         0x0a,
         0,
         0,
@@ -290,41 +289,11 @@ fn put_login(words: [u8; 112], out: &mut [u8]) -> usize
 fn put_address(own: u32, words: [u8; 112], out: &mut [u8]) -> usize
     ensures { λ n. ⌜ Wrote (addressBytes own words) (now (out .entry)) (now (out .exit)) n 2048 ⌝ }
 {
-    let a = (own / 256 / 256 / 256 % 256) as u8;
-    let b = (own / 256 / 256 % 256) as u8;
-    let c = (own / 256 % 256) as u8;
-    let d = (own % 256) as u8;
-    let all = [
-        0x02,
-        0,
-        0,
-        0,
-        a,
-        b,
-        c,
-        d,
-        words[16],
-        words[17],
-        words[18],
-        words[19],
-        words[20],
-        words[21],
-        words[22],
-        words[23],
-        words[24],
-        words[25],
-        words[26],
-        words[27],
-        words[28],
-        words[29],
-        words[30],
-        words[31],
-        a,
-        b,
-        c,
-        d,
-    ];
-    put_front(out, &all);
+    let a = bytes4(own);
+    let b = [0x02, 0, 0, 0, a[0], a[1], a[2], a[3]];
+    put_front(out, &b);
+    put_at(out, 8, &words[16..32]);
+    put_at(out, 24, &a);
     28
 }
 
@@ -397,39 +366,19 @@ fn put_reject(reason: u8, explanation: u8, out: &mut [u8]) -> usize
 fn put_logout(own: u32, words: [u8; 112], out: &mut [u8]) -> usize
     ensures { λ n. ⌜ Wrote (logoutBytes own words) (now (out .entry)) (now (out .exit)) n 2048 ⌝ }
 {
-    let a = (own / 256 / 256 / 256 % 256) as u8;
-    let b = (own / 256 / 256 % 256) as u8;
-    let c = (own / 256 % 256) as u8;
-    let d = (own % 256) as u8;
-    let all = [
-        0x05,
-        0,
-        0,
-        0,
-        a,
-        b,
-        c,
-        d,
-        words[16],
-        words[17],
-        words[18],
-        words[19],
-        words[20],
-        words[21],
-        words[22],
-        words[23],
-    ];
-    put_front(out, &all);
+    let a = bytes4(own);
+    let b = [0x05, 0, 0, 0, a[0], a[1], a[2], a[3]];
+    put_front(out, &b);
+    put_at(out, 8, &words[16..24]);
     16
 }
 
 fn put_abort_accept(ox_id: u16, out: &mut [u8]) -> usize
     ensures { λ n. ⌜ Wrote (abortAcceptBytes «ox_id») (now (out .entry)) (now (out .exit)) n 2048 ⌝ }
 {
-    let a = (ox_id / 256 % 256) as u8;
-    let b = (ox_id % 256) as u8;
-    let all = [0, 0, 0, 0, a, b, 0xff, 0xff, 0, 0, 0xff, 0xff];
-    put_front(out, &all);
+    let o = bytes2(ox_id);
+    let b = [0, 0, 0, 0, o[0], o[1], 0xff, 0xff, 0, 0, 0xff, 0xff];
+    put_front(out, &b);
     12
 }
 
@@ -484,6 +433,9 @@ fn put_check(s: Sense, r: Residual, out: &mut [u8]) -> usize
 fn put_status(flags: u8, status: u8, resid: u32, sense: u32, response: u32, out: &mut [u8]) -> usize
     ensures { λ n. ⌜ Wrote (statusBytes flags status resid sense response) (now (out .entry)) (now (out .exit)) n 24 ⌝ }
 {
+    let r = bytes4(resid);
+    let s = bytes4(sense);
+    let n = bytes4(response);
     let b = [
         0,
         0,
@@ -497,18 +449,18 @@ fn put_status(flags: u8, status: u8, resid: u32, sense: u32, response: u32, out:
         0,
         flags,
         status,
-        (resid / 256 / 256 / 256 % 256) as u8,
-        (resid / 256 / 256 % 256) as u8,
-        (resid / 256 % 256) as u8,
-        (resid % 256) as u8,
-        (sense / 256 / 256 / 256 % 256) as u8,
-        (sense / 256 / 256 % 256) as u8,
-        (sense / 256 % 256) as u8,
-        (sense % 256) as u8,
-        (response / 256 / 256 / 256 % 256) as u8,
-        (response / 256 / 256 % 256) as u8,
-        (response / 256 % 256) as u8,
-        (response % 256) as u8,
+        r[0],
+        r[1],
+        r[2],
+        r[3],
+        s[0],
+        s[1],
+        s[2],
+        s[3],
+        n[0],
+        n[1],
+        n[2],
+        n[3],
     ];
     put_front(out, &b);
     24

@@ -15,12 +15,17 @@ pub onto-fits : (p l : List ℕ) → length p ≤ length l → onto p l ≡ p ++
 unfolding onto
 onto-fits p l h = rw (take-all (length l) p h)
 
+-- where l is the shorter, as much of p as it holds stands there
+pub onto-covers : (p l : List ℕ) → length l ≤ length p → onto p l ≡ take (length l) p
+unfolding onto
+onto-covers p l h = rw (drop-of-length-le l h, append-nil)
+
 -- a list laid over one of its length covers it
 pub onto-whole : (p l : List ℕ) → length p ≡ length l → onto p l ≡ p
 onto-whole p l e =
     let f : length p ≤ length l = omega arith in
     let g : length l ≤ length p = omega arith in
-    onto-fits p l f ∙ rw (drop-of-length-le l g, append-nil)
+    onto-covers p l g ∙ take-all (length l) p f
 
 -- nothing laid over a list leaves it
 pub onto-nil : (l : List ℕ) → onto [] l ≡ l

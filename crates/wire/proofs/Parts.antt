@@ -1,17 +1,24 @@
 -- A part of a slice that was lent from a place to the end: what it is, and what the whole is once it is back. Assumes nothing.
-use mathlib.Core.Path.{_≡_, sym, ap, _∙_}
+use mathlib.Core.Path.{_≡_, refl, sym, ap, _∙_}
 use mathlib.Core.List.{List, _++_, append-assoc, append-nil}
-use Prim.Native.Nat.{ℕ, _+_, _-_, _≤_}
+use Prim.Native.Nat.{ℕ, zero, suc, _+_, _-_, _≤_}
+use native.Mathlib.Numerals.{add-one}
 use native.Mathlib.Omega.{arith}
 use lib.ListN.{length, take, drop, length-drop, drop-of-length-le, length-append}
-use lib.Seq.{take-all, take-at, drop-at, drop-drop, take-append-add, length-take-le}
+use lib.Seq.{take-all, take-at, drop-at, drop-cons, drop-drop, take-append-le, take-append-add, length-take-le}
+use native.Mathlib.Decide.{decLe}
 use borrow.Rule.Slice.PartMut.{midOf, putMid}
-use Rattle.wire.specs.Bytes.{onto, over, Wrote}
-use Rattle.wire.proofs.Fronts.{onto-fits, length-onto}
+use Rattle.wire.specs.Bytes.{part, onto, over, Wrote}
+use Rattle.wire.proofs.Fronts.{onto-fits, onto-covers, length-onto, over-past}
 
 -- the part from a to the end
 pub rest-is : (a : ℕ) (l : List ℕ) → midOf a (length l - a) l ≡ drop a l
 rest-is a l = take-all (length l - a) (drop a l) (simp length-drop (omega arith))
+
+-- k bytes that are all there, element by element
+pub part-is : (k : ℕ) (s : List ℕ) (i : ℕ) → i + k ≤ length s → part k s i ≡ take k (drop i s)
+part-is zero s i h = refl
+part-is (suc k) s i h = rw (drop-cons s i 0 (omega arith), part-is k s (i + 1) (omega arith), add-one)
 
 -- the whole, once that part has come back as ys
 pub rest-back : (a : ℕ) (l ys : List ℕ) → putMid a (length l - a) l ys ≡ take a l ++ ys
@@ -38,6 +45,17 @@ onto-part l l₁ l₂ p q a lp room e₁ e₂ =
     let f : l₁ ≡ p ++ drop a l = e₁ ∙ onto-fits p l h ∙ rw lp in
     rest-back a l₁ l₂
     ∙ rw (e₂, rest-is a l₁, f, take-at p (drop a l) a lp, drop-at p (drop a l) a lp) (joined l p q a lp room)
+
+-- p at the front of l, and then q from the end of p on, are p ++ q at the front of l, as much of it as fits
+pub onto-over : (l l₁ l₂ p q : List ℕ) (a : ℕ) → l₁ ≡ onto p l → l₂ ≡ over l₁ a q → length p ≡ a → l₂ ≡ onto (p ++ q) l
+onto-over l l₁ l₂ p q a e₁ e₂ lp =
+    e₂
+    ∙ elim (decLe a (length l)) [
+      | yes h ↦ sym (over-part l₁ _ q a refl) ∙ onto-part l l₁ _ p q a lp h e₁ refl
+      | no h ↦ (let f : length l ≤ length p = omega arith in
+          let g : length l ≤ length (p ++ q) = simp length-append (omega arith) in
+          over-past l₁ a q (rw (e₁, length-onto p l) (omega arith)) ∙ e₁ ∙ rw (onto-covers p l f, onto-covers (p ++ q) l g, take-append-le (length l) p q f))
+    ]
 
 -- two writers, the second lent the part of the k bytes after what the first wrote, are one
 pub wrote-then : {l l₁ l₂ p q : List ℕ} {n m a b : ℕ} (k : ℕ) → length l ≡ k → n ≤ k → Wrote p l l₁ n a → Wrote q (midOf n (k - n) l₁) l₂ m b

@@ -1,8 +1,8 @@
-// Big-endian numbers read from a lent slice, and bytes copied into one. Reading past the end gives 0, and what does not fit is not written.
+// Big-endian numbers read from a lent slice, their bytes, and bytes copied into one. Reading past the end gives 0, and what does not fit is not written.
 ghost use mathlib.Core.Path.{_≡_};
-ghost use Prim.Native.Nat.{_≤_, _<_, min};
+ghost use Prim.Native.Nat.{_%_, _≤_, _<_, min};
 ghost use lib.ListN.{getD};
-ghost use Rattle.wire.specs.Bytes.{num, part, onto, over, fillCount, fillOf};
+ghost use Rattle.wire.specs.Bytes.{num, bytes, part, onto, over, fillCount, fillOf};
 
 // The byte at a place, 0 past the end.
 pub fn byte_at(s: &[u8], i: usize) -> u8
@@ -54,6 +54,31 @@ pub fn be64(s: &[u8], at: u16) -> u64
     let high = (wide(byte_at(s, a)) * 256 + wide(byte_at(s, b))) * 256 + wide(byte_at(s, c));
     let middle = (high * 256 + wide(byte_at(s, d))) * 256 + wide(byte_at(s, e));
     ((middle * 256 + wide(byte_at(s, f))) * 256 + wide(byte_at(s, g))) * 256 + wide(byte_at(s, h))
+}
+
+// The bytes of a number, the most significant first; the low three of one that has four.
+pub fn bytes2(n: u16) -> [u8; 2]
+    ensures { λ r. ⌜ r ≡ bytes 2 n ⌝ }
+{
+    let w = n as u32;
+    [low(w / 256), low(w)]
+}
+
+pub fn bytes3(n: u32) -> [u8; 3]
+    ensures { λ r. ⌜ r ≡ bytes 3 n ⌝ }
+{
+    [low(n / 256 / 256), low(n / 256), low(n)]
+}
+
+pub fn bytes4(n: u32) -> [u8; 4]
+    ensures { λ r. ⌜ r ≡ bytes 4 n ⌝ }
+{
+    [
+        low(n / 256 / 256 / 256),
+        low(n / 256 / 256),
+        low(n / 256),
+        low(n),
+    ]
 }
 
 // The eight bytes of a name at a place.
@@ -118,6 +143,13 @@ fn wide(x: u8) -> u64
     ensures { λ r. ⌜ (r ≡ x) × (r < 256) ⌝ }
 {
     x as u64
+}
+
+// The low byte of a number.
+fn low(n: u32) -> u8
+    ensures { λ r. ⌜ r ≡ n % 256 ⌝ }
+{
+    (n % 256) as u8
 }
 
 // The smaller of two sizes.

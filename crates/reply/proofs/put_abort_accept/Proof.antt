@@ -9,12 +9,14 @@ use Rattle.reply.proofs.put_abort_accept.Tie as tie
 returns : tie.Need-returns
 unfolding abortAcceptBytes
 returns c =
-    record { long = refl; fits = omega arith; is = c .before .before .put-front .ensures }
+    let f = c .before .before in
+    record { long = refl; fits = omega arith; is = rw (f .before .before .before .bytes2 .ensures) at (f .put-front .ensures) }
 
 pub put-abort-accept-spec : {M : Type 1} → statement M
 put-abort-accept-spec =
     tie.close
     (tie.spec
+    (λ c κs. search needs)
     (λ c. search needs)
     (λ c. search needs)
     (λ c. search needs)

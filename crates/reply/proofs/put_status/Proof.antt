@@ -9,12 +9,16 @@ use Rattle.reply.proofs.put_status.Tie as tie
 returns : tie.Need-returns
 unfolding statusBytes
 returns c =
-    record { long = refl; fits = omega arith; is = c .before .before .put-front .ensures }
+    let f = c .before .before in
+    record { long = refl; fits = omega arith; is = rw (f .before .before .before .bytes43 .ensures, f .before .before .before .before .bytes42 .ensures, f .before .before .before .before .before .bytes4 .ensures) at (f .put-front .ensures) }
 
 pub put-status-spec : {M : Type 1} → statement M
 put-status-spec =
     tie.close
     (tie.spec
+    (λ c κs. search needs)
+    (λ c κs. search needs)
+    (λ c κs. search needs)
     (λ c. search needs)
     (λ c. search needs)
     (λ c. search needs)
