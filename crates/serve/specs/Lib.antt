@@ -1,3 +1,4 @@
 pub mod Made
 pub mod Next
+pub mod Turn
 pub mod Whole

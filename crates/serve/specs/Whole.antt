@@ -6,11 +6,14 @@ use mathlib.Core.List.{List, [], _∷_, _++_}
 use lib.Dec.{eqb}
 use lib.ListN.{length, take, drop}
 use Rattle.cover.specs.Cover.{cut}
+use Rattle.refusal.specs.declared.Said.{Said}
+use Rattle.refusal.specs.declared.Said.the-variants.{Sent, Refused}
 use Rattle.state.specs.declared.Exchange.{Exchange}
 use Rattle.state.specs.declared.Port.{Port}
 use Rattle.state.specs.declared.Unit.{Unit}
 use Rattle.state.specs.declared.Standing.the-variants.{Open}
-use Rattle.state.specs.Changes.{loginAt, withPlaces}
+use Rattle.state.specs.Changes.{ownOf, loginAt, withPlaces}
+use Rattle.state.specs.Kinds.{kindRead}
 use Rattle.state.specs.Tables.{lookupOf}
 use Rattle.formed.specs.Formed.{total, framesOf}
 use Rattle.residual.specs.Residual.{residualOf}
@@ -19,22 +22,16 @@ use Rattle.reply.specs.declared.Response.{Response}
 use Rattle.reply.specs.declared.Response.the-variants.{Status}
 use Rattle.reply.specs.declared.Reply.the-variants.{Respond, Data}
 use Rattle.reply.specs.Payload.{payloadOf}
-use Rattle.serve.specs.declared.Given.{Given}
-use Rattle.serve.specs.declared.Given.the-variants.{Sent, NoRoom, NoExchange, Unproven, WrongWindow}
-use Rattle.serve.specs.declared.Step.the-variants.{Frame}
 use Rattle.serve.specs.Made.{madeBytes}
-use Rattle.serve.specs.Next.{nextReply, nextExchange, sourceOf, ownOf, askedBy, exchangeOf, fullOf, stepOf, nextOf}
+use Rattle.serve.specs.Next.{nextReply, nextExchange, sourceOf, askedBy, exchangeOf, fullOf, Frame, stepOf, nextOf}
 
 -- a frame was given, and the call not refused
-abbrev pub isSent : Given → Bool
+abbrev pub isSent : Said → Bool
 isSent (Sent n) = true
-isSent NoRoom = false
-isSent NoExchange = false
-isSent Unproven = false
-isSent WrongWindow = false
+isSent (Refused y) = false
 
 -- q is the port p after a next frame of the exchange of a and x: this exchange has moved on, and its login's other exchanges and fields, the other logins and the setup are as they were
-pub record Moved (p : Port) (a x : ℕ) (q : Port) : Type 0 where
+pub record MovedOnly (p : Port) (a x : ℕ) (q : Port) : Type 0 where
   pub i : ℕ
   pub j : ℕ
   pub stands : lookupOf p a x ≡ Open i j
@@ -57,13 +54,13 @@ payloadAt u p a x i j k W = payloadOf (ownOf p) (askedBy (p .address) a x) (next
 
 -- next frames of the exchange of a and x one after the other from the port p on, none refused, each with some window cut from the unit: data frames, and FCP_RSP, which leaves the port q
 pub data Run (u : Unit) (unit : List ℕ) (a x : ℕ) : Port → List Piece → Response → Port → Type 0 where
-  piece : {p q : Port} {pieces : List Piece} {r : Response} (start len room i j k : ℕ) (d : DataFrame)
-      → stepOf p a x start (length (cut unit start len)) room ≡ Frame i j k → nextReply (fullOf p i) (exchangeOf p i j) ≡ Data d
-      → Run u unit a x (nextOf u p a x start (cut unit start len) room .port) pieces r q
+  piece : {p q : Port} {pieces : List Piece} {r : Response} (start len i j k : ℕ) (d : DataFrame)
+      → stepOf p a x start (length (cut unit start len)) ≡ Frame i j k → nextReply (fullOf p i) (exchangeOf p i j) ≡ Data d
+      → Run u unit a x (nextOf u p a x start (cut unit start len) .port) pieces r q
       → Run u unit a x p (record { offset = d .offset; count = d .count; payload = payloadAt u p a x i j k (cut unit start len) } ∷ pieces) r q
-  ends : {p : Port} {r : Response} (start len room i j k : ℕ)
-      → stepOf p a x start (length (cut unit start len)) room ≡ Frame i j k → nextReply (fullOf p i) (exchangeOf p i j) ≡ Respond r
-      → Run u unit a x p [] r (nextOf u p a x start (cut unit start len) room .port)
+  ends : {p : Port} {r : Response} (start len i j k : ℕ)
+      → stepOf p a x start (length (cut unit start len)) ≡ Frame i j k → nextReply (fullOf p i) (exchangeOf p i j) ≡ Respond r
+      → Run u unit a x p [] r (nextOf u p a x start (cut unit start len) .port)
 
 -- the payloads, joined
 abbrev pub joined : List Piece → List ℕ
@@ -78,10 +75,10 @@ pub data InOrder : ℕ → ℕ → List Piece → Type 0 where
 
 -- all that an exchange may send: the unit's bytes from its first block on for READ, else the made data
 abbrev pub dataOf : Unit → List ℕ → Exchange → List ℕ
-dataOf u unit e = cond (eqb (e .kind) 1) (drop (512 * e .start) unit) (madeBytes u (e .kind))
+dataOf u unit e = cond (eqb (e .kind) kindRead) (drop (512 * e .start) unit) (madeBytes u (e .kind))
 
 -- these are the frames that are left of an exchange: the bytes not yet sent, each once and in order, in as few frames as they take, and its response
-pub record Served (u : Unit) (unit : List ℕ) (full : ℕ) (e : Exchange) (pieces : List Piece) (r : Response) : Type 0 where
+pub record Rest (u : Unit) (unit : List ℕ) (full : ℕ) (e : Exchange) (pieces : List Piece) (r : Response) : Type 0 where
   pub bytes : joined pieces ≡ take (total e - e .sent) (drop (e .sent) (dataOf u unit e))
   pub order : InOrder (e .sent) (framesOf (e .sent) full) pieces
   pub frames : framesOf (e .sent) full + length pieces ≡ framesOf (total e) full
@@ -95,7 +92,7 @@ pub record AllFrames (from : List ℕ) (full : ℕ) (e : Exchange) (pieces : Lis
   pub response : r ≡ Status 0x00 (residualOf (e .wanted) (e .expected))
 
 -- there are windows with which the exchange of a and x is served to its end
-pub record Comes (u : Unit) (unit : List ℕ) (a x : ℕ) (p : Port) : Type 0 where
+pub record Ends (u : Unit) (unit : List ℕ) (a x : ℕ) (p : Port) : Type 0 where
   pub pieces : List Piece
   pub response : Response
   pub after : Port

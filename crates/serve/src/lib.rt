@@ -1,10 +1,14 @@
 // The next frame of an open exchange: its data frames one after the other, and then its FCP_RSP.
+use calls::Turn;
+use calls::View;
+use calls::refuse_turn;
 use cover::covered;
 use formed::full_frame;
 use formed::total_of;
 use frame::Header;
+use refusal::Refusal;
+use refusal::Said;
 use reply::DataFrame;
-use reply::Own;
 use reply::Reply;
 use reply::Response;
 use reply::Sense;
@@ -12,11 +16,9 @@ use reply::put_sense;
 use reply::sense_with;
 use reply::write;
 use residual::residual_of;
-use seat::seat_of;
-use seat::seat_place;
+use state::Change;
 use state::Exchange;
-use state::Login;
-use state::Port;
+use state::Own;
 use state::Unit;
 use state::advance;
 use state::empty_exchange;
@@ -24,6 +26,7 @@ use state::exchange_at;
 use state::find_exchange;
 use state::put_exchange;
 use tables::Found;
+use wire::bytes4;
 use wire::least;
 use wire::put_at;
 use wire::put_front;
@@ -34,144 +37,54 @@ ghost use Rattle.reply.specs.Payload.{senseBytes};
 ghost use Rattle.reply.specs.Reply.{sentOf, writtenOf};
 ghost use Rattle.formed.specs.Formed.{fullFrame, nextBytes};
 ghost use Rattle.serve.specs.Made.{inquiryFirst, inquiryBytes, capacityBytes, senseOf, madeBytes};
-ghost use Rattle.serve.specs.Next.{hasMore, readsMore, placeOf, frameOf, nextReply, nextExchange, sourceOf, ownOf, askedBy, openStep, movedNot, movedOpen, bufferOpen, movedSeat, bufferSeat};
+ghost use Rattle.serve.specs.Next.{hasMore, readsMore, placeOf, windowPlace, frameOf, nextReply, nextExchange, sourceOf, askedBy};
+ghost use Rattle.serve.specs.Turn.{nextTurn, nextTurnBuffer};
 
-// What became of the call: the length of the frame, or why it was refused.
-pub enum Given {
-    Sent(usize),
-    NoRoom,
-    NoExchange,
-    Unproven,
-    WrongWindow,
-}
+// The bytes of a window at most.
+const MOST_WINDOW: usize = 65536;
 
-// What became of the call, and the port after it.
-pub struct Next {
-    pub given: Given,
-    pub port: Port,
-}
-
-impl Next {
-    pub const MOST_WINDOW: usize = 65536;
-}
-
-// What a call comes to: refused, or the frame of the exchange at a login's place and its own, its data from a place of their source on.
-pub enum Step {
-    Refused(Given),
-    Frame(usize, usize, usize),
-}
-
-// What a call comes to, and the one login that it changes: its place, and what it is after it. After a refusal that login stays as it is.
-pub struct Moved {
-    pub given: Given,
-    pub at: usize,
-    pub login: Login,
-}
-
-// The next frame of the exchange of an address and an OX_ID, from a window of the unit's bytes that starts at a block, and the login after it.
-// The port's logins have these keys; l is the login of the address, or that at place 0.
-pub fn next_login(
-    u: Unit,
-    o: Own,
-    keys: [u64; 8],
-    l: Login,
-    address: u32,
-    ox_id: u16,
-    start: u64,
-    window: &[u8],
-    reply: &mut [u8],
-) -> Moved
-    ensures { λ r. ⌜ r ≡ movedSeat u o keys l address «ox_id» start (now (window .entry)) (length (now (reply .entry))) ⌝ }
-    ensures { λ _. ⌜ now (reply .exit) ≡ bufferSeat u o keys l address «ox_id» start (now (window .entry)) (now (reply .entry)) ⌝ }
+// The next frame of the exchange of an address and an OX_ID, from a window of the unit's bytes that starts at a block; v is what a call of that address sees.
+// Refused by the first of 9, 7, 10 that fits. A buffer under 2,136 bytes is left alone, and whether the state is well formed is the caller's to tell.
+pub fn next(v: View, address: u32, ox_id: u16, start: u64, window: &[u8], reply: &mut [u8]) -> Turn
+    ensures { λ r. ⌜ r ≡ nextTurn v address «ox_id» start (now (window .entry)) (length (now (reply .entry))) ⌝ }
+    ensures { λ _. ⌜ now (reply .exit) ≡ nextTurnBuffer v address «ox_id» start (now (window .entry)) (now (reply .entry)) ⌝ }
 {
-    let i = seat_place(keys, address);
-    if reply.len() < Header::MOST_FRAME {
-        return moved_not(Given::NoRoom, i, l);
-    }
-    let Found::At(_) = seat_of(keys, address) else {
-        return moved_not(Given::NoExchange, i, l);
+    let seat = v.seat;
+    let l = v.login;
+    let Found::At(i) = seat else {
+        return refuse_turn(Refusal::NoExchange);
     };
     let Found::At(j) = find_exchange(l, ox_id) else {
-        return moved_not(Given::NoExchange, i, l);
+        return refuse_turn(Refusal::NoExchange);
     };
-    next_open(u, o, l, i, j, address, ox_id, start, window, reply)
-}
-
-// The same of the exchange at place j of a login, which stands at place i; a buffer under 2,136 bytes is left alone.
-fn next_open(
-    u: Unit,
-    o: Own,
-    l: Login,
-    i: usize,
-    j: usize,
-    address: u32,
-    ox_id: u16,
-    start: u64,
-    window: &[u8],
-    reply: &mut [u8],
-) -> Moved
-    ensures { λ r. ⌜ r ≡ movedOpen u o l i j address «ox_id» start (now (window .entry)) (length (now (reply .entry))) ⌝ }
-    ensures { λ _. ⌜ now (reply .exit) ≡ bufferOpen u o l i j address «ox_id» start (now (window .entry)) (now (reply .entry)) ⌝ }
-{
-    let s = open_step(l, i, j, start, window.len());
-    match s {
-        Step::Refused(g) => Moved {
-            given: g,
-            at: i,
-            login: l,
-        },
-        Step::Frame(_, n, k) => {
-            let e = exchange_at(l, n);
-            let size = put_frame(u, o, address, ox_id, l.size, e, k, window, reply);
-            let f = next_exchange(l.size, e);
-            let m = put_exchange(l, n, f);
-            Moved {
-                given: Given::Sent(size),
-                at: i,
-                login: m,
-            }
-        }
-    }
-}
-
-// A refusal, and a login that stays as it is.
-fn moved_not(g: Given, i: usize, l: Login) -> Moved
-    ensures { λ r. ⌜ r ≡ movedNot g i l ⌝ }
-{
-    Moved {
-        given: g,
-        at: i,
-        login: l,
-    }
-}
-
-// What a reply takes from the setup.
-pub fn own_of(p: Port) -> Own
-    ensures { λ r. ⌜ r ≡ ownOf p ⌝ }
-{
-    let accept = p.accept;
-    Own {
-        address: p.address,
-        accept: accept,
-    }
-}
-
-// What a next frame of the exchange at place j of a login, which stands at place i, comes to, by the refusals in their order: its login, and then the window.
-fn open_step(l: Login, i: usize, j: usize, start: u64, len: usize) -> Step
-    ensures { λ r. ⌜ r ≡ openStep l i j start len ⌝ }
-{
     if l.proven != 1 {
-        return Step::Refused(Given::Unproven);
-    }
-    if Next::MOST_WINDOW < len {
-        return Step::Refused(Given::WrongWindow);
+        return refuse_turn(Refusal::Unproven);
     }
     let e = exchange_at(l, j);
-    let f = place_of(l.size, e, start, len);
-    match f {
-        Found::At(k) => Step::Frame(i, j, k),
-        Found::Nothing => Step::Refused(Given::WrongWindow),
+    let Found::At(k) = window_place(l.size, e, start, window.len()) else {
+        return refuse_turn(Refusal::BadWindow);
+    };
+    let o = v.own;
+    let h = asked_by(o.address, address, ox_id);
+    let n = put_frame(v, h, e, k, window, reply);
+    let f = next_exchange(l.size, e);
+    let m = put_exchange(l, j, f);
+    Turn {
+        said: Said::Sent(n),
+        change: Change::Keep,
+        at: Found::At(i),
+        login: m,
     }
+}
+
+// The same in a window of at most 65,536 bytes; in a longer one nowhere.
+fn window_place(size: u16, e: Exchange, start: u64, len: usize) -> Found
+    ensures { λ r. ⌜ r ≡ windowPlace (fullFrame size) e start len ⌝ }
+{
+    if MOST_WINDOW < len {
+        return Found::Nothing;
+    }
+    place_of(size, e, start, len)
 }
 
 // Where the frame's first byte stands: of READ data in the window, if that holds all of the frame's bytes; of made data among these.
@@ -215,41 +128,34 @@ fn next_bytes(size: u16, e: Exchange) -> u32
     if full < left { full } else { left }
 }
 
-// Writes the next frame, its data from place k of their source on.
-fn put_frame(
-    u: Unit,
-    o: Own,
-    address: u32,
-    ox_id: u16,
-    size: u16,
-    e: Exchange,
-    k: usize,
-    window: &[u8],
-    reply: &mut [u8],
-) -> usize
-    ensures { λ n. ⌜ n ≡ sentOf o (askedBy (o .address) address «ox_id») (nextReply (fullFrame size) e) (sourceOf u e k (now (window .entry))) (length (now (reply .entry))) ⌝ }
-    ensures { λ _. ⌜ now (reply .exit) ≡ writtenOf o (askedBy (o .address) address «ox_id») (nextReply (fullFrame size) e) (sourceOf u e k (now (window .entry))) (now (reply .entry)) ⌝ }
+// Writes the next frame of an exchange of the login that is seen, its data from place k of their source on.
+fn put_frame(v: View, h: Header, e: Exchange, k: usize, window: &[u8], reply: &mut [u8]) -> usize
+    ensures { λ n. ⌜ n ≡ sentOf (v .own) h (nextReply (fullFrame (v .login .size)) e) (sourceOf (v .unit) e k (now (window .entry))) (length (now (reply .entry))) ⌝ }
+    ensures { λ _. ⌜ now (reply .exit) ≡ writtenOf (v .own) h (nextReply (fullFrame (v .login .size)) e) (sourceOf (v .unit) e k (now (window .entry))) (now (reply .entry)) ⌝ }
 {
-    let h = asked_by(o.address, address, ox_id);
-    let r = next_reply(size, e);
+    let l = v.login;
+    let o = v.own;
+    let r = next_reply(l.size, e);
     if e.kind == Exchange::READ {
         return put_from(o, h, r, window, k, reply);
     }
-    put_made(u, o, h, r, e.kind, k, reply)
+    put_made(v, h, r, e.kind, k, reply)
 }
 
 // Writes a reply whose data are the made data of a kind from place k on.
-fn put_made(u: Unit, o: Own, h: Header, r: Reply, kind: u8, k: usize, reply: &mut [u8]) -> usize
-    ensures { λ n. ⌜ n ≡ sentOf o h r (drop k (madeBytes u kind)) (length (now (reply .entry))) ⌝ }
-    ensures { λ _. ⌜ now (reply .exit) ≡ writtenOf o h r (drop k (madeBytes u kind)) (now (reply .entry)) ⌝ }
+fn put_made(v: View, h: Header, r: Reply, kind: u8, k: usize, reply: &mut [u8]) -> usize
+    ensures { λ n. ⌜ n ≡ sentOf (v .own) h r (drop k (madeBytes (v .unit) kind)) (length (now (reply .entry))) ⌝ }
+    ensures { λ _. ⌜ now (reply .exit) ≡ writtenOf (v .own) h r (drop k (madeBytes (v .unit) kind)) (now (reply .entry)) ⌝ }
 {
+    let u = v.unit;
+    let o = v.own;
     if kind <= Exchange::INQUIRY_OTHER_UNIT {
         let identity = u.identity;
         let b = inquiry_bytes(identity, kind);
         return put_from(o, h, r, &b, k, reply);
     }
     if kind == Exchange::READ_CAPACITY {
-        let b = capacity_bytes(u.capacity);
+        let b = capacity_bytes(u);
         return put_from(o, h, r, &b, k, reply);
     }
     let s = sense_of(kind);
@@ -344,20 +250,11 @@ fn inquiry_first(kind: u8) -> u8
 }
 
 // READ CAPACITY data: the last block's address, and the bytes of a block.
-fn capacity_bytes(capacity: u64) -> [u8; 8]
-    ensures { λ r. ⌜ r ≡ capacityBytes capacity ⌝ }
+fn capacity_bytes(u: Unit) -> [u8; 8]
+    ensures { λ r. ⌜ r ≡ capacityBytes (u .capacity) ⌝ }
 {
-    let last = last_block(capacity);
-    [
-        (last / 256 / 256 / 256 % 256) as u8,
-        (last / 256 / 256 % 256) as u8,
-        (last / 256 % 256) as u8,
-        (last % 256) as u8,
-        0x00,
-        0x00,
-        0x02,
-        0x00,
-    ]
+    let last = bytes4((last_block(u.capacity) % 4294967296) as u32);
+    [last[0], last[1], last[2], last[3], 0x00, 0x00, 0x02, 0x00]
 }
 
 // The address of the last block.
