@@ -1,10 +1,11 @@
 -- The refusals of a frame in, in their order (document 01, "Numbers returned for refused calls").
 use Prim.Native.Nat.{ℕ, _%_}
 use mathlib.Core.Bool.{Bool, false, cond, not, _&&_, _||_}
-use mathlib.Core.List.{List}
+use mathlib.Core.List.{List, [], _∷_}
 use lib.Dec.{eqb, leb, ltb}
 use lib.ListN.{length, getD}
 use Rattle.tables.specs.Lists.{onFound}
+use Rattle.tables.specs.Firsts.{firstOf}
 use Rattle.frame.specs.declared.Header.{Header}
 use Rattle.address.specs.Address.{validAddress}
 use Rattle.state.specs.declared.Port.{Port}
@@ -12,25 +13,12 @@ use Rattle.state.specs.declared.Unit.{Unit}
 use Rattle.state.specs.Changes.{loginAt}
 use Rattle.state.specs.Tables.{findLogin}
 use Rattle.formed.specs.Formed.{wellFormed}
-use Rattle.arrival.specs.declared.Refusal.{Refusal}
-use Rattle.arrival.specs.declared.Refusal.the-variants.{ShortBuffer, IllFormed, BadSize, NotOurs, BadSource, UnknownForm, Unproven, BadSetup, NoExchange, BadWindow}
+use Rattle.refusal.specs.declared.Refusal.{Refusal}
+use Rattle.refusal.specs.declared.Refusal.the-variants.{ShortBuffer, IllFormed, BadSize, NotOurs, BadSource, UnknownForm, Unproven, BadSetup, NoExchange, BadWindow}
 use Rattle.arrival.specs.declared.Kind.{Kind}
 use Rattle.arrival.specs.declared.Kind.the-variants.{Link, Done, Abort, Command}
 use Rattle.arrival.specs.declared.Judged.{Judged}
 use Rattle.arrival.specs.declared.Judged.the-variants.{Refused, Passed}
-
--- the table of "Numbers returned for refused calls", line by line
-abbrev pub numberOf : Refusal → ℕ
-numberOf ShortBuffer = 1
-numberOf IllFormed = 2
-numberOf BadSize = 3
-numberOf NotOurs = 4
-numberOf BadSource = 5
-numberOf UnknownForm = 6
-numberOf Unproven = 7
-numberOf BadSetup = 8
-numberOf NoExchange = 9
-numberOf BadWindow = 10
 
 -- 1: "reply buffer under 2,136 bytes"
 abbrev pub shortBuffer : ℕ → Bool
@@ -68,17 +56,32 @@ unprovenCall p h code = not (spared (h .«r_ctl») code) && unprovenLogin p (h .
 unfoldable pub kindOf : ℕ → Kind
 kindOf rctl = cond (eqb rctl 0x22) Link (cond (eqb rctl 0x23) Done (cond (eqb rctl 0x81) Abort Command))
 
--- "Frame in: 1 to 7 in order", where it is told whether the state is well formed and whether the sender's login is unproven
-unfoldable pub judgedBy : Bool → Bool → ℕ → Header → List ℕ → ℕ → Judged
-judgedBy fine unproven own h f room =
-    cond (shortBuffer room) (Refused ShortBuffer)
-    (cond (not fine) (Refused IllFormed)
-    (cond (badSize (length f)) (Refused BadSize)
-    (cond (not (eqb (h .«d_id») own)) (Refused NotOurs)
-    (cond (badSource own (h .«s_id»)) (Refused BadSource)
-    (cond (unknownForm h (length f)) (Refused UnknownForm)
-    (cond (not (spared (h .«r_ctl») (getD f 24 0)) && unproven) (Refused Unproven)
-    (Passed (kindOf (h .«r_ctl»)))))))))
+-- "When", of each number, for a frame f with header h at a drive of this address, where it is told whether the state is well formed and whether the sender's login is unproven; 1 was told before, and 8, 9 and 10 are not given to a frame in
+abbrev pub appliesTo : Bool → Bool → ℕ → Header → List ℕ → Refusal → Bool
+appliesTo fine unproven own h f ShortBuffer = false
+appliesTo fine unproven own h f IllFormed = not fine
+appliesTo fine unproven own h f BadSize = badSize (length f)
+appliesTo fine unproven own h f NotOurs = not (eqb (h .«d_id») own)
+appliesTo fine unproven own h f BadSource = badSource own (h .«s_id»)
+appliesTo fine unproven own h f UnknownForm = unknownForm h (length f)
+appliesTo fine unproven own h f Unproven = not (spared (h .«r_ctl») (getD f 24 0)) && unproven
+appliesTo fine unproven own h f BadSetup = false
+appliesTo fine unproven own h f NoExchange = false
+appliesTo fine unproven own h f BadWindow = false
 
-unfoldable pub judgedOf : Unit → Port → Header → List ℕ → ℕ → Judged
-judgedOf u p h f room = judgedBy (wellFormed u p) (unprovenLogin p (h .«s_id»)) (p .address) h f room
+-- "Frame in: 1 to 7 in order", once 1 is told
+unfoldable pub judgedBy : Bool → Bool → ℕ → Header → List ℕ → Judged
+judgedBy fine unproven own h f = firstOf (appliesTo fine unproven own h f) (IllFormed ∷ BadSize ∷ NotOurs ∷ BadSource ∷ UnknownForm ∷ Unproven ∷ []) Refused (Passed (kindOf (h .«r_ctl»)))
+
+-- "When", of each number, for a frame f with header h and a buffer of so many bytes
+abbrev pub appliesIn : Unit → Port → Header → List ℕ → ℕ → Refusal → Bool
+appliesIn u p h f room ShortBuffer = shortBuffer room
+appliesIn u p h f room IllFormed = not (wellFormed u p)
+appliesIn u p h f room BadSize = badSize (length f)
+appliesIn u p h f room NotOurs = not (eqb (h .«d_id») (p .address))
+appliesIn u p h f room BadSource = badSource (p .address) (h .«s_id»)
+appliesIn u p h f room UnknownForm = unknownForm h (length f)
+appliesIn u p h f room Unproven = unprovenCall p h (getD f 24 0)
+appliesIn u p h f room BadSetup = false
+appliesIn u p h f room NoExchange = false
+appliesIn u p h f room BadWindow = false

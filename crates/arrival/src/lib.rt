@@ -1,43 +1,11 @@
-// What arrived: a frame in is refused by the first of the numbers 1 to 7 that fits it, or it is a request of one of four kinds.
+// What arrived: a frame in is refused by the first of the numbers 2 to 7 that fits it, or it is a request of one of four kinds.
 use address::valid_address;
 use frame::Header;
+use refusal::Refusal;
 use wire::byte_at;
 ghost use mathlib.Core.Path.{_≡_};
 ghost use mathlib.Core.Bool.{_&&_, not};
-ghost use Rattle.arrival.specs.Arrival.{numberOf, badSize, badSource, knownPair, unknownForm, spared, kindOf, judgedBy};
-
-// Why a call is refused, in the order of their numbers.
-pub enum Refusal {
-    ShortBuffer,
-    IllFormed,
-    BadSize,
-    NotOurs,
-    BadSource,
-    UnknownForm,
-    Unproven,
-    BadSetup,
-    NoExchange,
-    BadWindow,
-}
-
-impl Refusal {
-    pub fn number(self) -> u8
-        ensures { λ r. ⌜ r ≡ numberOf self ⌝ }
-    {
-        match self {
-            Refusal::ShortBuffer => 1,
-            Refusal::IllFormed => 2,
-            Refusal::BadSize => 3,
-            Refusal::NotOurs => 4,
-            Refusal::BadSource => 5,
-            Refusal::UnknownForm => 6,
-            Refusal::Unproven => 7,
-            Refusal::BadSetup => 8,
-            Refusal::NoExchange => 9,
-            Refusal::BadWindow => 10,
-        }
-    }
-}
+ghost use Rattle.arrival.specs.Arrival.{badSize, badSource, knownPair, unknownForm, spared, kindOf, judgedBy};
 
 // The kinds of frames that are taken: a request to the link services, the answer to one, ABTS, and FCP_CMND.
 pub enum Kind {
@@ -52,14 +20,11 @@ pub enum Judged {
     Passed(Kind),
 }
 
-// The frame with header h to a drive of this address, with room for the reply: refusals 1 to 7 in order, or its kind.
-// Whether the state is well formed and whether the sender's login is unproven is the caller's to tell.
-pub fn judge(fine: bool, unproven: bool, own: u32, h: Header, frame: &[u8], room: usize) -> Judged
-    ensures { λ r. ⌜ r ≡ judgedBy fine unproven own h (now (frame .entry)) room ⌝ }
+// The frame with header h to a drive of this address: refusals 2 to 7 in order, or its kind.
+// Whether the state is well formed and whether the sender's login is unproven is the caller's to tell, and refusal 1 was told before.
+pub fn judge(fine: bool, unproven: bool, own: u32, h: Header, frame: &[u8]) -> Judged
+    ensures { λ r. ⌜ r ≡ judgedBy fine unproven own h (now (frame .entry)) ⌝ }
 {
-    if room < Header::MOST_FRAME {
-        return Judged::Refused(Refusal::ShortBuffer);
-    }
     if !fine {
         return Judged::Refused(Refusal::IllFormed);
     }
