@@ -13,14 +13,14 @@ use Rattle.drive.specs.declared.Said.the-variants.{Sent, Refused}
 use Rattle.drive.specs.Drive.{madeFrom}
 use Rattle.drive.specs.Entry.{frameIn, frameInBuffer, nextFrame, nextFrameBuffer}
 
--- words 1 to 28 of a login with this W18 size
-abbrev pub words : ℕ → List ℕ
-words n =
-    replicate 6 0 ++ (0x08 ∷ 0x00 ∷ replicate 8 0) ++ replicate 16 0x5a ++ replicate 32 0 ++ (0x80 ∷ replicate 5 0) ++ bytes 2 n ++ (0x00 ∷ 0x01 ∷ 0x00 ∷ 0x00 ∷ 0x00 ∷ 0x01 ∷ replicate 34 0)
+-- words 1 to 28 of the port of this address with this W18 size; its port name ends with the address, so that it is its own
+abbrev pub words : ℕ → ℕ → List ℕ
+words from size =
+    replicate 6 0 ++ (0x08 ∷ 0x00 ∷ replicate 8 0) ++ (replicate 7 0x5a ++ (from ∷ replicate 8 0x5a)) ++ replicate 32 0 ++ (0x80 ∷ replicate 5 0) ++ bytes 2 size ++ (0x00 ∷ 0x01 ∷ 0x00 ∷ 0x00 ∷ 0x00 ∷ 0x01 ∷ replicate 34 0)
 
 -- a drive of address EFh and this capacity, as it is made
 abbrev pub made : ℕ → Drive
-made capacity = madeFrom record { capacity = capacity; address = 0xef; identity = replicate 28 0x20; accept = words 2048 }
+made capacity = madeFrom record { capacity = capacity; address = 0xef; identity = replicate 28 0x20; accept = words 0xef 2048 }
 
 -- a frame to it
 abbrev pub frame : ℕ → ℕ → ℕ → ℕ → List ℕ → List ℕ
@@ -42,7 +42,7 @@ frame rctl kind from ox payload =
 
 -- a PLOGI with this W18 size: "PLOGI 03h", and the words
 abbrev pub plogi : ℕ → ℕ → List ℕ
-plogi from size = frame 0x22 0x01 from 1 (0x03 ∷ 0x00 ∷ 0x00 ∷ 0x00 ∷ words size)
+plogi from size = frame 0x22 0x01 from 1 (0x03 ∷ 0x00 ∷ 0x00 ∷ 0x00 ∷ words from size)
 
 -- a PRLI: "PRLI 20h 20", "B1-3 = 10 00 14 and W1/B0 = 08h", "W1/B2 bit 5 and, in W4, bits 5 and 1"
 abbrev pub prli : ℕ → List ℕ

@@ -3,7 +3,7 @@
 use Prim.Native.Nat.{ℕ}
 use mathlib.Core.Path.{_≡_, refl}
 use mathlib.Core.Bool.{Bool, true, false}
-use mathlib.Core.List.{List, _∷_, _++_}
+use mathlib.Core.List.{List, [], _∷_, _++_}
 use lib.ListN.{replicate}
 use Rattle.address.specs.Address.{validAddress}
 use Rattle.params.specs.Words.{paramsOf, sizeFails, zeroName, verdictOf, setupPasses}
@@ -21,13 +21,17 @@ unitOf capacity = record { capacity = capacity; identity = replicate 28 0x20 }
 abbrev pub name : List ℕ
 name = replicate 8 0x20
 
+-- a port name that ends with this byte
+abbrev pub named : ℕ → List ℕ
+named last = replicate 7 0x20 ++ (last ∷ [])
+
 abbrev pub zeros : List ℕ
 zeros = replicate 8 0
 
 -- words 1 to 28 of a login accept with these W19/B1 and W20/B1: size 2,048 in W2 and W18, both names, class 3
 abbrev pub words : (concurrent sequences : ℕ) → List ℕ
 words concurrent sequences =
-    replicate 6 0 ++ (0x08 ∷ replicate 9 0) ++ name ++ name ++ replicate 32 0
+    replicate 6 0 ++ (0x08 ∷ replicate 9 0) ++ named 0xef ++ name ++ replicate 32 0
     ++ (0x80 ∷ 0 ∷ 0 ∷ 0 ∷ 0 ∷ 0 ∷ 0x08 ∷ 0 ∷ 0 ∷ concurrent ∷ 0 ∷ 0 ∷ 0 ∷ sequences ∷ replicate 34 0)
 
 -- a port of this address and accept, with these logins at its first places and none at the others
@@ -97,9 +101,9 @@ flagged used proven paired attention es = login used proven paired attention 0x0
 abbrev pub stored : (port node : List ℕ) (size concurrent sequences : ℕ) → List Exchange → Login
 stored port node size concurrent sequences es = login 1 1 1 0 0x01 port node size concurrent sequences es
 
--- the same login of another address, with both exchanges
-abbrev pub at : (address : ℕ) → Login
-at address = login 1 1 1 0 address name name 256 1 1 busy
+-- the same login of another address, with both exchanges, and a port name that ends with this byte
+abbrev pub at : (address last : ℕ) → Login
+at address last = login 1 1 1 0 address (named last) name 256 1 1 busy
 
 -- a free place with numbers left over in every field, all of which a login would fail for
 abbrev pub stale : Login
@@ -154,15 +158,15 @@ pub login-clauses :
     × (one (flagged 1 1 1 0x29 busy) ≡ true)  -- "attention 29h"
     × (one (flagged 1 1 1 0x2f busy) ≡ true)  -- "2Fh"
     × (one (flagged 1 1 1 1 busy) ≡ false)  -- the attention is none, 29h or 2Fh
-    × (one (at 0x02) ≡ true)  -- another address
-    × (one (at 0x03) ≡ false)  -- "login addresses valid"
-    × (one (at 0x00) ≡ false)  -- "00h excepted"
-    × (one (at 0x010001) ≡ false)  -- "upper bytes 0000h"
-    × (one (at 0xef) ≡ false)  -- "not ours"
-    × (both (at 0x01) (at 0x02) ≡ true)  -- two logins with the same OX_IDs
-    × (both (at 0x01) (at 0x01) ≡ false)  -- "distinct"
+    × (one (at 0x02 0x02) ≡ true)  -- another address
+    × (one (at 0x03 0x02) ≡ false)  -- "login addresses valid"
+    × (one (at 0x00 0x02) ≡ false)  -- "00h excepted"
+    × (one (at 0x010001 0x02) ≡ false)  -- "upper bytes 0000h"
+    × (one (at 0xef 0x02) ≡ false)  -- "not ours"
+    × (both (at 0x01 0x01) (at 0x02 0x02) ≡ true)  -- two logins with the same OX_IDs
+    × (both (at 0x01 0x01) (at 0x01 0x02) ≡ false)  -- "distinct", whatever their port names
     × (both stale stale ≡ true)  -- of free places nothing is asked
-    × (both stale (at 0x01) ≡ true)  -- nor of them beside a login
+    × (both stale (at 0x01 0x01) ≡ true)  -- nor of them beside a login
     × (one (flagged 0 1 1 0 busy) ≡ false)  -- but that they hold no open exchange
 unfolding wellFormed setupRules setupOf ownOf validAddress setupPasses paramsOf verdictOf sizeFails zeroName loginFine usedFine flagsFine addressFine paramsFine exchangeFine wantedFits readFits sentFits apartId apartAddress
 login-clauses = (refl, refl, refl, refl, refl, refl, refl, refl, refl, refl, refl, refl, refl, refl, refl, refl, refl, refl, refl, refl)
