@@ -1,37 +1,34 @@
 -- Making a drive, and events (document 01, "Numbers returned for refused calls", "Events").
-use Prim.Native.Nat.{ℕ}
 use mathlib.Core.Bool.{cond}
-use mathlib.Core.List.{List}
 use lib.ListN.{replicate}
-use Rattle.state.specs.declared.Login.{Login}
-use Rattle.state.specs.declared.Port.{Port}
-use Rattle.state.specs.declared.Unit.{Unit}
+use Rattle.refusal.specs.declared.Refusal.{Refusal}
+use Rattle.refusal.specs.declared.Refusal.the-variants.{IllFormed, BadSetup}
+use Rattle.refusal.specs.declared.Said.the-variants.{Sent, Refused}
 use Rattle.state.specs.declared.Setup.{Setup}
+use Rattle.state.specs.declared.Change.{Change}
 use Rattle.state.specs.declared.Change.the-variants.{EndAll, Unprove, EndUnproven}
 use Rattle.state.specs.Changes.{emptyLogin, changedAll}
 use Rattle.formed.specs.Formed.{setupRules, wellFormed}
 use Rattle.drive.specs.declared.Drive.{Drive}
 use Rattle.drive.specs.declared.Answer.{Answer}
-use Rattle.drive.specs.declared.Said.the-variants.{Sent, Refused}
-use Rattle.arrival.specs.declared.Refusal.{Refusal}
-use Rattle.arrival.specs.declared.Refusal.the-variants.{IllFormed, BadSetup}
 use Rattle.drive.specs.declared.Event.{Event}
 use Rattle.drive.specs.declared.Event.the-variants.{LoopReset, TimeOver, PowerOn}
 
 -- a drive with no logins, of this setup
-abbrev pub driveOf : ℕ → ℕ → List ℕ → List ℕ → Drive
-driveOf capacity address identity accept =
+unfoldable pub madeFrom : Setup → Drive
+madeFrom s =
     record {
-      unit = record { capacity = capacity; identity = identity };
-      port = record { address = address; accept = accept; logins = replicate 8 emptyLogin };
+      unit = record { capacity = s .capacity; identity = s .identity };
+      port = record { address = s .address; accept = s .accept; logins = replicate 8 emptyLogin };
     }
 
-unfoldable pub madeFrom : Setup → Drive
-madeFrom s = driveOf (s .capacity) (s .address) (s .identity) (s .accept)
+-- the setup that is all zeros
+abbrev pub noSetup : Setup
+noSetup = record { capacity = 0; address = 0; identity = replicate 28 0; accept = replicate 112 0 }
 
 -- what stands beside a refused setup: all zeros
 unfoldable pub noDrive : Drive
-noDrive = driveOf 0 0 (replicate 28 0) (replicate 112 0)
+noDrive = madeFrom noSetup
 
 -- "returns its number and the state unchanged"
 abbrev pub refused : Refusal → Drive → Answer
@@ -43,16 +40,16 @@ silent d = record { said = Sent 0; drive = d }
 
 -- "Making a drive: 8"
 unfoldable pub newAnswer : Setup → Answer
-newAnswer s = cond (setupRules (s .capacity) (s .address) (s .accept)) (silent (madeFrom s)) (refused BadSetup noDrive)
+newAnswer s = cond (setupRules s) (silent (madeFrom s)) (refused BadSetup noDrive)
 
 -- "Events: loop reset marks every login unproven; verification time over ends the unproven ones; power on ends all."
-abbrev pub portAfter : Event → Port → Port
-portAfter LoopReset p = changedAll Unprove p
-portAfter TimeOver p = changedAll EndUnproven p
-portAfter PowerOn p = changedAll EndAll p
+abbrev pub changeOf : Event → Change
+changeOf LoopReset = Unprove
+changeOf TimeOver = EndUnproven
+changeOf PowerOn = EndAll
 
 unfoldable pub afterEvent : Event → Drive → Drive
-afterEvent e d = record { unit = d .unit; port = portAfter e (d .port) }
+afterEvent e d = record { unit = d .unit; port = changedAll (changeOf e) (d .port) }
 
 -- "Event: 2"
 unfoldable pub eventAnswer : Drive → Event → Answer

@@ -2,7 +2,8 @@
 use drive::Answer;
 use drive::Drive;
 use drive::Event;
-use drive::Said;
+use drive::no_drive;
+use refusal::Said;
 use state::Setup;
 use window::next_frame;
 use wire::be16;
@@ -40,14 +41,7 @@ pub struct Told {
 pub fn start() -> Session
     ensures { λ r. ⌜ r ≡ unmade ⌝ }
 {
-    let s = Setup {
-        capacity: 0,
-        address: 0,
-        identity: [0; 28],
-        accept: [0; 112],
-    };
-    let a = Drive::new(s);
-    let d = a.drive;
+    let d = no_drive();
     Session {
         made: false,
         drive: d,

@@ -1,12 +1,15 @@
 // The window of a next frame as one thing: the block that it starts at, and the lent bytes.
+use calls::Turn;
+use calls::View;
+use calls::look;
 use drive::Answer;
 use drive::Drive;
-use drive::Turn;
-use drive::View;
+use frame::Header;
+use refusal::Refusal;
 ghost use mathlib.Core.Path.{_≡_};
 ghost use lib.ListN.{length};
 ghost use Rattle.drive.specs.Entry.{nextFrame, nextFrameBuffer};
-ghost use Rattle.drive.specs.Turn.{nextTurn, nextTurnBuffer};
+ghost use Rattle.drive.specs.Turn.{nextOutTurn, nextOutBuffer};
 
 pub struct Window<'a> {
     pub start: u64,
@@ -21,10 +24,10 @@ pub fn next_turn_from<'a>(
     w: Window<'a>,
     reply: &mut [u8],
 ) -> Turn
-    ensures { λ r. ⌜ (r ≡ nextTurn v address «ox_id» (w .entry .start) (now (w .entry .bytes)) (length (now (reply .entry))))
-        × (now (reply .exit) ≡ nextTurnBuffer v address «ox_id» (w .entry .start) (now (w .entry .bytes)) (now (reply .entry))) ⌝ }
+    ensures { λ r. ⌜ (r ≡ nextOutTurn v address «ox_id» (w .entry .start) (now (w .entry .bytes)) (length (now (reply .entry))))
+        × (now (reply .exit) ≡ nextOutBuffer v address «ox_id» (w .entry .start) (now (w .entry .bytes)) (now (reply .entry))) ⌝ }
 {
-    v.next_turn(address, ox_id, w.start, w.bytes, reply)
+    drive::next_turn(v, address, ox_id, w.start, w.bytes, reply)
 }
 
 // The same with plain parameters, for callers that hold no window.
@@ -36,8 +39,8 @@ pub fn next_turn(
     bytes: &[u8],
     reply: &mut [u8],
 ) -> Turn
-    ensures { λ r. ⌜ (r ≡ nextTurn v address «ox_id» start (now (bytes .entry)) (length (now (reply .entry))))
-        × (now (reply .exit) ≡ nextTurnBuffer v address «ox_id» start (now (bytes .entry)) (now (reply .entry))) ⌝ }
+    ensures { λ r. ⌜ (r ≡ nextOutTurn v address «ox_id» start (now (bytes .entry)) (length (now (reply .entry))))
+        × (now (reply .exit) ≡ nextOutBuffer v address «ox_id» start (now (bytes .entry)) (now (reply .entry))) ⌝ }
 {
     next_turn_from(
         v,
@@ -51,7 +54,7 @@ pub fn next_turn(
     )
 }
 
-// The same, answered with the whole drive.
+// The next frame out of a drive: refused by the first of 1, 2, 9, 7, 10 that fits, or the frame at the front of the buffer and the drive after it.
 pub fn next_frame(
     d: Drive,
     address: u32,
@@ -63,7 +66,12 @@ pub fn next_frame(
     ensures { λ r. ⌜ (r ≡ nextFrame d address «ox_id» start (now (bytes .entry)) (length (now (reply .entry))))
         × (now (reply .exit) ≡ nextFrameBuffer d address «ox_id» start (now (bytes .entry)) (now (reply .entry))) ⌝ }
 {
-    let v = d.view(address);
+    if reply.len() < Header::MOST_FRAME {
+        return d.refuse(Refusal::ShortBuffer);
+    }
+    let u = d.unit;
+    let p = d.port;
+    let v = look(u, p, address);
     let t = next_turn(v, address, ox_id, start, bytes, reply);
-    d.answer(t)
+    d.after(t)
 }
