@@ -8,7 +8,7 @@ use drive::Drive;
 use drive::Event;
 use drive::event_turn;
 use drive::passed_turn;
-use drive::refusal;
+use drive::refusal_number;
 use formed::Key;
 use formed::login_key;
 use frame::Header;
@@ -56,7 +56,7 @@ pub extern "C" fn drive_frame(d: &mut Drive, frame: &[u8], reply: &mut [u8]) -> 
     } else {
         let h = read_header(frame);
         let v = view(&mut d.port, d.unit, h.s_id);
-        let x = refusal(v, h, frame);
+        let x = refusal_number(v, h, frame);
         if x != 0 {
             return 65536 + x;
         } else {

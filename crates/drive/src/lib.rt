@@ -122,7 +122,7 @@ impl Drive {
 }
 
 // The number of the refusal of a frame in with header h, seen by its sender, or 0 where it passes.
-pub fn refusal(v: View, h: Header, frame: &[u8]) -> u64
+pub fn refusal_number(v: View, h: Header, frame: &[u8]) -> u64
     ensures { λ r. ⌜ r ≡ refusalOf v h (now (frame .entry)) ⌝ }
 {
     let j = judged(v, h, frame);
