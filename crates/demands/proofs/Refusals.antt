@@ -39,30 +39,32 @@ use Rattle.drive.specs.Drive.{refused}
 use Rattle.drive.specs.Entry.{decidedIn, answered, onJudged, frameIn, frameInBuffer, saidOf, served, nextFrame, nextFrameBuffer}
 use Rattle.demands.specs.Refusals.{covers, noExchange, unprovenThere, badWindow, appliesOut, turn, FirstOut}
 
-same-refusal : (x y : Refusal) → Refused y ≡ Refused x → y ≡ x
+same-refusal : (x y : Refusal) → Refused x ≡ Refused y → x ≡ y
 same-refusal x y e = cc
+
+not-both : (n : ℕ) (x : Refusal) → Refused x ≡ Sent n → ⊥
+not-both n x e = let z : _≡_ {A = ℕ} 0 1 = cc in omega arith
 
 -- a frame in: what is told of it, the drive after it and the buffer after it where it is refused
 module _ (d : Drive) (f l : List ℕ) where
-  abbrev judgement : Judged
-  judgement = judgedOf (d .unit) (d .port) (headerOf f) f (length l)
+  abbrev applies-in : Refusal → Bool
+  applies-in = appliesIn (d .unit) (d .port) (headerOf f) f (length l)
 
-  said-judged : (x : Refusal) → frameIn d f (length l) .said ≡ Refused x → judgement ≡ judged.Refused x
+  abbrev reply-long : ℕ
+  reply-long = length (replyBytes d (headerOf f) (decidedIn d f))
+
+  said-first : frameIn d f (length l) .said ≡ firstOf applies-in frameOrder Refused (Sent reply-long)
   unfolding frameIn
-  said-judged x e = by judgement refl e
-    where
-      by : (j : Judged) → judgement ≡ j → onJudged j (λ y. refused y d) (λ k. answered d (headerOf f) (decidedIn d f k)) .said ≡ Refused x → judgement ≡ judged.Refused x
-      by (judged.Refused y) q s = q ∙ ap judged.Refused (same-refusal x y s)
-      by (judged.Passed k) q s = let z : _≡_ {A = ℕ} 0 1 = cc in absurd (omega arith)
+  said-first = first-over (λ (a : Answer). a .said) applies-in frameOrder (λ x. refused x d) (answered d (headerOf f) (decidedIn d f))
 
   -- refused: the number is the first that applies, of 1 to 7
-  pub frame-first : (x : Refusal) → frameIn d f (length l) .said ≡ Refused x → First (d .unit) (d .port) (headerOf f) f (length l) x
-  frame-first x e = given-first (d .unit) (d .port) (headerOf f) f (length l) x (said-judged x e)
+  pub frame-first : (x : Refusal) → frameIn d f (length l) .said ≡ Refused x → IsFirst applies-in frameOrder x
+  frame-first x e = then-first applies-in frameOrder Refused (Sent reply-long) (not-both reply-long) same-refusal x (sym said-first ∙ e)
 
   -- where one is the first that applies: refused with it, the drive unchanged, and no byte of the buffer
-  pub frame-refuses : (x : Refusal) → First (d .unit) (d .port) (headerOf f) f (length l) x → (frameIn d f (length l) ≡ refused x d) × (frameInBuffer d f l ≡ l)
+  pub frame-refuses : (x : Refusal) → IsFirst applies-in frameOrder x → (frameIn d f (length l) ≡ refused x d) × (frameInBuffer d f l ≡ l)
   unfolding frameIn frameInBuffer
-  frame-refuses x z = rw (first-given (d .unit) (d .port) (headerOf f) f (length l) x z) (refl, refl)
+  frame-refuses x i = (first-then applies-in frameOrder _ _ i, first-then applies-in frameOrder (λ _. l) _ i)
 
 -- a next frame out, in the order 1, 2, 9, 7, 10
 module _ (d : Drive) (a x start : ℕ) (W l : List ℕ) where
@@ -100,12 +102,12 @@ module _ (d : Drive) (a x start : ℕ) (W l : List ℕ) where
   next-ills s w = rw (s, w)
 
   module _ (room : shortBuffer (length l) ≡ false) (fine : wellFormed (d .unit) (d .port) ≡ true) where
-    served-is : nextFrame d a x start W (length l) ≡ served d (nextAt (stepAt (lookupOf (d .port) a x) (d .port) start (length W)) (d .unit) (d .port) a x W)
+    served-is : nextFrame d a x start W (length l) ≡ nextAnswer d (nextAt (stepAt (lookupOf (d .port) a x) (d .port) start (length W)) (d .unit) (d .port) a x W)
     unfolding nextFrame nextOf stepOf
     served-is = rw (room, fine)
 
     by-place : (i j : ℕ) (r c : Bool) → readsMore (exchange i j) ≡ r → there i j ≡ c
-        → Told false false false false (r && not c) (saidOf (nextAt (onFound (placeOf (fullFrame (loginAt (d .port) i .size)) (exchange i j) start (length W)) (λ k. step.Frame i j k) (step.Refused given.WrongWindow)) (d .unit) (d .port) a x W .given))
+        → Told false false false false (r && not c) ((nextAt (onFound (placeOf (fullFrame (loginAt (d .port) i .size)) (exchange i j) start (length W)) (λ k. Frame i j k) (Step-Refused BadWindow)) (d .unit) (d .port) a x W .said))
     unfolding placeOf coverOf
     by-place i j true true er ec = rw (er, ec) (sent _)
     by-place i j true false er ec = rw (er, ec) window
@@ -113,17 +115,17 @@ module _ (d : Drive) (a x start : ℕ) (W l : List ℕ) where
 
     by-long : (i j : ℕ) (b : Bool) → ltb 65536 (length W) ≡ b
         → Told false false false false (b || readsMore (exchange i j) && not (there i j))
-        (saidOf (nextAt (cond b (step.Refused given.WrongWindow) (onFound (placeOf (fullFrame (loginAt (d .port) i .size)) (exchange i j) start (length W)) (λ k. step.Frame i j k) (step.Refused given.WrongWindow))) (d .unit) (d .port) a x W .given))
+        ((nextAt (cond b (Step-Refused BadWindow) (onFound (placeOf (fullFrame (loginAt (d .port) i .size)) (exchange i j) start (length W)) (λ k. Frame i j k) (Step-Refused BadWindow))) (d .unit) (d .port) a x W .said))
     by-long i j true e = window
     by-long i j false e = by-place i j (readsMore (exchange i j)) (there i j) refl refl
 
     by-proven : (i j : ℕ) (b : Bool) → eqb (loginAt (d .port) i .proven) 1 ≡ b
-        → Told false false false (not b) (wrong-window (standing.Open i j)) (saidOf (nextAt (openStep (loginAt (d .port) i) i j start (length W)) (d .unit) (d .port) a x W .given))
+        → Told false false false (not b) (wrong-window (standing.Open i j)) ((nextAt (openStep (loginAt (d .port) i) i j start (length W)) (d .unit) (d .port) a x W .said))
     unfolding openStep
     by-proven i j true e = rw e (by-long i j (ltb 65536 (length W)) refl)
     by-proven i j false e = rw e unproven
 
-    by-standing : (s : Standing) → Told false false (noExchange s) (unproven-at s) (wrong-window s) (saidOf (nextAt (stepAt s (d .port) start (length W)) (d .unit) (d .port) a x W .given))
+    by-standing : (s : Standing) → Told false false (noExchange s) (unproven-at s) (wrong-window s) ((nextAt (stepAt s (d .port) start (length W)) (d .unit) (d .port) a x W .said))
     by-standing standing.NoLogin = none
     by-standing (standing.NoExchange i) = none
     by-standing (standing.Open i j) = by-proven i j (eqb (loginAt (d .port) i .proven) 1) refl
@@ -218,5 +220,5 @@ module _ (d : Drive) (a x start : ℕ) (W l : List ℕ) where
       by true w es ew e = (refl, refl)
       by false false es ew e = (refl, refl)
       by false true es ew e =
-          let g = not-sent (nextOf (d .unit) (d .port) a x start W (length l) .given) r e in
+          let g = not-sent (nextOf (d .unit) (d .port) a x start W (length l) .said) r e in
           (ap (λ (q : Port). record { unit = d .unit; port = q }) (next-stays (d .unit) (d .port) a x start W (length l) g), next-untouched (d .unit) (d .port) a x start W l g)

@@ -1,6 +1,5 @@
--- Which refusal a next frame out gets: the first that applies, in its order (document 01, "Numbers returned for refused calls").
-use Prim.Native.Nat.{ℕ, _<_}
-use mathlib.Core.Path.{_≡_}
+-- When each refusal applies to a next frame out (document 01, "Numbers returned for refused calls").
+use Prim.Native.Nat.{ℕ}
 use mathlib.Core.Bool.{Bool, true, false, not, _&&_, _||_}
 use mathlib.Core.List.{List}
 use lib.Dec.{eqb, ltb}
@@ -12,8 +11,8 @@ use Rattle.state.specs.Tables.{lookupOf}
 use Rattle.formed.specs.Formed.{nextBytes, wellFormed}
 use Rattle.cover.specs.Cover.{holds}
 use Rattle.serve.specs.Next.{readsMore, position, exchangeOf, fullOf}
-use Rattle.arrival.specs.declared.Refusal.{Refusal}
-use Rattle.arrival.specs.declared.Refusal.the-variants.{ShortBuffer, IllFormed, BadSize, NotOurs, BadSource, UnknownForm, Unproven, BadSetup, NoExchange, BadWindow}
+use Rattle.refusal.specs.declared.Refusal.{Refusal}
+use Rattle.refusal.specs.declared.Refusal.the-variants.{ShortBuffer, IllFormed, BadSize, NotOurs, BadSource, UnknownForm, Unproven, BadSetup, NoExchange, BadWindow}
 use Rattle.arrival.specs.Arrival.{shortBuffer}
 use Rattle.drive.specs.declared.Drive.{Drive}
 
@@ -51,21 +50,3 @@ appliesOut d a x start W l Unproven = unprovenThere d (lookupOf (d .port) a x)
 appliesOut d a x start W l BadSetup = false
 appliesOut d a x start W l NoExchange = noExchange (lookupOf (d .port) a x)
 appliesOut d a x start W l BadWindow = badWindow d start W (lookupOf (d .port) a x)
-
--- "Next frame out: 1, 2, 9, 7, 10"
-abbrev pub turn : Refusal → ℕ
-turn ShortBuffer = 1
-turn IllFormed = 2
-turn NoExchange = 3
-turn Unproven = 4
-turn BadWindow = 5
-turn BadSize = 6
-turn NotOurs = 6
-turn BadSource = 6
-turn UnknownForm = 6
-turn BadSetup = 6
-
--- this one applies, and none before it in that order does
-pub record FirstOut (d : Drive) (a x start : ℕ) (W l : List ℕ) (r : Refusal) : Type 0 where
-  pub this : appliesOut d a x start W l r ≡ true
-  pub before : (y : Refusal) → turn y < turn r → appliesOut d a x start W l y ≡ false
