@@ -1,8 +1,8 @@
--- `vectors::print_places` is safe and ends. The measure is how many places are left. Assumes nothing.
+-- `vectors::print_table` is safe and ends. The measure is how many places are left. Assumes nothing.
 use Prim.Native.Nat.{_-_}
 use native.Mathlib.Omega.{arith}
-use Rattle.vectors.proofs.print_places.Statement.{statement}
-use Rattle.vectors.proofs.print_places.Tie as tie
+use Rattle.vectors.proofs.print_table.Statement.{statement}
+use Rattle.vectors.proofs.print_table.Tie as tie
 
 abbrev Inv-loop : tie.InvT-loop
 Inv-loop p i₀ i = Unit {0}
@@ -10,8 +10,8 @@ Inv-loop p i₀ i = Unit {0}
 abbrev μ-loop : tie.MeasureT-loop
 μ-loop p i₀ i = 8 - i
 
-pub print-places-spec : {M : Type 1} → statement M
-print-places-spec =
+pub print-table-spec : {M : Type 1} → statement M
+print-table-spec =
     tie.close
     (tie.spec
     Inv-loop
@@ -19,7 +19,9 @@ print-places-spec =
     (λ c. tt)
     (λ c κs. tt)
     (λ c κs. tt)
+    (λ c κs. tt)
     (λ c. omega arith)
     (λ c. omega arith)
     (λ c. tt)
+    (λ c κs. tt)
     (λ c. tt))

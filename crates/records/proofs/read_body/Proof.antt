@@ -1,4 +1,4 @@
--- `vectors::read_body` meets its contract: what is counted in the part that was lent is counted in the whole. Assumes nothing.
+-- `records::read_body` meets its contract: what is counted in the part that was lent is counted in the whole. Assumes nothing.
 use mathlib.Core.Path.{_≡_, sym}
 use mathlib.Core.List.{List, _++_}
 use Prim.Native.Nat.{ℕ, _+_, _≤_}
@@ -7,8 +7,8 @@ use lib.ListN.{length, drop, length-append}
 use lib.Seq.{length-take-le}
 use Rattle.io.specs.Counts.{Counts}
 use borrow.Author.Needs.{needs}
-use Rattle.vectors.proofs.read_body.Statement.{statement}
-use Rattle.vectors.proofs.read_body.Tie as tie
+use Rattle.records.proofs.read_body.Statement.{statement}
+use Rattle.records.proofs.read_body.Tie as tie
 
 counts-in : (r : ℕ) (a b : List ℕ) → r ≤ length a → Counts r (a ++ b)
 counts-in r a b h =

@@ -1,7 +1,7 @@
--- `recorder::skip` is safe and ends. The measure is how many bytes are left. Assumes nothing.
+-- `records::skip` is safe and ends. The measure is how many bytes are left. Assumes nothing.
 use native.Mathlib.Omega.{arith}
-use Rattle.recorder.proofs.skip.Statement.{statement}
-use Rattle.recorder.proofs.skip.Tie as tie
+use Rattle.records.proofs.skip.Statement.{statement}
+use Rattle.records.proofs.skip.Tie as tie
 
 abbrev Inv-loop : tie.InvT-loop
 Inv-loop size left₀ left = Unit {0}
