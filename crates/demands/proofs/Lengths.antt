@@ -9,7 +9,7 @@ use Rattle.wire.specs.Bytes.{fillCount}
 use Rattle.frame.specs.declared.Header.{Header}
 use Rattle.frame.specs.Head.{headerOf, headerBytes}
 use Rattle.state.specs.declared.Exchange.{Exchange}
-use Rattle.reply.specs.declared.Own.{Own}
+use Rattle.state.specs.declared.Own.{Own}
 use Rattle.reply.specs.declared.Accepted.{Accepted}
 use Rattle.reply.specs.declared.Accepted.the-variants as accepted
 use Rattle.reply.specs.declared.Response.{Response}
