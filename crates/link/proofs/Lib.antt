@@ -1,5 +1,4 @@
 pub mod Ways
-pub mod Turns
 pub mod Exactly
 pub mod Keeping
 pub mod Seen

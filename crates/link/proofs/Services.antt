@@ -20,16 +20,17 @@ use Rattle.state.specs.declared.Port.{Port}
 use Rattle.state.specs.declared.Change.the-variants.{EndLogin}
 use Rattle.state.specs.Changes.{emptyLogin, hasAddress, loginAt, withLogin, withExchange, withoutExchanges, endedAt, changedAll}
 use Rattle.state.proofs.Places.{found-has}
-use Rattle.state.specs.Tables.{findLogin, freeLogin, findExchange}
+use Rattle.state.specs.Tables.{findLogin, freeLogin}
 use Rattle.formed.specs.Formed.{apartAddress}
 use Rattle.reply.specs.declared.Reply.{Reply}
 use Rattle.reply.specs.declared.Reply.the-variants as reply
 use Rattle.reply.specs.declared.Accepted.{Accepted}
 use Rattle.reply.specs.declared.Accepted.the-variants as accepted
-use Rattle.link.specs.declared.Served.{Served}
+use Rattle.calls.specs.declared.Served.{Served}
+use Rattle.calls.specs.Turn.{decidedAs, servedAs, servedAt}
 use Rattle.link.specs.declared.Outcome.{Outcome}
 use Rattle.link.specs.declared.Outcome.the-variants.{Place, Rejected}
-use Rattle.link.specs.Link.{decidedAs, servedAs, newLogin, outcomeAfter, outcomeOf, outcomeReply, outcomePort, plogiOf, namesDiffer, provenBy, pdiscOf, adiscOf, logoOf, pairFine, pageFine, prliOf, prloOf, rrqOf, serviceOf, servedAt}
+use Rattle.link.specs.Link.{newLogin, outcomeAfter, outcomeOf, outcomeReply, outcomePort, plogiOf, namesDiffer, provenBy, pdiscOf, adiscOf, logoOf, pairFine, pageFine, prliOf, prloOf, rrqOf, serviceOf}
 use Rattle.link.specs.Record.{Record, out, held, keptFrom, recordAt, recordOf, proved, paired, unpaired}
 use Rattle.link.proofs.Seen.{has}
 use Rattle.link.proofs.Records.{found-record, end-record, end-others, store-record, drop-record, store-others, drop-others, place-record, place-others}
@@ -135,9 +136,9 @@ prlo-does : (l : Login) (page kind : ℕ) → Does unpaired l (prloOf l page kin
 unfolding prloOf withoutExchanges hasAddress
 prlo-does l page kind = does-cond (pageFine page kind) (takes _ _ (λ b. refl) refl) (rejects _ _)
 
-rrq-does : (l : Login) (from named ox : ℕ) → Does (λ r. r) l (rrqOf l from named ox)
+rrq-does : (l : Login) (from named : ℕ) (place : Found) → Does (λ r. r) l (rrqOf l from named place)
 unfolding rrqOf
-rrq-does l from named ox = does-cond (eqb named from) (by (findExchange l ox)) (rejects _ _)
+rrq-does l from named place = does-cond (eqb named from) (by place) (rejects _ _)
   where
     by : (x : Found) → Does (λ r. r) l (onFound x (λ j. servedAs (reply.Reject 0x03 0x17) l) (servedAs (reply.Accept accepted.Short) l))
     by (At j) = rejects _ _
@@ -151,13 +152,13 @@ does-code : {l : Login} (b : Bool) {g k : Record → Record} {s t : Served} → 
 does-code true x y = x
 does-code false x y = y
 
-service-does : (code : ℕ) (l : Login) (from : ℕ) (f : List ℕ) → Does (effectOf code) l (serviceOf code l from f)
+service-does : (code : ℕ) (l : Login) (sought : ℕ → Found) (from : ℕ) (f : List ℕ) → Does (effectOf code) l (serviceOf code l sought from f)
 unfolding effectOf serviceOf
-service-does code l from f =
+service-does code l sought from f =
     does-code (eqb code 0x50) (pdisc-does l (paramsOf f 28))
     (does-code (eqb code 0x52) (adisc-does l from (num 3 f 49) (part 8 f 32) (part 8 f 40))
     (does-code (eqb code 0x20) (prli-does l (num 3 f 25) (getD f 28 0) (getD f 30 0) (getD f 43 0))
-    (does-code (eqb code 0x21) (prlo-does l (num 3 f 25) (getD f 28 0)) (rrq-does l from (num 3 f 29) (num 2 f 32)))))
+    (does-code (eqb code 0x21) (prlo-does l (num 3 f 25) (getD f 28 0)) (rrq-does l from (num 3 f 29) (sought (num 2 f 32))))))
 
 -- the sender's login is at place i
 module _ (p : Port) (a i : ℕ) (at : findLogin p a ≡ At i) where
@@ -173,8 +174,8 @@ module _ (p : Port) (a i : ℕ) (at : findLogin p a ≡ At i) where
   does-others ends b n = drop-others p a i at b n
 
   -- a service leaves the record of every other address as it was
-  pub service-others : (code : ℕ) (f : List ℕ) (b : ℕ) → (b ≡ a → ⊥) → recordOf (servedAt p i (serviceOf code (loginAt p i) a f) .port) b ≡ recordOf p b
-  service-others code f b n = does-others (service-does code (loginAt p i) a f) b n
+  pub service-others : (code : ℕ) (sought : ℕ → Found) (f : List ℕ) (b : ℕ) → (b ≡ a → ⊥) → recordOf (servedAt p i (serviceOf code (loginAt p i) sought a f) .port) b ≡ recordOf p b
+  service-others code sought f b n = does-others (service-does code (loginAt p i) sought a f) b n
 
   -- a login of the same address that says the same leaves every record as it was
   pub same-kept : (m : Login) → hasAddress a m ≡ true → recordAt m ≡ recordAt (loginAt p i) → (b : ℕ) → recordOf (withLogin p i m) b ≡ recordOf p b
@@ -191,9 +192,9 @@ module _ (p : Port) (a i : ℕ) (at : findLogin p a ≡ At i) where
 
   module _ (d : pairs apartAddress (p .logins) ≡ true) where
     -- the service of any code
-    pub service-record : (code : ℕ) (f : List ℕ)
-        → AfterService (effectOf code) (recordOf p a) (servedAt p i (serviceOf code (loginAt p i) a f) .reply) (recordOf (servedAt p i (serviceOf code (loginAt p i) a f) .port) a)
-    service-record code f = does-record d (service-does code (loginAt p i) a f)
+    pub service-record : (code : ℕ) (sought : ℕ → Found) (f : List ℕ)
+        → AfterService (effectOf code) (recordOf p a) (servedAt p i (serviceOf code (loginAt p i) sought a f) .reply) (recordOf (servedAt p i (serviceOf code (loginAt p i) sought a f) .port) a)
+    service-record code sought f = does-record d (service-does code (loginAt p i) sought a f)
 
 module _ (p : Port) (d : pairs apartAddress (p .logins) ≡ true) where
   -- PLOGI
