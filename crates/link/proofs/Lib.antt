@@ -1,4 +1,5 @@
 pub mod Ways
+pub mod Turns
 pub mod Exactly
 pub mod Keeping
 pub mod Seen
