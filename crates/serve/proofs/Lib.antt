@@ -1,5 +1,6 @@
 pub mod Steps
 pub mod Ways
+pub mod Turns
 pub mod Keeping
 pub mod Moving
 pub mod Frames
