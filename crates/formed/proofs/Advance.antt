@@ -1,17 +1,19 @@
--- The next data frame of an exchange that fits leaves one that fits, and its count is the number of the frames sent, modulo 65,536.
+-- The next data frame of an exchange that fits leaves one that fits, and its count is the number of the frames sent, modulo 65,536; what fits by one quotient.
 -- Assumes nothing.
 use mathlib.Core.Path.{_≡_, sym, ap, _∙_}
-use mathlib.Core.Bool.{Bool, true, false, cond, _&&_, _||_}
+use mathlib.Core.Bool.{Bool, true, false, cond, _&&_, _||_, or-true}
 use Prim.Native.Nat.{ℕ, _+_, _-_, _*_, _/_, _%_, _≤_, _<_}
-use native.Mathlib.Nat.{div-add-mod', mod-eq-of-lt, add-mul, one-mul}
-use native.Mathlib.Decide.{decLe}
+use native.Mathlib.Nat.{div-add-mod', mod-lt, mod-eq-of-lt, add-mul, one-mul, le-mul-of-pos-right}
+use native.Mathlib.Decide.{decLe, ℕ-discrete}
 use native.Mathlib.Omega.{arith}
 use lib.Arith.{digits-div, digits-mod}
 use lib.Dec.{eqb, leb, ltb}
-use borrow.Author.Tests.{le-leb, lt-leb, leb-true, eqb-true, eq-eqb}
+use borrow.Author.Tests.{le-leb, lt-leb, leb-true, eqb-true, eq-eqb, ne-eqb}
 use Rattle.tables.proofs.Bools.{and-left, and-right, or-short}
 use Rattle.state.specs.declared.Exchange.{Exchange}
+use Rattle.state.specs.declared.Unit.{Unit}
 use Rattle.state.specs.Changes.{advanced, isClosed}
+use Rattle.state.specs.Kinds.{kindRead, kindInquiryOther, kindCapacity, kindSenseOther}
 use Rattle.formed.specs.Formed.{total, nextBytes, framesOf, readFits, wantedFits, openable, sentFits, exchangeFine}
 
 -- a whole number of full frames, and then one more of n bytes
@@ -21,6 +23,52 @@ frames-at q full h = digits-div q {m = full} {r = full - 1} (omega arith)
 -- nothing takes no frame
 pub no-frames : (full : ℕ) → 0 < full → framesOf 0 full ≡ 0
 no-frames full h = let z : 0 ≡ 0 * full = omega arith in ap (λ (s : ℕ). framesOf s full) z ∙ frames-at 0 full h
+
+one-more : (q full : ℕ) → (q + 1) * full ≡ q * full + full
+one-more q full = add-mul q 1 full ∙ rw one-mul
+
+frames-more : (q full n : ℕ) → 0 < n → n ≤ full → framesOf (q * full + n) full ≡ q + 1
+frames-more q full n h l =
+    let e : q * full + n + (full - 1) ≡ (q + 1) * full + (n - 1) = let d = one-more q full in omega arith in
+    ap (λ (m : ℕ). m / full) e ∙ digits-div (q + 1) {m = full} {r = n - 1} (omega arith)
+
+-- what fits, tested with one quotient, all being the bytes to send: where full frames make up what was sent, and where bytes are left past them
+module _ (full : ℕ) (e : Exchange) {all : ℕ} (t : all ≡ total e) (pos : 0 < full) (within : e .sent ≤ all) where
+  pub sent-whole : e .sent / full * full ≡ e .sent → sentFits full e ≡ eqb (e .count) (e .sent / full % 65536)
+  unfolding sentFits
+  sent-whole w =
+      let m : e .sent % full ≡ 0 = let d = div-add-mod' (e .sent) full in omega arith in
+      let f : framesOf (e .sent) full ≡ e .sent / full = ap (λ (s : ℕ). framesOf s full) (sym w) ∙ frames-at (e .sent / full) full pos in
+      rw (sym t, le-leb (e .sent) all within, eq-eqb (e .sent % full) 0 m, or-true (leb all (e .sent)), f)
+
+  module _ (part : e .sent / full * full ≡ e .sent → ⊥) where
+    left-over : 0 < e .sent % full
+    left-over = elim (ℕ-discrete (e .sent % full) 0) [
+      | yes h ↦ absurd (part (let d = div-add-mod' (e .sent) full in omega arith))
+      | no h ↦ omega arith
+    ]
+
+    -- the frames, with the one that is not full, are no more than the bytes
+    pub frames-few : e .sent / full + 1 ≤ e .sent
+    frames-few =
+        let d = div-add-mod' (e .sent) full in
+        let q = le-mul-of-pos-right (e .sent / full) pos in
+        let l = left-over in
+        omega arith
+
+    -- short of the total no bytes are left past full frames
+    pub sent-short : e .sent < all → sentFits full e ≡ false
+    unfolding sentFits
+    sent-short s = rw (sym t, le-leb (e .sent) all within, lt-leb all (e .sent) s, ne-eqb (e .sent % full) 0 (λ h. let l = left-over in omega arith))
+
+    -- all was sent, in one frame more
+    pub sent-all : all ≤ e .sent → sentFits full e ≡ eqb (e .count) ((e .sent / full + 1) % 65536)
+    unfolding sentFits
+    sent-all s =
+        let f : framesOf (e .sent) full ≡ e .sent / full + 1 =
+        ap (λ (n : ℕ). framesOf n full) (sym (div-add-mod' (e .sent) full))
+        ∙ frames-more (e .sent / full) full (e .sent % full) left-over (let l = mod-lt (e .sent) pos in omega arith) in
+        rw (sym t, le-leb (e .sent) all within, le-leb all (e .sent) s, f)
 
 module _ (full : ℕ) (e : Exchange) (fits : sentFits full e ≡ true) where
   -- the count is the number of the data frames sent, modulo 65,536
@@ -37,14 +85,6 @@ module _ (full : ℕ) (e : Exchange) (fits : sentFits full e ≡ true) where
       leb-true (e .sent) (total e)
       (and-left (leb (e .sent) (total e)) (leb (total e) (e .sent) || eqb (e .sent % full) 0)
       (and-left (leb (e .sent) (total e) && (leb (total e) (e .sent) || eqb (e .sent % full) 0)) (eqb (e .count) (framesOf (e .sent) full % 65536)) fits))
-
-one-more : (q full : ℕ) → (q + 1) * full ≡ q * full + full
-one-more q full = add-mul q 1 full ∙ rw one-mul
-
-frames-more : (q full n : ℕ) → 0 < n → n ≤ full → framesOf (q * full + n) full ≡ q + 1
-frames-more q full n h l =
-    let e : q * full + n + (full - 1) ≡ (q + 1) * full + (n - 1) = let d = one-more q full in omega arith in
-    ap (λ (m : ℕ). m / full) e ∙ digits-div (q + 1) {m = full} {r = n - 1} (omega arith)
 
 module _ (full : ℕ) (e : Exchange) (pos : 0 < full) (fits : sentFits full e ≡ true) (short : e .sent < total e) (small : total e < 4294967296) where
   -- what was sent is a whole number of full frames
@@ -110,70 +150,70 @@ cond-small true x y n p q e = p e
 cond-small false x y n p q e = q e
 
 -- what is asked of a READ
-pub record Reads (capacity : ℕ) (e : Exchange) : Type 0 where
+pub record Reads (u : Unit) (e : Exchange) : Type 0 where
   pub few : e .blocks ≤ 65535
   pub wanted : e .wanted ≡ 512 * e .blocks
-  pub inside : e .start + e .blocks ≤ capacity
+  pub inside : e .start + e .blocks ≤ u .capacity
 
-pub read-parts : (capacity : ℕ) (e : Exchange) → readFits capacity e ≡ true → Reads capacity e
+pub read-parts : (u : Unit) (e : Exchange) → readFits u e ≡ true → Reads u e
 unfolding readFits
-read-parts capacity e h =
+read-parts u e h =
     let a = leb 1 (e .blocks) in
     let b = leb (e .blocks) 65535 in
     let c = eqb (e .wanted) (512 * e .blocks) in
-    let d = ltb (e .start) capacity in
-    let f = leb (e .start + e .blocks) capacity in
+    let d = ltb (e .start) (u .capacity) in
+    let f = leb (e .start + e .blocks) (u .capacity) in
     let h₃ = and-left (a && b && c) d (and-left (a && b && c && d) f h) in
     record {
       few = leb-true (e .blocks) 65535 (and-right a b (and-left (a && b) c h₃));
       wanted = eqb-true (e .wanted) (512 * e .blocks) (and-right (a && b) c h₃);
-      inside = leb-true (e .start + e .blocks) capacity (and-right (a && b && c && d) f h);
+      inside = leb-true (e .start + e .blocks) (u .capacity) (and-right (a && b && c && d) f h);
     }
 
-pub is-read : (capacity : ℕ) (e : Exchange) → e .kind ≡ 1 → wantedFits capacity e ≡ true → Reads capacity e
+pub is-read : (u : Unit) (e : Exchange) → e .kind ≡ kindRead → wantedFits u e ≡ true → Reads u e
 unfolding wantedFits
-is-read capacity e k h = read-parts capacity e (rw (eq-eqb (e .kind) 1 k) at h)
+is-read u e k h = read-parts u e (rw (eq-eqb (e .kind) kindRead k) at h)
 
-read-small : (capacity : ℕ) (e : Exchange) → readFits capacity e ≡ true → e .wanted < 4294967296
-read-small capacity e h = let r = read-parts capacity e h in omega arith
+read-small : (u : Unit) (e : Exchange) → readFits u e ≡ true → e .wanted < 4294967296
+read-small u e h = let r = read-parts u e h in omega arith
 
-pub wanted-small : (capacity : ℕ) (e : Exchange) → wantedFits capacity e ≡ true → e .wanted < 4294967296
+pub wanted-small : (u : Unit) (e : Exchange) → wantedFits u e ≡ true → e .wanted < 4294967296
 unfolding wantedFits
-wanted-small capacity e =
-    cond-small (eqb (e .kind) 1) _ _ (e .wanted) (read-small capacity e)
-    (cond-small (leb (e .kind) 3) _ _ (e .wanted) (λ h. most 36 (and-right (leb 1 (e .wanted)) (leb (e .wanted) 36) h) (omega arith))
-    (cond-small (eqb (e .kind) 4) _ _ (e .wanted) (λ h. let i : e .wanted ≡ 8 = eqb-true (e .wanted) 8 h in omega arith)
-    (λ h. most 18 (and-right (leb (e .kind) 8 && leb 1 (e .wanted)) (leb (e .wanted) 18) h) (omega arith))))
+wanted-small u e =
+    cond-small (eqb (e .kind) kindRead) _ _ (e .wanted) (read-small u e)
+    (cond-small (leb (e .kind) kindInquiryOther) _ _ (e .wanted) (λ h. most 36 (and-right (leb 1 (e .wanted)) (leb (e .wanted) 36) h) (omega arith))
+    (cond-small (eqb (e .kind) kindCapacity) _ _ (e .wanted) (λ h. let i : e .wanted ≡ 8 = eqb-true (e .wanted) 8 h in omega arith)
+    (λ h. most 18 (and-right (leb (e .kind) kindSenseOther && leb 1 (e .wanted)) (leb (e .wanted) 18) h) (omega arith))))
   where
     most : (n : ℕ) → leb (e .wanted) n ≡ true → n < 4294967296 → e .wanted < 4294967296
     most n h l = let i : e .wanted ≤ n = leb-true (e .wanted) n h in omega arith
 
 -- what is asked of an open exchange
-pub record Running (capacity full paired : ℕ) (e : Exchange) : Type 0 where
+pub record Running (u : Unit) (full paired : ℕ) (e : Exchange) : Type 0 where
   pub pair : eqb paired 1 ≡ true
-  pub could : openable capacity e ≡ true
-  pub wanted : wantedFits capacity e ≡ true
+  pub could : openable u e ≡ true
+  pub wanted : wantedFits u e ≡ true
   pub fits : sentFits full e ≡ true
 
-pub running : (capacity full paired : ℕ) (e : Exchange) → isClosed e ≡ false → exchangeFine capacity full paired e ≡ true → Running capacity full paired e
+pub running : (u : Unit) (full paired : ℕ) (e : Exchange) → isClosed e ≡ false → exchangeFine u full paired e ≡ true → Running u full paired e
 unfolding exchangeFine
-running capacity full paired e op fine =
-    let f = or-short (isClosed e) (eqb paired 1 && openable capacity e && sentFits full e) fine op in
-    let g = and-left (eqb paired 1 && openable capacity e) (sentFits full e) f in
-    let o = and-right (eqb paired 1) (openable capacity e) g in
+running u full paired e op fine =
+    let f = or-short (isClosed e) (eqb paired 1 && openable u e && sentFits full e) fine op in
+    let g = and-left (eqb paired 1 && openable u e) (sentFits full e) f in
+    let o = and-right (eqb paired 1) (openable u e) g in
     record {
-      pair = and-left (eqb paired 1) (openable capacity e) g;
+      pair = and-left (eqb paired 1) (openable u e) g;
       could = o;
-      wanted = and-right (leb 1 (e .expected)) (wantedFits capacity e) o;
-      fits = and-right (eqb paired 1 && openable capacity e) (sentFits full e) f;
+      wanted = and-right (leb 1 (e .expected)) (wantedFits u e) o;
+      fits = and-right (eqb paired 1 && openable u e) (sentFits full e) f;
     }
 
 -- an open exchange that is fine is fine after its next data frame
-pub advance-fine : (capacity full paired : ℕ) (e : Exchange) → 0 < full → isClosed e ≡ false → e .sent < total e → exchangeFine capacity full paired e ≡ true
-    → exchangeFine capacity full paired (advanced e (nextBytes full e)) ≡ true
+pub advance-fine : (u : Unit) (full paired : ℕ) (e : Exchange) → 0 < full → isClosed e ≡ false → e .sent < total e → exchangeFine u full paired e ≡ true
+    → exchangeFine u full paired (advanced e (nextBytes full e)) ≡ true
 unfolding exchangeFine wantedFits readFits
-advance-fine capacity full paired e pos op short fine =
-    let r = running capacity full paired e op fine in
-    let w = wanted-small capacity e (r .wanted) in
+advance-fine u full paired e pos op short fine =
+    let r = running u full paired e op fine in
+    let w = wanted-small u e (r .wanted) in
     let s = advance-fits full e pos (r .fits) short (omega arith) in
     rw (op, r .pair, r .could, s)

@@ -11,8 +11,8 @@ use Rattle.state.specs.declared.Exchange.{Exchange}
 use Rattle.state.specs.declared.Login.{Login}
 use Rattle.state.specs.declared.Port.{Port}
 use Rattle.state.specs.declared.Unit.{Unit}
-use Rattle.state.specs.Changes.{emptyExchange, emptyLogin}
-use Rattle.formed.specs.Formed.{setupRules, readFits, wantedFits, sentFits, exchangeFine, apartId, paramsFine, flagsFine, addressFine, usedFine, loginFine, apartAddress, wellFormed}
+use Rattle.state.specs.Changes.{emptyExchange, emptyLogin, ownOf}
+use Rattle.formed.specs.Formed.{setupRules, setupOf, readFits, wantedFits, sentFits, exchangeFine, apartId, paramsFine, flagsFine, addressFine, usedFine, loginFine, apartAddress, wellFormed}
 
 -- a unit of this capacity
 abbrev pub unitOf : ℕ → Unit
@@ -139,7 +139,7 @@ pub setup-clauses :
     × (setup 100 0xef 255 1 busy ≡ true)  -- W19/B1 may be any other
     × (setup 100 0xef 1 0 busy ≡ false)  -- "W20/B1 not 0"
     × (setup 100 0xef 1 2 busy ≡ false)  -- "with W20/B1 = 01h"
-unfolding wellFormed setupRules validAddress setupPasses paramsOf verdictOf sizeFails zeroName loginFine usedFine flagsFine addressFine paramsFine exchangeFine wantedFits readFits sentFits apartId apartAddress
+unfolding wellFormed setupRules setupOf ownOf validAddress setupPasses paramsOf verdictOf sizeFails zeroName loginFine usedFine flagsFine addressFine paramsFine exchangeFine wantedFits readFits sentFits apartId apartAddress
 setup-clauses = (refl, refl, refl, refl, refl, refl, refl, refl, refl, refl, refl, refl)
 
 -- the flags and the attention of a login, and its address
@@ -164,7 +164,7 @@ pub login-clauses :
     × (both stale stale ≡ true)  -- of free places nothing is asked
     × (both stale (at 0x01) ≡ true)  -- nor of them beside a login
     × (one (flagged 0 1 1 0 busy) ≡ false)  -- but that they hold no open exchange
-unfolding wellFormed setupRules validAddress setupPasses paramsOf verdictOf sizeFails zeroName loginFine usedFine flagsFine addressFine paramsFine exchangeFine wantedFits readFits sentFits apartId apartAddress
+unfolding wellFormed setupRules setupOf ownOf validAddress setupPasses paramsOf verdictOf sizeFails zeroName loginFine usedFine flagsFine addressFine paramsFine exchangeFine wantedFits readFits sentFits apartId apartAddress
 login-clauses = (refl, refl, refl, refl, refl, refl, refl, refl, refl, refl, refl, refl, refl, refl, refl, refl, refl, refl, refl, refl)
 
 -- "stored parameters pass the PLOGI rules"; idle where another size would break what is asked of the bytes sent
@@ -182,7 +182,7 @@ pub parameter-clauses :
     × (one (stored name name 256 0 1 busy) ≡ false)  -- "W19/B1 not 0"
     × (one (stored name name 256 1 0 busy) ≡ false)  -- "W20/B1 not 0"
     × (one (stored name name 256 255 255 busy) ≡ true)  -- W20/B1 = 01h is asked of the setup alone
-unfolding wellFormed setupRules validAddress setupPasses paramsOf verdictOf sizeFails zeroName loginFine usedFine flagsFine addressFine paramsFine exchangeFine wantedFits readFits sentFits apartId apartAddress
+unfolding wellFormed setupRules setupOf ownOf validAddress setupPasses paramsOf verdictOf sizeFails zeroName loginFine usedFine flagsFine addressFine paramsFine exchangeFine wantedFits readFits sentFits apartId apartAddress
 parameter-clauses = (refl, refl, refl, refl, refl, refl, refl, refl, refl, refl, refl, refl, refl)
 
 -- where exchanges stand, and "each exchange is one an accepted command could open"
@@ -219,7 +219,7 @@ pub exchange-clauses :
     × (opened halfway (other 8 1 36 0 0) ≡ true)  -- with 05/25/00, the least
     × (opened halfway (other 8 19 36 0 0) ≡ false)  -- with 05/25/00, one more than 18
     × (opened halfway (other 8 0 36 0 0) ≡ false)  -- and not nothing
-unfolding wellFormed setupRules validAddress setupPasses paramsOf verdictOf sizeFails zeroName loginFine usedFine flagsFine addressFine paramsFine exchangeFine wantedFits readFits sentFits apartId apartAddress
+unfolding wellFormed setupRules setupOf ownOf validAddress setupPasses paramsOf verdictOf sizeFails zeroName loginFine usedFine flagsFine addressFine paramsFine exchangeFine wantedFits readFits sentFits apartId apartAddress
 exchange-clauses = (refl, refl, refl, refl, refl, refl, refl, refl, refl, refl, refl, refl, refl, refl, refl, refl, refl, refl, refl, refl, refl, refl, refl, refl, refl, refl, refl, refl, refl, refl, refl, refl)
 
 -- "with bytes sent at most its total and, short of it, a whole number of full frames", and the count of the data frames sent
@@ -238,5 +238,5 @@ pub sent-clauses :
     × (large 65535 33553920 16777216 0 ≡ true)  -- "going round at 65,536": 65,536 frames sent
     × (large 65535 33553920 33553920 65534 ≡ true)  -- and 131,070
     × (large 65535 33553920 33553920 65535 ≡ false)  -- one more
-unfolding wellFormed setupRules validAddress setupPasses paramsOf verdictOf sizeFails zeroName loginFine usedFine flagsFine addressFine paramsFine exchangeFine wantedFits readFits sentFits apartId apartAddress
+unfolding wellFormed setupRules setupOf ownOf validAddress setupPasses paramsOf verdictOf sizeFails zeroName loginFine usedFine flagsFine addressFine paramsFine exchangeFine wantedFits readFits sentFits apartId apartAddress
 sent-clauses = (refl, refl, refl, refl, refl, refl, refl, refl, refl, refl, refl, refl, refl, refl)

@@ -17,26 +17,26 @@ use Rattle.state.specs.declared.Port.{Port}
 use Rattle.state.specs.declared.Unit.{Unit}
 use Rattle.state.specs.declared.Change.{Change}
 use Rattle.state.specs.declared.Change.the-variants.{Keep, EndAll, EndLogin, Unprove, EndUnproven, EndExchangesOf, Reset, Clear}
-use Rattle.state.specs.Changes.{emptyExchange, emptyLogin, isUsed, loginAt, exchangeAt, withLogin, withState, withProven, withPaired, withAttention, withPlaces, withExchange, withoutExchanges, hasAddress, freedOf, endedOf, unproven, verified, abortedOf, resetOf, losesTo, clearedBy, changedOf, changedAll, isClosed}
+use Rattle.state.specs.Changes.{emptyExchange, emptyLogin, isUsed, loginAt, exchangeAt, withLogin, withState, withProven, withPaired, withAttention, withPlaces, withExchange, withoutExchanges, hasAddress, freedOf, endedOf, unproven, verified, abortedOf, resetOf, losesTo, clearedBy, changedOf, changedAll, isClosed, ownOf}
 use Rattle.state.specs.Tables.{isFree, hasId, findExchange}
 use Rattle.formed.specs.Formed.{fullFrame, openable, sentFits, exchangeFine, apartId, paramsFine, flagsFine, addressFine, loginFine, apartAddress, wellFormed}
 use Rattle.formed.proofs.Parts.{Used, fine-used, used-fine, Formed, formed-parts, formed-whole}
 
-module _ {capacity own : ℕ} where
+module _ {u : Unit} {own : ℕ} where
   -- a used login with other flags, attention and exchanges, each of which is fine
-  pub state-used : {l : Login} (proven paired attention : ℕ) (es : List Exchange) → Used capacity own l → flagsFine (withState l proven paired attention es) ≡ true
-      → all (exchangeFine capacity (fullFrame (l .size)) paired) es ≡ true → pairs apartId es ≡ true → Used capacity own (withState l proven paired attention es)
+  pub state-used : {l : Login} (proven paired attention : ℕ) (es : List Exchange) → Used u own l → flagsFine (withState l proven paired attention es) ≡ true
+      → all (exchangeFine u (fullFrame (l .size)) paired) es ≡ true → pairs apartId es ≡ true → Used u own (withState l proven paired attention es)
   unfolding addressFine paramsFine
-  state-used proven paired attention es u f x i = record { flags = f; address = u .address; params = u .params; exchanges = x; ids = i }
+  state-used proven paired attention es used f x i = record { flags = f; address = used .address; params = used .params; exchanges = x; ids = i }
 
-pub empty-fine : (capacity own : ℕ) → loginFine capacity own emptyLogin ≡ true
+pub empty-fine : (u : Unit) (own : ℕ) → loginFine u own emptyLogin ≡ true
 unfolding loginFine
-empty-fine capacity own = refl
+empty-fine u own = refl
 
 -- no exchange is fine at any login
-pub none-fine : (capacity full paired : ℕ) → all (exchangeFine capacity full paired) (replicate 8 emptyExchange) ≡ true
+pub none-fine : (u : Unit) (full paired : ℕ) → all (exchangeFine u full paired) (replicate 8 emptyExchange) ≡ true
 unfolding exchangeFine
-none-fine capacity full paired = refl
+none-fine u full paired = refl
 
 pub none-apart : pairs apartId (replicate 8 emptyExchange) ≡ true
 unfolding apartId
@@ -70,13 +70,13 @@ pair-open true p o s e = refl
 pair-open false true o s e = e
 pair-open false false o s e = apart e refl
 
-pair-step : (capacity full paired : ℕ) (e : Exchange) → exchangeFine capacity full paired e ≡ true → exchangeFine capacity full 1 e ≡ true
+pair-step : (u : Unit) (full paired : ℕ) (e : Exchange) → exchangeFine u full paired e ≡ true → exchangeFine u full 1 e ≡ true
 unfolding exchangeFine
-pair-step capacity full paired e h = pair-open (isClosed e) (eqb paired 1) (openable capacity e) (sentFits full e) h
+pair-step u full paired e h = pair-open (isClosed e) (eqb paired 1) (openable u e) (sentFits full e) h
 
-closed-fine : (capacity full paired : ℕ) → exchangeFine capacity full paired emptyExchange ≡ true
+closed-fine : (u : Unit) (full paired : ℕ) → exchangeFine u full paired emptyExchange ≡ true
 unfolding exchangeFine
-closed-fine capacity full paired = refl
+closed-fine u full paired = refl
 
 closed-before : (f : Exchange) → apartId emptyExchange f ≡ true
 unfolding apartId
@@ -106,17 +106,17 @@ unfolding hasId apartId
 id-after e f h = after-step (isClosed e) (isClosed f) (e .«ox_id») (f .«ox_id») h
 
 -- the same of addresses, where a used place is one that is not free
-used-free : (b c : Bool) → not (b && c) ≡ true → not (not (not b) && c) ≡ true
-used-free true c e = e
-used-free false c e = refl
+not-free : (b c : Bool) → not (b && c) ≡ true → not (not (not b) && c) ≡ true
+not-free true c e = e
+not-free false c e = refl
 
 address-before : (l m : Login) → not (hasAddress (l .address) m) ≡ true → apartAddress l m ≡ true
 unfolding hasAddress apartAddress
-address-before l m h = before-step (isFree l) (isFree m) (l .address) (m .address) (used-free (isUsed m) (eqb (m .address) (l .address)) h)
+address-before l m h = before-step (isFree l) (isFree m) (l .address) (m .address) (not-free (isUsed m) (eqb (m .address) (l .address)) h)
 
 address-after : (l m : Login) → not (hasAddress (l .address) m) ≡ true → apartAddress m l ≡ true
 unfolding hasAddress apartAddress
-address-after l m h = after-step (isFree l) (isFree m) (l .address) (m .address) (used-free (isUsed m) (eqb (m .address) (l .address)) h)
+address-after l m h = after-step (isFree l) (isFree m) (l .address) (m .address) (not-free (isUsed m) (eqb (m .address) (l .address)) h)
 
 -- an empty login is apart from every other, and empty logins are apart
 empty-before : (m : Login) → apartAddress emptyLogin m ≡ true
@@ -132,72 +132,72 @@ unfolding apartAddress
 empties-apart = refl
 
 -- a free place stays fine without exchanges
-free-fine : (capacity own : ℕ) (l : Login) → isUsed l ≡ false → loginFine capacity own l ≡ true → loginFine capacity own (withPlaces l (replicate 8 emptyExchange)) ≡ true
+free-fine : (u : Unit) (own : ℕ) (l : Login) → isUsed l ≡ false → loginFine u own l ≡ true → loginFine u own (withPlaces l (replicate 8 emptyExchange)) ≡ true
 unfolding loginFine
-free-fine capacity own l h e = rw (h, and-left (eqb (l .used) 0) (all isClosed (l .places)) (rw h at e))
+free-fine u own l h e = rw (h, and-left (eqb (l .used) 0) (all isClosed (l .places)) (rw h at e))
 
-module _ {capacity own : ℕ} {l : Login} (u : Used capacity own l) where
+module _ {u : Unit} {own : ℕ} {l : Login} (used : Used u own l) where
   -- proven or not
-  pub proven-used : (b : ℕ) → leb b 1 ≡ true → Used capacity own (withProven l b)
+  pub proven-used : (b : ℕ) → leb b 1 ≡ true → Used u own (withProven l b)
   proven-used b h =
-      state-used b (l .paired) (l .attention) (l .places) u (flags-are l b (l .paired) (l .attention) (l .places) h (flag-paired l (u .flags)) (flag-attention l (u .flags))) (u .exchanges) (u .ids)
+      state-used b (l .paired) (l .attention) (l .places) used (flags-are l b (l .paired) (l .attention) (l .places) h (flag-paired l (used .flags)) (flag-attention l (used .flags))) (used .exchanges) (used .ids)
 
   -- another attention
-  pub attention-used : (a : ℕ) → anAttention a ≡ true → Used capacity own (withAttention l a)
+  pub attention-used : (a : ℕ) → anAttention a ≡ true → Used u own (withAttention l a)
   attention-used a h =
-      state-used (l .proven) (l .paired) a (l .places) u (flags-are l (l .proven) (l .paired) a (l .places) (flag-proven l (u .flags)) (flag-paired l (u .flags)) h) (u .exchanges) (u .ids)
+      state-used (l .proven) (l .paired) a (l .places) used (flags-are l (l .proven) (l .paired) a (l .places) (flag-proven l (used .flags)) (flag-paired l (used .flags)) h) (used .exchanges) (used .ids)
 
   -- other exchanges
-  pub places-used : (es : List Exchange) → all (exchangeFine capacity (fullFrame (l .size)) (l .paired)) es ≡ true → pairs apartId es ≡ true → Used capacity own (withPlaces l es)
+  pub places-used : (es : List Exchange) → all (exchangeFine u (fullFrame (l .size)) (l .paired)) es ≡ true → pairs apartId es ≡ true → Used u own (withPlaces l es)
   places-used es x i =
-      state-used (l .proven) (l .paired) (l .attention) es u
-      (flags-are l (l .proven) (l .paired) (l .attention) es (flag-proven l (u .flags)) (flag-paired l (u .flags)) (flag-attention l (u .flags))) x i
+      state-used (l .proven) (l .paired) (l .attention) es used
+      (flags-are l (l .proven) (l .paired) (l .attention) es (flag-proven l (used .flags)) (flag-paired l (used .flags)) (flag-attention l (used .flags))) x i
 
   -- no exchanges
-  pub without-used : Used capacity own (withoutExchanges l)
+  pub without-used : Used u own (withoutExchanges l)
   unfolding withoutExchanges
-  without-used = places-used (replicate 8 emptyExchange) (none-fine capacity (fullFrame (l .size)) (l .paired)) none-apart
+  without-used = places-used (replicate 8 emptyExchange) (none-fine u (fullFrame (l .size)) (l .paired)) none-apart
 
   -- paired: every exchange that was fine is still
-  pub paired-used : Used capacity own (withPaired l 1)
+  pub paired-used : Used u own (withPaired l 1)
   paired-used =
-      state-used (l .proven) 1 (l .attention) (l .places) u
-      (flags-are l (l .proven) 1 (l .attention) (l .places) (flag-proven l (u .flags)) refl (flag-attention l (u .flags)))
-      (all-than (exchangeFine capacity (fullFrame (l .size)) (l .paired)) (exchangeFine capacity (fullFrame (l .size)) 1) (pair-step capacity (fullFrame (l .size)) (l .paired)) (l .places) (u .exchanges))
-      (u .ids)
+      state-used (l .proven) 1 (l .attention) (l .places) used
+      (flags-are l (l .proven) 1 (l .attention) (l .places) (flag-proven l (used .flags)) refl (flag-attention l (used .flags)))
+      (all-than (exchangeFine u (fullFrame (l .size)) (l .paired)) (exchangeFine u (fullFrame (l .size)) 1) (pair-step u (fullFrame (l .size)) (l .paired)) (l .places) (used .exchanges))
+      (used .ids)
 
   -- the pairing ends, and its exchanges
-  pub unpaired-used : Used capacity own (withPaired (withoutExchanges l) 0)
+  pub unpaired-used : Used u own (withPaired (withoutExchanges l) 0)
   unfolding withoutExchanges
   unpaired-used =
-      state-used (l .proven) 0 (l .attention) (replicate 8 emptyExchange) u
-      (flags-are l (l .proven) 0 (l .attention) (replicate 8 emptyExchange) (flag-proven l (u .flags)) refl (flag-attention l (u .flags)))
-      (none-fine capacity (fullFrame (l .size)) 0) none-apart
+      state-used (l .proven) 0 (l .attention) (replicate 8 emptyExchange) used
+      (flags-are l (l .proven) 0 (l .attention) (replicate 8 emptyExchange) (flag-proven l (used .flags)) refl (flag-attention l (used .flags)))
+      (none-fine u (fullFrame (l .size)) 0) none-apart
 
   -- an exchange that is fine, and whose OX_ID no other has, may open at any place
-  pub open-used : (j : ℕ) (e : Exchange) → exchangeFine capacity (fullFrame (l .size)) (l .paired) e ≡ true → findExchange l (e .«ox_id») ≡ Nothing → Used capacity own (withExchange l j e)
+  pub open-used : (j : ℕ) (e : Exchange) → exchangeFine u (fullFrame (l .size)) (l .paired) e ≡ true → findExchange l (e .«ox_id») ≡ Nothing → Used u own (withExchange l j e)
   unfolding withExchange findExchange
   open-used j e fine none =
       let alone = missed (hasId (e .«ox_id»)) (l .places) none in
-      places-used (set (l .places) j e) (all-set (exchangeFine capacity (fullFrame (l .size)) (l .paired)) (l .places) j e fine (u .exchanges))
+      places-used (set (l .places) j e) (all-set (exchangeFine u (fullFrame (l .size)) (l .paired)) (l .places) j e fine (used .exchanges))
       (pairs-set apartId (l .places) j e (all-than (λ f. not (hasId (e .«ox_id») f)) (apartId e) (id-before e) (l .places) alone)
-      (all-than (λ f. not (hasId (e .«ox_id») f)) (λ f. apartId f e) (id-after e) (l .places) alone) (u .ids))
+      (all-than (λ f. not (hasId (e .«ox_id») f)) (λ f. apartId f e) (id-after e) (l .places) alone) (used .ids))
 
   -- the exchange at a place may change to one that is fine, of the same OX_ID, open as it was
   pub change-used : (j : ℕ) (e : Exchange) → isClosed e ≡ isClosed (exchangeAt l j) → e .«ox_id» ≡ exchangeAt l j .«ox_id»
-      → (exchangeFine capacity (fullFrame (l .size)) (l .paired) (exchangeAt l j) ≡ true → exchangeFine capacity (fullFrame (l .size)) (l .paired) e ≡ true) → Used capacity own (withExchange l j e)
+      → (exchangeFine u (fullFrame (l .size)) (l .paired) (exchangeAt l j) ≡ true → exchangeFine u (fullFrame (l .size)) (l .paired) e ≡ true) → Used u own (withExchange l j e)
   unfolding withExchange exchangeAt apartId
   change-used j e closed id fine =
-      places-used (set (l .places) j e) (all-update (exchangeFine capacity (fullFrame (l .size)) (l .paired)) emptyExchange (l .places) j e fine (u .exchanges))
-      (pairs-update apartId emptyExchange (l .places) j e (λ f q. rw (closed, id) q) (λ f q. rw (closed, id) q) (u .ids))
+      places-used (set (l .places) j e) (all-update (exchangeFine u (fullFrame (l .size)) (l .paired)) emptyExchange (l .places) j e fine (used .exchanges))
+      (pairs-update apartId emptyExchange (l .places) j e (λ f q. rw (closed, id) q) (λ f q. rw (closed, id) q) (used .ids))
 
   -- the exchange at a place may end
-  pub end-used : (j : ℕ) → Used capacity own (withExchange l j emptyExchange)
+  pub end-used : (j : ℕ) → Used u own (withExchange l j emptyExchange)
   unfolding withExchange
   end-used j =
       places-used (set (l .places) j emptyExchange)
-      (all-set (exchangeFine capacity (fullFrame (l .size)) (l .paired)) (l .places) j emptyExchange (closed-fine capacity (fullFrame (l .size)) (l .paired)) (u .exchanges))
-      (pairs-set apartId (l .places) j emptyExchange (all-always (apartId emptyExchange) closed-before (l .places)) (all-always (λ f. apartId f emptyExchange) closed-after (l .places)) (u .ids))
+      (all-set (exchangeFine u (fullFrame (l .size)) (l .paired)) (l .places) j emptyExchange (closed-fine u (fullFrame (l .size)) (l .paired)) (used .exchanges))
+      (pairs-set apartId (l .places) j emptyExchange (all-always (apartId emptyExchange) closed-before (l .places)) (all-always (λ f. apartId f emptyExchange) closed-after (l .places)) (used .ids))
 
 -- a login after a change: of the same address, or gone
 data Like (l : Login) : Login → Type 0 where
@@ -229,28 +229,28 @@ like-apart (same p q) (same r s) e = rw (p, q, r, s) e
 like-apart {k = k} (same p q) gone e = rw (or-true (isFree k))
 like-apart gone y e = refl
 
-module _ (capacity own : ℕ) where
-  fine-cond : (b : Bool) (l m : Login) → (b ≡ true → loginFine capacity own l ≡ true) → loginFine capacity own m ≡ true → loginFine capacity own (cond b l m) ≡ true
+module _ (u : Unit) (own : ℕ) where
+  fine-cond : (b : Bool) (l m : Login) → (b ≡ true → loginFine u own l ≡ true) → loginFine u own m ≡ true → loginFine u own (cond b l m) ≡ true
   fine-cond true l m p q = p refl
   fine-cond false l m p q = q
 
-  without-step : (l : Login) (b : Bool) → isUsed l ≡ b → loginFine capacity own l ≡ true → loginFine capacity own (withoutExchanges l) ≡ true
+  without-step : (l : Login) (b : Bool) → isUsed l ≡ b → loginFine u own l ≡ true → loginFine u own (withoutExchanges l) ≡ true
   unfolding withoutExchanges
   without-step l true h e = used-fine {l = withoutExchanges l} h (without-used (fine-used h e))
-  without-step l false h e = free-fine capacity own l h e
+  without-step l false h e = free-fine u own l h e
 
   -- a login that loses its exchanges, with an attention
-  told-fine : (l : Login) (a : ℕ) → anAttention a ≡ true → isUsed l ≡ true → loginFine capacity own l ≡ true → loginFine capacity own (withAttention (withoutExchanges l) a) ≡ true
+  told-fine : (l : Login) (a : ℕ) → anAttention a ≡ true → isUsed l ≡ true → loginFine u own l ≡ true → loginFine u own (withAttention (withoutExchanges l) a) ≡ true
   unfolding withoutExchanges
   told-fine l a n h e = used-fine {l = withAttention (withoutExchanges l) a} h (attention-used (without-used (fine-used h e)) a n)
 
-  change-fine : (c : Change) (l : Login) → loginFine capacity own l ≡ true → loginFine capacity own (changedOf c l) ≡ true
+  change-fine : (c : Change) (l : Login) → loginFine u own l ≡ true → loginFine u own (changedOf c l) ≡ true
   unfolding freedOf endedOf unproven verified abortedOf resetOf clearedBy
   change-fine Keep l e = e
-  change-fine EndAll l e = fine-cond (isUsed l) emptyLogin l (λ _. empty-fine capacity own) e
-  change-fine (EndLogin a) l e = fine-cond (hasAddress a l) emptyLogin l (λ _. empty-fine capacity own) e
+  change-fine EndAll l e = fine-cond (isUsed l) emptyLogin l (λ _. empty-fine u own) e
+  change-fine (EndLogin a) l e = fine-cond (hasAddress a l) emptyLogin l (λ _. empty-fine u own) e
   change-fine Unprove l e = fine-cond (isUsed l) (withProven l 0) l (λ h. used-fine {l = withProven l 0} h (proven-used (fine-used h e) 0 refl)) e
-  change-fine EndUnproven l e = fine-cond (isUsed l) (cond (eqb (l .proven) 1) l emptyLogin) l (λ _. fine-cond (eqb (l .proven) 1) l emptyLogin (λ _. e) (empty-fine capacity own)) e
+  change-fine EndUnproven l e = fine-cond (isUsed l) (cond (eqb (l .proven) 1) l emptyLogin) l (λ _. fine-cond (eqb (l .proven) 1) l emptyLogin (λ _. e) (empty-fine u own)) e
   change-fine (EndExchangesOf a) l e = fine-cond (hasAddress a l) (withoutExchanges l) l (λ _. without-step l (isUsed l) refl e) e
   change-fine Reset l e = fine-cond (isUsed l) (withAttention (withoutExchanges l) 0x29) l (λ h. told-fine l 0x29 refl h e) e
   change-fine (Clear a) l e =
@@ -263,42 +263,42 @@ module _ (u : Unit) (p : Port) (w : wellFormed u p ≡ true) where
 
   -- every change of the whole table
   pub change-kept : (c : Change) → wellFormed u (changedAll c p) ≡ true
-  unfolding changedAll
+  unfolding changedAll ownOf
   change-kept c =
       formed-whole record {
         setup = parts .setup;
-        logins = all-map (loginFine (u .capacity) (p .address)) (loginFine (u .capacity) (p .address)) (changedOf c) (change-fine (u .capacity) (p .address) c) (p .logins) (parts .logins);
+        logins = all-map (loginFine u (p .address)) (loginFine u (p .address)) (changedOf c) (change-fine u (p .address) c) (p .logins) (parts .logins);
         addresses = pairs-map apartAddress (changedOf c) (λ l m. like-apart (like c l) (like c m)) (p .logins) (parts .addresses);
       }
 
   -- a login that is fine, and whose address no other has, may be stored at any place
-  pub store-kept : (i : ℕ) (l : Login) → loginFine (u .capacity) (p .address) l ≡ true → all (λ m. not (hasAddress (l .address) m)) (p .logins) ≡ true → wellFormed u (withLogin p i l) ≡ true
-  unfolding withLogin
+  pub store-kept : (i : ℕ) (l : Login) → loginFine u (p .address) l ≡ true → all (λ m. not (hasAddress (l .address) m)) (p .logins) ≡ true → wellFormed u (withLogin p i l) ≡ true
+  unfolding withLogin ownOf
   store-kept i l fine absent =
       formed-whole record {
         setup = parts .setup;
-        logins = all-set (loginFine (u .capacity) (p .address)) (p .logins) i l fine (parts .logins);
+        logins = all-set (loginFine u (p .address)) (p .logins) i l fine (parts .logins);
         addresses = pairs-set apartAddress (p .logins) i l (all-than (λ m. not (hasAddress (l .address) m)) (apartAddress l) (address-before l) (p .logins) absent)
             (all-than (λ m. not (hasAddress (l .address) m)) (λ m. apartAddress m l) (address-after l) (p .logins) absent) (parts .addresses);
       }
 
   -- the login at a place may change to one that is fine, of the same address, used as it was
   pub update-kept : (i : ℕ) (l : Login) → isUsed l ≡ isUsed (loginAt p i) → l .address ≡ loginAt p i .address
-      → (loginFine (u .capacity) (p .address) (loginAt p i) ≡ true → loginFine (u .capacity) (p .address) l ≡ true) → wellFormed u (withLogin p i l) ≡ true
-  unfolding withLogin loginAt apartAddress
+      → (loginFine u (p .address) (loginAt p i) ≡ true → loginFine u (p .address) l ≡ true) → wellFormed u (withLogin p i l) ≡ true
+  unfolding withLogin ownOf loginAt apartAddress
   update-kept i l used address fine =
       formed-whole record {
         setup = parts .setup;
-        logins = all-update (loginFine (u .capacity) (p .address)) emptyLogin (p .logins) i l fine (parts .logins);
+        logins = all-update (loginFine u (p .address)) emptyLogin (p .logins) i l fine (parts .logins);
         addresses = pairs-update apartAddress emptyLogin (p .logins) i l (λ m q. rw (used, address) q) (λ m q. rw (used, address) q) (parts .addresses);
       }
 
   -- the login at a place may end
   pub end-kept : (i : ℕ) → wellFormed u (withLogin p i emptyLogin) ≡ true
-  unfolding withLogin
+  unfolding withLogin ownOf
   end-kept i =
       formed-whole record {
         setup = parts .setup;
-        logins = all-set (loginFine (u .capacity) (p .address)) (p .logins) i emptyLogin (empty-fine (u .capacity) (p .address)) (parts .logins);
+        logins = all-set (loginFine u (p .address)) (p .logins) i emptyLogin (empty-fine u (p .address)) (parts .logins);
         addresses = pairs-set apartAddress (p .logins) i emptyLogin (all-always (apartAddress emptyLogin) empty-before (p .logins)) (all-always (λ m. apartAddress m emptyLogin) empty-after (p .logins)) (parts .addresses);
       }

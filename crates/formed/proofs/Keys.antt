@@ -10,24 +10,34 @@ use borrow.Author.Tests.{eq-eqb, ne-eqb}
 use Rattle.tables.specs.Lists.{all, pairs}
 use Rattle.tables.proofs.Bools.{and-left, and-right}
 use Rattle.state.specs.declared.Login.{Login}
-use Rattle.state.specs.Changes.{isClosed}
+use Rattle.state.specs.declared.Port.{Port}
+use Rattle.state.specs.declared.Unit.{Unit}
+use Rattle.state.specs.Changes.{isClosed, ownOf}
 use Rattle.state.specs.Tables.{isFree}
-use Rattle.formed.specs.Formed.{fullFrame, exchangeFine, apartId, loginFine, apartAddress}
-use Rattle.formed.specs.Keys.{keyOf, apartKey, keyFine, keysFine, exchangeKey, loginKey}
+use Rattle.formed.specs.declared.Key.{Key}
+use Rattle.formed.specs.Formed.{setupRules, setupOf, fullFrame, exchangeFine, apartId, loginFine, apartAddress, wellFormed}
+use Rattle.formed.specs.Keys.{keyOf, apartKey, keyFine, keysFine, exchangeKey, loginKey, keysOf, fineBy}
+
+-- what reading past the end of a list of keys gives
+abbrev pub noKey : Key
+noKey = record { id = 0 }
 
 -- the keys of two places in use are the same exactly when the numbers are
-two-more : (a b : ℕ) → eqb (2 + a) (2 + b) ≡ eqb a b
+pub two-more : (a b : ℕ) → eqb (2 + a) (2 + b) ≡ eqb a b
 two-more a b =
     elim (ℕ-discrete a b) [
       | yes h ↦ eq-eqb (2 + a) (2 + b) (omega arith) ∙ sym (eq-eqb a b h)
       | no h ↦ ne-eqb (2 + a) (2 + b) (λ e. h (omega arith)) ∙ sym (ne-eqb a b h)
     ]
 
--- and no key of a place in use is 0 or 1
-not-one : (a : ℕ) → eqb (2 + a) 1 ≡ false
-not-one a = ne-eqb (2 + a) 1 (λ e. omega arith)
+-- and no key of a place in use is 1, that of a free one, or 0
+pub used-free : (a : ℕ) → eqb (2 + a) 1 ≡ false
+used-free a = ne-eqb (2 + a) 1 (λ e. omega arith)
 
-not-none : (free : Bool) (a : ℕ) → eqb (keyOf true free a) 0 ≡ false
+pub free-used : (a : ℕ) → eqb 1 (2 + a) ≡ false
+free-used a = ne-eqb 1 (2 + a) (λ e. omega arith)
+
+not-none : (free : Bool) (a : ℕ) → eqb (keyOf true free a .id) 0 ≡ false
 unfolding keyOf
 not-none true a = refl
 not-none false a = ne-eqb (2 + a) 0 (λ e. omega arith)
@@ -36,15 +46,15 @@ not-none false a = ne-eqb (2 + a) 0 (λ e. omega arith)
 key-apart : (f g : Bool) (a b : ℕ) → apartKey (keyOf true f a) (keyOf true g b) ≡ (f || g || not (eqb a b))
 unfolding keyOf apartKey
 key-apart true g a b = refl
-key-apart false true a b = rw (not-one a)
-key-apart false false a b = rw (not-one a, two-more a b)
+key-apart false true a b = rw (used-free a)
+key-apart false false a b = rw (used-free a, two-more a b)
 
 and-false : (a : Bool) → (a && false) ≡ false
 and-false true = refl
 and-false false = refl
 
 module _ {A : Type 0} (fine free : A → Bool) (id : A → ℕ) where
-  abbrev key : A → ℕ
+  abbrev key : A → Key
   key x = keyOf (fine x) (free x) (id x)
 
   abbrev apart : A → A → Bool
@@ -62,7 +72,7 @@ module _ {A : Type 0} (fine free : A → Bool) (id : A → ℕ) where
   key-here : (x : A) (xs : List A) → fine x ≡ true → all fine xs ≡ true → keyFine (key x) (map key xs) ≡ all (apart x) xs
   unfolding keyFine
   key-here x xs h e =
-      let n : eqb (key x) 0 ≡ false = rw h (not-none (free x) (id x)) in
+      let n : eqb (key x .id) 0 ≡ false = rw h (not-none (free x) (id x)) in
       rw n (key-before x h xs e)
 
   -- a place that is not fine
@@ -81,15 +91,26 @@ module _ {A : Type 0} (fine free : A → Bool) (id : A → ℕ) where
   keys-are (x ∷ xs) = keys-step x xs (fine x) (all fine xs) refl refl (keys-are xs)
 
 -- what the keys of a login's exchanges say, where full is the bytes of a full frame to it
-pub exchanges-are : (capacity full : ℕ) (l : Login) {ks : List ℕ} {r : Bool} → full ≡ fullFrame (l .size) → ks ≡ map (exchangeKey capacity full (l .paired)) (l .places)
-    → r ≡ keysFine ks → r ≡ (all (exchangeFine capacity (fullFrame (l .size)) (l .paired)) (l .places) && pairs apartId (l .places))
+pub exchanges-are : (u : Unit) (full : ℕ) (l : Login) {ks : List Key} {r : Bool} → full ≡ fullFrame (l .size) → ks ≡ map (exchangeKey u full (l .paired)) (l .places)
+    → r ≡ keysFine ks → r ≡ (all (exchangeFine u (fullFrame (l .size)) (l .paired)) (l .places) && pairs apartId (l .places))
 unfolding exchangeKey apartId
-exchanges-are capacity full l f k e =
-    e ∙ ap keysFine (k ∙ ap (λ (n : ℕ). map (exchangeKey capacity n (l .paired)) (l .places)) f)
-    ∙ keys-are (exchangeFine capacity (fullFrame (l .size)) (l .paired)) isClosed (λ x. x .«ox_id») (l .places)
+exchanges-are u full l f k e =
+    e ∙ ap keysFine (k ∙ ap (λ (n : ℕ). map (exchangeKey u n (l .paired)) (l .places)) f)
+    ∙ keys-are (exchangeFine u (fullFrame (l .size)) (l .paired)) isClosed (λ x. x .«ox_id») (l .places)
 
 -- what the keys of a port's logins say
-pub logins-are : (capacity own : ℕ) (ls : List Login) {ks : List ℕ} {r : Bool} → ks ≡ map (loginKey capacity own) ls
-    → r ≡ keysFine ks → r ≡ (all (loginFine capacity own) ls && pairs apartAddress ls)
+pub logins-are : (u : Unit) (own : ℕ) (ls : List Login) {ks : List Key} {r : Bool} → ks ≡ map (loginKey u own) ls
+    → r ≡ keysFine ks → r ≡ (all (loginFine u own) ls && pairs apartAddress ls)
 unfolding loginKey apartAddress
-logins-are capacity own ls k e = e ∙ ap keysFine k ∙ keys-are (loginFine capacity own) isFree (λ l. l .address) ls
+logins-are u own ls k e = e ∙ ap keysFine k ∙ keys-are (loginFine u own) isFree (λ l. l .address) ls
+
+-- well formed by the keys is well formed
+pub fine-by : (u : Unit) (p : Port) → fineBy u (ownOf p) (keysOf u p) ≡ wellFormed u p
+unfolding fineBy keysOf wellFormed
+fine-by u p =
+    step (setupRules (setupOf u (ownOf p))) (all (loginFine u (p .address)) (p .logins)) (pairs apartAddress (p .logins))
+    (logins-are u (p .address) (p .logins) refl refl)
+  where
+    step : (s b c : Bool) {k : Bool} → k ≡ (b && c) → (s && k) ≡ (s && b && c)
+    step true b c e = e
+    step false b c e = refl

@@ -11,10 +11,10 @@ use Rattle.formed.proofs.exchange_keys.Statement.{statement}
 use Rattle.formed.proofs.exchange_keys.Tie as tie
 
 abbrev Inv-loop : tie.InvT-loop
-Inv-loop capacity full paired t k₀ i₀ k i = Filled emptyExchange (exchangeKey capacity full paired) (map (exchangeKey capacity full paired) t) k t 8 i
+Inv-loop u full paired t k₀ i₀ k i = Filled emptyExchange (exchangeKey u full paired) (map (exchangeKey u full paired) t) k t 8 i
 
 abbrev μ-loop : tie.MeasureT-loop
-μ-loop capacity full paired t k₀ i₀ k i = 8 - i
+μ-loop u full paired t k₀ i₀ k i = 8 - i
 
 len : (c : tie.Start Inv-loop μ-loop) → length (c .args .t1) ≡ 8
 len c = search needs

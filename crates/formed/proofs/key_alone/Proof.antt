@@ -7,11 +7,12 @@ use borrow.Author.Needs.{needs}
 use Rattle.tables.specs.Lists.{all}
 use Rattle.tables.proofs.Loops.{Tested, test-on, test-fails, test-out}
 use Rattle.formed.specs.Keys.{apartKey}
+use Rattle.formed.proofs.Keys.{noKey}
 use Rattle.formed.proofs.key_alone.Statement.{statement}
 use Rattle.formed.proofs.key_alone.Tie as tie
 
 abbrev Inv-loop : tie.InvT-loop
-Inv-loop k from t i₀ i = Tested 0 (all (apartKey k) (drop from t)) (λ n _. apartKey k n) t 8 i
+Inv-loop k from t i₀ i = Tested noKey (all (apartKey k) (drop from t)) (λ n _. apartKey k n) t 8 i
 
 abbrev μ-loop : tie.MeasureT-loop
 μ-loop k from t i₀ i = 8 - i
@@ -21,12 +22,12 @@ len c = search needs
 
 loop-again : tie.Need-loop-again Inv-loop μ-loop
 loop-again c =
-    let t = c .before .before in
+    let t = c .before .before .before in
     test-on (len (t .before .before)) (t .before .loop .inv) (t .loop-test .taken) (c .before .apart-key .ensures) (c .if1 .taken)
 
 returns : tie.Need-returns Inv-loop μ-loop
 returns c =
-    let t = c .before .before in
+    let t = c .before .before .before in
     test-fails (len (t .before .before)) (t .before .loop .inv) (t .loop-test .taken) (c .before .apart-key .ensures) (c .if1 .left)
 
 returns-2 : tie.Need-returns-2 Inv-loop μ-loop

@@ -6,11 +6,12 @@ use lib.ListN.{length}
 use borrow.Author.Needs.{needs}
 use Rattle.tables.proofs.Loops.{Tested, test-on, test-fails, test-out}
 use Rattle.formed.specs.Keys.{keyFine, keysFine}
+use Rattle.formed.proofs.Keys.{noKey}
 use Rattle.formed.proofs.keys_fine.Statement.{statement}
 use Rattle.formed.proofs.keys_fine.Tie as tie
 
 abbrev Inv-loop : tie.InvT-loop
-Inv-loop t i₀ i = Tested 0 (keysFine t) keyFine t 8 i
+Inv-loop t i₀ i = Tested noKey (keysFine t) keyFine t 8 i
 
 abbrev μ-loop : tie.MeasureT-loop
 μ-loop t i₀ i = 8 - i
@@ -20,12 +21,12 @@ len c = search needs
 
 loop-again : tie.Need-loop-again Inv-loop μ-loop
 loop-again c =
-    let t = c .before .before in
+    let t = c .before .before .before in
     test-on (len (t .before .before)) (t .before .loop .inv) (t .loop-test .taken) (c .before .key-fine .ensures) (c .if1 .taken)
 
 returns : tie.Need-returns Inv-loop μ-loop
 returns c =
-    let t = c .before .before in
+    let t = c .before .before .before in
     test-fails (len (t .before .before)) (t .before .loop .inv) (t .loop-test .taken) (c .before .key-fine .ensures) (c .if1 .left)
 
 returns-2 : tie.Need-returns-2 Inv-loop μ-loop

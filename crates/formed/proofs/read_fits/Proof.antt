@@ -20,11 +20,11 @@ returns-3 c = rw (le-leb _ _ (c .before .before .before .if1 .left), le-leb _ _ 
 
 returns-4 : tie.Need-returns-4
 unfolding readFits
-returns-4 c = rw (le-leb _ _ (c .before .before .before .before .before .before .if1 .left), le-leb _ _ (c .before .before .before .before .before .if2 .left), eq-eqb _ _ (c .before .before .before .if3 .left), lt-ltb _ _ (c .before .if4 .taken)) (fits-after _ _ _ (c .before .if4 .taken))
+returns-4 c = rw (le-leb _ _ (c .before .before .before .before .before .before .before .before .if1 .left), le-leb _ _ (c .before .before .before .before .before .before .before .if2 .left), eq-eqb _ _ (c .before .before .before .before .before .if3 .left), lt-ltb _ _ (c .before .before .if4 .taken)) (fits-after _ _ _ (c .before .before .if4 .taken))
 
 returns-5 : tie.Need-returns-5
 unfolding readFits
-returns-5 c = rw (le-leb _ _ (c .before .before .before .before .before .if1 .left), le-leb _ _ (c .before .before .before .before .if2 .left), eq-eqb _ _ (c .before .before .if3 .left), le-ltb _ _ (c .if4 .left))
+returns-5 c = rw (le-leb _ _ (c .before .before .before .before .before .before .if1 .left), le-leb _ _ (c .before .before .before .before .before .if2 .left), eq-eqb _ _ (c .before .before .before .if3 .left), le-ltb _ _ (c .if4 .left))
 
 pub read-fits-spec : {M : Type 1} → statement M
 read-fits-spec =

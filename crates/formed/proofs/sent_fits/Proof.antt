@@ -1,7 +1,10 @@
--- `formed::sent_fits` meets its contract: each test that was made is one of the definition. Assumes nothing.
-use mathlib.Core.Path.{sym, _∙_}
-use borrow.Author.Tests.{le-leb, lt-leb}
+-- `formed::sent_fits` meets its contract: each test that was made is one of the definition, by one quotient. Assumes nothing.
+use mathlib.Core.Path.{sym}
+use native.Mathlib.Nat.{div-mul-le-self}
+use native.Mathlib.Omega.{arith}
+use borrow.Author.Tests.{lt-leb}
 use Rattle.formed.specs.Formed.{sentFits}
+use Rattle.formed.proofs.Advance.{sent-whole, frames-few, sent-short, sent-all}
 use borrow.Author.Needs.{needs}
 use Rattle.formed.proofs.sent_fits.Statement.{statement}
 use Rattle.formed.proofs.sent_fits.Tie as tie
@@ -10,13 +13,33 @@ returns : tie.Need-returns
 unfolding sentFits
 returns c = rw (sym (c .before .total-of .ensures), lt-leb _ _ (c .if1 .taken))
 
+mul-if2 : tie.Need-mul-if2
+mul-if2 c = let a = c .before .before .args in let d = div-mul-le-self (a .e .sent) (a .full) in omega arith
+
 returns-2 : tie.Need-returns-2
-unfolding sentFits
-returns-2 c = rw (sym (c .before .before .before .before .total-of .ensures), le-leb _ _ (c .before .before .before .if1 .left), sym (c .before .before .whole-frames .ensures) ∙ c .before .if2 .taken)
+returns-2 c =
+    let t = c .before in
+    let a = t .before .before in
+    sym (sent-whole _ _ (a .total-of .ensures) (a .before .pre .0) (t .before .if1 .left) (t .if2 .taken))
+
+add-result : tie.Need-add-result
+add-result c =
+    let t = c .before .before in
+    let a = t .before .before in
+    let f = frames-few (a .before .args .full) (a .before .args .e) (a .total-of .ensures) (a .before .pre .0) (t .before .if1 .left) (t .if2 .left) in
+    omega arith
 
 returns-3 : tie.Need-returns-3
-unfolding sentFits
-returns-3 c = rw (sym (c .before .before .before .total-of .ensures), le-leb _ _ (c .before .before .if1 .left), sym (c .before .whole-frames .ensures) ∙ c .if2 .left)
+returns-3 c =
+    let t = c .before in
+    let a = t .before .before in
+    sym (sent-short _ _ (a .total-of .ensures) (a .before .pre .0) (t .before .if1 .left) (t .if2 .left) (c .if3 .taken))
+
+returns-4 : tie.Need-returns-4
+returns-4 c =
+    let t = c .before .before in
+    let a = t .before .before in
+    sym (sent-all _ _ (a .total-of .ensures) (a .before .pre .0) (t .before .if1 .left) (t .if2 .left) (c .before .if3 .left))
 
 pub sent-fits-spec : {M : Type 1} → statement M
 sent-fits-spec =
@@ -24,11 +47,11 @@ sent-fits-spec =
     (tie.spec
     (λ c κs. search needs)
     returns
-    (λ c κs. search needs)
     (λ c. search needs)
-    (λ c. search needs)
-    (λ c. search needs)
-    (λ c. search needs)
+    mul-if2
     (λ c. search needs)
     returns-2
-    returns-3)
+    (λ c. search needs)
+    add-result
+    returns-3
+    returns-4)

@@ -13,15 +13,15 @@ returns c = rw (lt-leb _ _ (c .if1 .taken))
 
 returns-2 : tie.Need-returns-2
 unfolding setupRules
-returns-2 c = rw (le-leb _ _ (c .before .if1 .left), lt-leb _ _ (c .if2 .taken))
+returns-2 c = rw (le-leb _ _ (c .before .before .if1 .left), lt-leb _ _ (c .if2 .taken))
 
 returns-3 : tie.Need-returns-3
 unfolding setupRules
-returns-3 c = rw (le-leb _ _ (c .before .before .before .before .before .before .if1 .left), le-leb _ _ (c .before .before .before .before .before .if2 .left), sym (c .before .before .before .before .valid-address .ensures) ∙ c .before .before .before .if3 .taken) (c .pass-setup .ensures ∙ ap setupPasses (c .before .read .ensures))
+returns-3 c = rw (le-leb _ _ (c .before .before .before .before .before .before .before .if1 .left), le-leb _ _ (c .before .before .before .before .before .if2 .left), sym (c .before .before .before .before .valid-address .ensures) ∙ c .before .before .before .if3 .taken) (c .pass-setup .ensures ∙ ap setupPasses (c .before .read .ensures))
 
 returns-4 : tie.Need-returns-4
 unfolding setupRules
-returns-4 c = rw (le-leb _ _ (c .before .before .before .if1 .left), le-leb _ _ (c .before .before .if2 .left), sym (c .before .valid-address .ensures) ∙ c .if3 .left)
+returns-4 c = rw (le-leb _ _ (c .before .before .before .before .if1 .left), le-leb _ _ (c .before .before .if2 .left), sym (c .before .valid-address .ensures) ∙ c .if3 .left)
 
 pub setup-rules-spec : {M : Type 1} → statement M
 setup-rules-spec =
