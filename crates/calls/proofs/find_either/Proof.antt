@@ -22,13 +22,13 @@ len c = search needs
 returns : tie.Need-returns Inv-loop μ-loop
 unfolding findEither
 returns c =
-    let t = c .before .before in
+    let t = c .before .before .before in
     let s = t .before .before in
     within noKey (isEither (s .args .a) (s .args .b)) (s .args .t1) 8 (len s) (search-here (len s) (t .before .loop .inv) (t .loop-test .taken) (c .before .is-either .ensures) (c .if1 .taken))
 
 loop-again : tie.Need-loop-again Inv-loop μ-loop
 loop-again c =
-    let t = c .before .before in
+    let t = c .before .before .before in
     search-on (len (t .before .before)) (t .before .loop .inv) (t .loop-test .taken) (c .before .is-either .ensures) (c .if1 .left)
 
 returns-2 : tie.Need-returns-2 Inv-loop μ-loop
