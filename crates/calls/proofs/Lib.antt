@@ -1,1 +1,4 @@
 pub mod Seats
+pub mod Views
+pub mod Decisions
+pub mod Others
