@@ -277,17 +277,17 @@ fn decode(cdb: [u8; 16]) -> Decoded
 {
     let most = cdb[4];
     match cdb[0] {
-        0x00 => decoded(Operation::TestUnitReady, false),
-        0x03 => decoded(Operation::RequestSense(most), false),
-        0x12 => decoded(Operation::Inquiry(most), inquiry_field(cdb)),
-        0x25 => decoded(Operation::ReadCapacity, capacity_field(cdb)),
-        0x28 => decoded(Operation::Read(range_10(cdb)), low_bit(cdb[1])),
-        0x2a => decoded(Operation::Write, false),
-        _ => decoded(Operation::Unknown, false),
+        0x00 => decoded_as(Operation::TestUnitReady, false),
+        0x03 => decoded_as(Operation::RequestSense(most), false),
+        0x12 => decoded_as(Operation::Inquiry(most), inquiry_field(cdb)),
+        0x25 => decoded_as(Operation::ReadCapacity, capacity_field(cdb)),
+        0x28 => decoded_as(Operation::Read(range_10(cdb)), low_bit(cdb[1])),
+        0x2a => decoded_as(Operation::Write, false),
+        _ => decoded_as(Operation::Unknown, false),
     }
 }
 
-fn decoded(o: Operation, wrong_field: bool) -> Decoded
+fn decoded_as(o: Operation, wrong_field: bool) -> Decoded
     ensures { λ r. ⌜ r ≡ decodedAs o «wrong_field» ⌝ }
 {
     Decoded {

@@ -1,6 +1,6 @@
 -- `command::capacity_field` meets its contract: each test that was made is one of the definition. Assumes nothing.
 use borrow.Author.Tests.{eq-eqb, ne-eqb}
-use Rattle.command.specs.Tests.{capacityField}
+use Rattle.command.specs.Cdb.{capacityField}
 use mathlib.Core.Path.{sym, _∙_}
 use borrow.Author.Needs.{needs}
 use Rattle.command.proofs.capacity_field.Statement.{statement}

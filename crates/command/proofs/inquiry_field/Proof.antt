@@ -1,6 +1,6 @@
 -- `command::inquiry_field` meets its contract: each test that was made is one of the definition. Assumes nothing.
 use mathlib.Core.Path.{sym, _∙_}
-use Rattle.command.specs.Tests.{inquiryField}
+use Rattle.command.specs.Cdb.{inquiryField}
 use borrow.Author.Needs.{needs}
 use Rattle.command.proofs.inquiry_field.Statement.{statement}
 use Rattle.command.proofs.inquiry_field.Tie as tie
