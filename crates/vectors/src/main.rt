@@ -6,7 +6,6 @@
 //   e  shows the eight places for exchanges of the login at a place (1 byte)
 // What a call answers is the reply in hexadecimal, - for nothing to send, or refused and the number, which for what is no call is 255.
 use libc::STDOUT_FILENO;
-use recording::Line;
 use recording::Session;
 use recording::Told;
 use recording::start;
@@ -24,8 +23,10 @@ use wire::byte_at;
 use wire::put_front;
 
 // A proved loop has to end and the input need not, so the records are counted up to a number that no run reaches.
+// The drive that is all zeros counts as made, so that it is called, and refuses.
 fn main() {
-    let mut s = zeros();
+    let mut s = start();
+    s.made = true;
     let mut number: u64 = 0;
     while number < u64::MAX {
         number += 1;
@@ -36,16 +37,6 @@ fn main() {
         }
         let len = r.len;
         s = taken(s, r.letter, &body[..len]);
-    }
-}
-
-// The drive that is all zeros counts as made here, so that it is called, and refuses.
-fn zeros() -> Session {
-    let s = start();
-    let d = s.drive;
-    Session {
-        made: true,
-        drive: d,
     }
 }
 
@@ -71,12 +62,9 @@ fn taken(s: Session, letter: u8, body: &[u8]) -> Session {
 
 // The login at the place that a record names.
 fn login_of(s: Session, body: &[u8]) -> Login {
-    login_at(port_of(s), byte_at(body, 0) as usize)
-}
-
-fn port_of(s: Session) -> Port {
     let d = s.drive;
-    d.port
+    let p = d.port;
+    login_at(p, byte_at(body, 0) as usize)
 }
 
 // Many next frames.
@@ -100,14 +88,13 @@ fn repeated(s: Session, asking: &[u8], count: u32) -> Session {
 // Shows what a call answered and the table after it, and hands on the session.
 fn answered(t: Told) -> Session {
     let s = t.session;
-    print_line(t.line);
-    print_table(port_of(s));
-    s
-}
-
-fn print_line(l: Line) {
-    let bytes = l.bytes;
+    let d = s.drive;
+    let p = d.port;
+    let line = t.line;
+    let bytes = line.bytes;
     print_answer(&bytes);
+    print_table(p);
+    s
 }
 
 fn print_answer(line: &[u8]) {
@@ -173,10 +160,15 @@ fn standing(l: Login) -> u8 {
 
 // In full, where a free place is a point; or the OX_ID of one that is open.
 fn print_exchange(e: Exchange, full: bool) {
-    if full {
+    if is_closed(e) {
+        if full {
+            put(b' ');
+            put(b'.');
+        }
+    } else if full {
         put(b' ');
         print_whole(e);
-    } else if !is_closed(e) {
+    } else {
         put(b':');
         print_16(e.ox_id);
     }
@@ -184,19 +176,11 @@ fn print_exchange(e: Exchange, full: bool) {
 
 // An exchange is its OX_ID, what it sends, of a READ the first block and how many, then in bytes what is wanted, FCP_DL and what is sent, and the frames sent.
 fn print_whole(e: Exchange) {
-    if is_closed(e) {
-        put(b'.');
-        return;
-    }
     print_16(e.ox_id);
     put(b'=');
     print_kind(e.kind);
-    print_number(e.start);
-    print_number(e.blocks as u64);
-    print_number(e.wanted as u64);
-    print_number(e.expected as u64);
-    print_number(e.sent as u64);
-    print_number(e.count as u64);
+    print_numbers(e.start, e.blocks, e.wanted);
+    print_numbers(e.expected as u64, e.sent, e.count as u32);
 }
 
 fn print_kind(kind: u8) {
@@ -224,6 +208,13 @@ fn sense(kind: u8) -> u16 {
         Exchange::SENSE_OTHER_UNIT => 0x0525,
         _ => 0xffff,
     }
+}
+
+// Three numbers, each after a comma.
+fn print_numbers(a: u64, b: u32, c: u32) {
+    print_number(a);
+    print_number(b as u64);
+    print_number(c as u64);
 }
 
 fn print_number(n: u64) {
