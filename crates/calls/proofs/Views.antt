@@ -9,8 +9,9 @@ use Rattle.tables.specs.Lists.{all, onFound}
 use Rattle.state.specs.declared.Port.{Port}
 use Rattle.state.specs.declared.Unit.{Unit}
 use Rattle.state.specs.declared.Change.the-variants.{EndLogin}
+use Rattle.state.specs.declared.Standing.the-variants.{Open, NoExchange}
 use Rattle.state.specs.Changes.{emptyLogin, ownOf, loginAt, changedAll}
-use Rattle.state.specs.Tables.{findLogin, freeLogin, findExchange, loginIn, loginOf, standingIn, lookupOf}
+use Rattle.state.specs.Tables.{hasId, findLogin, freeLogin, findExchange, loginIn, loginOf, standingIn, lookupOf, placeIn, soughtIn}
 use Rattle.formed.specs.Formed.{loginFine, wellFormed}
 use Rattle.formed.specs.Keys.{loginKey, keysOf}
 use Rattle.formed.proofs.Keys.{fine-by}
@@ -25,6 +26,19 @@ below-from Nothing h = tt
 
 pub at-below : (f : Found) {i : ℕ} → AtBelow f → f ≡ At i → i < 8
 at-below f b e = rw e at b
+
+-- the one lookup finds an exchange where it stands at the login of the address, an empty one where it has none
+pub sought-is : (p : Port) (a x : ℕ) → soughtIn p a x ≡ findExchange (loginOf p a) x
+unfolding lookupOf loginOf findExchange hasId
+sought-is p a x = step (findLogin p a)
+  where
+    placed : (i : ℕ) (f : Found) → placeIn (onFound f (λ j. Open i j) (NoExchange i)) ≡ f
+    placed i (At j) = refl
+    placed i Nothing = refl
+
+    step : (f : Found) → placeIn (standingIn f (findExchange (loginIn p f) x)) ≡ findExchange (loginIn p f) x
+    step (At i) = placed i (findExchange (loginAt p i) x)
+    step Nothing = refl
 
 module _ (u : Unit) (p : Port) (a : ℕ) where
   pub view-unit : viewOf u p a .unit ≡ u
@@ -86,3 +100,7 @@ module _ (u : Unit) (p : Port) (a : ℕ) where
     pub lookup-seen : (x : ℕ) → lookupOf p a x ≡ standingIn (viewOf u p a .seat) (findExchange (viewOf u p a .login) x)
     unfolding lookupOf
     lookup-seen x = rw (view-seat, view-is)
+
+    -- and so is its place there
+    pub sought-seen : (x : ℕ) → soughtIn p a x ≡ findExchange (viewOf u p a .login) x
+    sought-seen x = rw view-is (sought-is p a x)
