@@ -82,7 +82,7 @@ module _ (u : Unit) (p : Port) (fine : all (loginFine u (p .address)) (p .logins
       (either-is p (not (eqb (length f) (24 + sizeOf code))) _ _ (answers-is p _)
       (either-is p (eqb code 0x03) _ _ (plogi-turn from (paramsOf f 28))
       (either-is p (eqb code 0x05) _ _ (logo-turn from (num 3 f 29))
-      (found-is u p from fine _ _ _ (service-turn from code f) (answers-is p reply.Logout)))))
+      (found-is u p from fine (λ i. servedIn i (serviceOf code (v from .login) (findExchange (v from .login)) from f)) _ _ (service-turn from code f) (answers-is p reply.Logout)))))
 
   pub abts-turn : (h : Header) → decidedBy p (abtsTurn (viewOf u p (h .«s_id»)) h) ≡ abtsOf p (h .«s_id») (h .«ox_id») (h .«rx_id»)
   unfolding abtsTurn abtsOf abortedLogin
