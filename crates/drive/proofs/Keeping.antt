@@ -1,6 +1,6 @@
 -- No frame in makes a drive ill formed, so a made drive is never refused with 2. Assumes nothing.
 use mathlib.Core.Path.{_≡_}
-use mathlib.Core.Bool.{Bool, true, false, cond, not, _||_}
+use mathlib.Core.Bool.{Bool, true, false, not}
 use mathlib.Core.List.{List}
 use Prim.Native.Nat.{ℕ}
 use lib.Dec.{eqb}
@@ -13,6 +13,7 @@ use Rattle.address.specs.Address.{validAddress}
 use Rattle.state.specs.declared.Port.{Port}
 use Rattle.state.specs.declared.Unit.{Unit}
 use Rattle.formed.specs.Formed.{wellFormed}
+use Rattle.calls.proofs.Decisions.{on-cond}
 use Rattle.link.proofs.Keeping.{link-kept, abts-kept}
 use Rattle.command.proofs.Keeping.{command-kept}
 use Rattle.serve.proofs.Keeping.{next-kept}
@@ -43,25 +44,22 @@ decided-kept u p h Done f known from w = w
 decided-kept u p h Abort f known from w = abts-kept u p (h .«s_id») (h .«ox_id») (h .«rx_id») w
 decided-kept u p h Command f known from w = command-kept u p h f known w
 
--- every frame of bytes keeps a drive well formed, refused or answered
-pub frame-kept : (d : Drive) (f : List ℕ) (room : ℕ) → AllBytes f → wellFormed (d .unit) (d .port) ≡ true → wellFormed (frameIn d f room .drive .unit) (frameIn d f room .drive .port) ≡ true
-frame-kept d f room known w =
-    frame-cases d f room (λ a. wellFormed (a .drive .unit) (a .drive .port) ≡ true) (λ x _. w)
-    (λ s. decided-kept (d .unit) (d .port) (headerOf f) (kindOf (headerOf f .«r_ctl»)) f known (s .from) w)
-
 -- a drive that is well formed
 abbrev pub fine : Drive → Bool
 fine d = wellFormed (d .unit) (d .port)
 
-either-fine : (b : Bool) (x y : Answer) → fine (x .drive) ≡ true → fine (y .drive) ≡ true → fine (cond b x y .drive) ≡ true
-either-fine true x y p q = p
-either-fine false x y p q = q
+abbrev Kept : Answer → Type 0
+Kept a = fine (a .drive) ≡ true
+
+-- every frame of bytes keeps a drive well formed, refused or answered
+pub frame-kept : (d : Drive) (f : List ℕ) (room : ℕ) → AllBytes f → fine d ≡ true → fine (frameIn d f room .drive) ≡ true
+frame-kept d f room known w = frame-cases d f room Kept (λ x _. w) (λ s. decided-kept (d .unit) (d .port) (headerOf f) (kindOf (headerOf f .«r_ctl»)) f known (s .from) w)
 
 -- every next frame out keeps a drive well formed, refused or given
 pub next-frame-kept : (d : Drive) (a x start : ℕ) (W : List ℕ) (room : ℕ) → fine d ≡ true → fine (nextFrame d a x start W room .drive) ≡ true
 unfolding nextFrame
 next-frame-kept d a x start W room w =
-    either-fine (shortBuffer room) _ _ w (either-fine (not (fine d)) _ _ w (next-kept (d .unit) (d .port) a x start W w))
+    on-cond Kept (shortBuffer room) w (on-cond Kept (not (fine d)) w (next-kept (d .unit) (d .port) a x start W w))
 
 -- and every event
 pub event-fine : (d : Drive) (e : Event) → fine d ≡ true → fine (eventAnswer d e .drive) ≡ true

@@ -1,19 +1,17 @@
 -- A made drive is well formed, every event keeps a drive well formed, and a refusal leaves it as it was. Assumes nothing.
 use mathlib.Core.Path.{_≡_, refl, sym, ap, _∙_}
-use mathlib.Core.Bool.{Bool, true, false, cond}
+use mathlib.Core.Bool.{Bool, true, false}
 use Prim.Native.Nat.{ℕ}
 use native.Mathlib.Omega.{arith}
-use Rattle.tables.proofs.Bools.{apart}
 use Rattle.state.specs.declared.Setup.{Setup}
 use Rattle.state.specs.Changes.{ownOf}
 use Rattle.formed.specs.Formed.{setupRules, setupOf, wellFormed}
-use Rattle.formed.proofs.Parts.{Formed, formed-parts, formed-whole}
+use Rattle.formed.proofs.Parts.{formed-whole}
 use Rattle.formed.proofs.Keeping.{empty-fine, empties-apart, change-kept}
 use Rattle.drive.specs.declared.Drive.{Drive}
 use Rattle.drive.specs.declared.Event.{Event}
 use Rattle.refusal.specs.declared.Refusal.{Refusal}
 use Rattle.refusal.specs.declared.Refusal.the-variants.{IllFormed, BadSetup}
-use Rattle.refusal.specs.declared.Said.{Said}
 use Rattle.refusal.specs.declared.Said.the-variants.{Sent, Refused}
 use Rattle.drive.specs.declared.Answer.{Answer}
 use Rattle.drive.specs.Drive.{madeFrom, noDrive, silent, refused, newAnswer, changeOf, afterEvent, eventAnswer}

@@ -66,7 +66,7 @@ module _ (d : Drive) where
   p = d .port
 
   -- a refusal leaves the drive
-  stays-is : (x : Refusal) → answerTo d (refusedTurn x) ≡ refused x d
+  pub stays-is : (x : Refusal) → answerTo d (refusedTurn x) ≡ refused x d
   stays-is x = ap (λ (q : Port). refused x (record { unit = d .unit; port = q })) (refused-stays p x)
 
   module _ (w : wellFormed u p ≡ true) where

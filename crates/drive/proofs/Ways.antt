@@ -108,6 +108,6 @@ module _ (v : View) (w : v .fine ≡ true) (a x start : ℕ) (W l : List ℕ) wh
   pub turn-served : (t : Turn) (l₁ : List ℕ) → t ≡ nextTurn v a x start W (length l) → l₁ ≡ nextTurnBuffer v a x start W l → (t ≡ nextOutTurn v a x start W (length l)) × (l₁ ≡ nextOutBuffer v a x start W l)
   unfolding nextOutTurn nextOutBuffer
   turn-served t l₁ et el = (
-      et ∙ sym (ap (λ (b : Bool). cond b (nextTurn v a x start W (length l)) (refusedTurn IllFormed)) w),
-      el ∙ sym (ap (λ (b : Bool). cond b (nextTurnBuffer v a x start W l) l) w),
-    )
+    et ∙ sym (ap (λ (b : Bool). cond b (nextTurn v a x start W (length l)) (refusedTurn IllFormed)) w),
+    el ∙ sym (ap (λ (b : Bool). cond b (nextTurnBuffer v a x start W l) l) w),
+  )
