@@ -8,7 +8,7 @@ use Rattle.state.specs.declared.Login.{Login}
 use Rattle.state.specs.declared.Port.{Port}
 use Rattle.state.specs.declared.Change.{Change}
 use Rattle.state.specs.declared.Change.the-variants.{Keep}
-use Rattle.state.specs.Changes.{emptyLogin, loginAt, withLogin, changedAll}
+use Rattle.state.specs.Changes.{emptyLogin, withLogin, changedAll}
 use Rattle.reply.specs.declared.Reply.{Reply}
 use Rattle.calls.specs.declared.Served.{Served}
 use Rattle.calls.specs.declared.Decision.{Decision}

@@ -9,7 +9,8 @@ use Rattle.state.specs.declared.Login.{Login}
 use Rattle.state.specs.declared.Own.{Own}
 use Rattle.state.specs.declared.Port.{Port}
 use Rattle.state.specs.declared.Unit.{Unit}
-use Rattle.state.specs.Changes.{emptyLogin, ownOf, loginAt}
+use Rattle.state.specs.Changes.{emptyLogin, ownOf}
+use Rattle.state.specs.Tables.{loginIn}
 use Rattle.formed.specs.declared.Key.{Key}
 use Rattle.formed.specs.Keys.{keysOf, fineBy}
 use Rattle.calls.specs.declared.View.{View}
@@ -32,10 +33,6 @@ placeFor keys address = findEither keys 1 (2 + address)
 -- what is seen, where l is the login at the seat, if there is one
 unfoldable pub viewFrom : Unit → Own → List Key → Found → Login → View
 viewFrom u o keys seat l = record { unit = u; own = o; keys = keys; seat = seat; login = onFound seat (λ _. l) emptyLogin; fine = fineBy u o keys }
-
--- the login at a seat, an empty one where there is none
-abbrev pub loginIn : Port → Found → Login
-loginIn p seat = onFound seat (loginAt p) emptyLogin
 
 -- what a call of the port at an address sees
 unfoldable pub viewOf : Unit → Port → ℕ → View

@@ -17,10 +17,10 @@ use state::own_of;
 use state::put_login;
 use tables::Found;
 ghost use mathlib.Core.Path.{_≡_};
-ghost use Prim.Native.Nat.{_<_};
 ghost use Rattle.tables.specs.Lists.{Within};
+ghost use Rattle.state.specs.Tables.{loginIn};
 ghost use Rattle.calls.specs.View.{isEither, findEither, seatOf, placeFor, viewFrom, viewOf};
-ghost use Rattle.calls.specs.Turn.{answersOnly, stores, changes, servedAs, servedIn, refusedTurn, sentTurn, storedAt, portAfter};
+ghost use Rattle.calls.specs.Turn.{answersOnly, stores, changes, servedAs, servedIn, refusedTurn, sentTurn, portAfter};
 
 // What a call of one port sees: the unit, its own address and accept words, the keys of all logins, the place of the caller's login, that login,
 // which is an empty one where it has none, and whether the state is well formed.
@@ -118,11 +118,18 @@ pub fn look(u: Unit, p: Port, address: u32) -> View
     let k = login_keys(u, p);
     let o = own_of(p);
     let seat = seat_of(k, address);
-    let l = match seat {
+    let l = login_in(p, seat);
+    see(u, o, k, seat, l)
+}
+
+// The login at a seat, an empty one where there is none.
+fn login_in(p: Port, seat: Found) -> Login
+    ensures { λ r. ⌜ r ≡ loginIn p seat ⌝ }
+{
+    match seat {
         Found::At(i) => login_at(p, i),
         Found::Nothing => empty_login(),
-    };
-    see(u, o, k, seat, l)
+    }
 }
 
 // A reply, and nothing changes.

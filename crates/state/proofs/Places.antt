@@ -15,16 +15,15 @@ use Rattle.tables.proofs.Searches.{found-below, found-passes, same-found}
 use Rattle.state.specs.declared.Exchange.{Exchange}
 use Rattle.state.specs.declared.Login.{Login}
 use Rattle.state.specs.declared.Port.{Port}
-use Rattle.state.specs.declared.Standing.the-variants.{Open, NoExchange, NoLogin}
+use Rattle.state.specs.declared.Standing.the-variants.{Open, NoExchange}
 use Rattle.state.specs.Changes.{emptyExchange, emptyLogin, isUsed, hasAddress, loginAt, exchangeAt, withLogin, withExchange, isClosed}
-use Rattle.state.specs.Tables.{hasId, findLogin, findExchange, lookupOf}
+use Rattle.state.specs.Tables.{hasId, findLogin, findExchange, loginIn, loginOf, standingIn, lookupOf}
 
 inner-place : (k i j : ℕ) (g : Found) → onFound g (λ n. Open k n) (NoExchange k) ≡ Open i j → (k ≡ i) × (g ≡ At j)
 inner-place k i j (At n) e = ((cc), ap At (cc))
 inner-place k i j Nothing e = let z : _≡_ {A = ℕ} 0 1 = cc in absurd (omega arith)
 
-outer-place : (p : Port) (x i j : ℕ) (g : Found) → onFound g (λ k. onFound (findExchange (loginAt p k) x) (λ n. Open k n) (NoExchange k)) NoLogin ≡ Open i j
-    → (g ≡ At i) × (findExchange (loginAt p i) x ≡ At j)
+outer-place : (p : Port) (x i j : ℕ) (g : Found) → standingIn g (findExchange (loginIn p g) x) ≡ Open i j → (g ≡ At i) × (findExchange (loginAt p i) x ≡ At j)
 outer-place p x i j (At k) e =
     let h = inner-place k i j (findExchange (loginAt p k) x) e in
     (ap At (h .0), ap (λ (m : ℕ). findExchange (loginAt p m) x) (sym (h .0)) ∙ h .1)
@@ -42,11 +41,11 @@ found-used p a i e = and-left (isUsed (loginAt p i)) (eqb (loginAt p i .address)
 module _ (p : Port) (a x i j : ℕ) (e : lookupOf p a x ≡ Open i j) where
   -- an open exchange stands at the login of its address
   pub open-place : findLogin p a ≡ At i
-  unfolding lookupOf
+  unfolding lookupOf loginOf
   open-place = outer-place p x i j (findLogin p a) e .0
 
   pub open-exchange : findExchange (loginAt p i) x ≡ At j
-  unfolding lookupOf
+  unfolding lookupOf loginOf
   open-exchange = outer-place p x i j (findLogin p a) e .1
 
   -- both places are of their tables
@@ -94,7 +93,7 @@ module _ (p : Port) (a x i j : ℕ) (e : lookupOf p a x ≡ Open i j) where
 
   -- an exchange of the same OX_ID, open too, is found at the same places
   pub lookup-same : (f : Exchange) → hasId x f ≡ true → lookupOf (withLogin p i (withExchange (loginAt p i) j f)) a x ≡ Open i j
-  unfolding lookupOf
+  unfolding lookupOf loginOf
   lookup-same f h = rw (found-again f, login-stored (withExchange (loginAt p i) j f), exchange-again f h)
 
 -- of two changes at a place the later stands

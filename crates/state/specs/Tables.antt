@@ -11,7 +11,7 @@ use Rattle.state.specs.declared.Login.{Login}
 use Rattle.state.specs.declared.Port.{Port}
 use Rattle.state.specs.declared.Standing.{Standing}
 use Rattle.state.specs.declared.Standing.the-variants.{Open, NoExchange, NoLogin}
-use Rattle.state.specs.Changes.{isUsed, isClosed, hasAddress, loginAt}
+use Rattle.state.specs.Changes.{emptyLogin, isUsed, isClosed, hasAddress, loginAt}
 
 -- a place for a login is free
 abbrev pub isFree : Login → Bool
@@ -37,9 +37,21 @@ findExchange l x = first (hasId x) (l .places)
 unfoldable pub freeExchange : Login → Found
 freeExchange l = first isClosed (l .places)
 
+-- the login at a seat, an empty one where there is none
+abbrev pub loginIn : Port → Found → Login
+loginIn p seat = onFound seat (loginAt p) emptyLogin
+
+-- the login of an address, an empty one where it has none
+unfoldable pub loginOf : Port → ℕ → Login
+loginOf p a = loginIn p (findLogin p a)
+
+-- where an exchange stands: the seat of its login, if there is one, and its place there, if it is found
+abbrev pub standingIn : Found → Found → Standing
+standingIn seat place = onFound seat (λ i. onFound place (λ j. Open i j) (NoExchange i)) NoLogin
+
 -- the exchange of an address and an OX_ID
 unfoldable pub lookupOf : Port → ℕ → ℕ → Standing
-lookupOf p a x = onFound (findLogin p a) (λ i. onFound (findExchange (loginAt p i) x) (λ j. Open i j) (NoExchange i)) NoLogin
+lookupOf p a x = standingIn (findLogin p a) (findExchange (loginOf p a) x)
 
 -- the place of that exchange at its login
 abbrev pub placeIn : Standing → Found

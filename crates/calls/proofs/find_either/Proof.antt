@@ -5,12 +5,13 @@ use lib.ListN.{length}
 use borrow.Author.Needs.{needs}
 use Rattle.tables.proofs.Loops.{Searched, search-starts, search-on, search-here, search-out}
 use Rattle.tables.proofs.Searches.{within}
-use Rattle.calls.specs.Seat.{isEither, findEither}
+use Rattle.formed.proofs.Keys.{noKey}
+use Rattle.calls.specs.View.{isEither, findEither}
 use Rattle.calls.proofs.find_either.Statement.{statement}
 use Rattle.calls.proofs.find_either.Tie as tie
 
 abbrev Inv-loop : tie.InvT-loop
-Inv-loop a b keys i₀ i = Searched 0 (isEither a b) keys 8 i
+Inv-loop a b keys i₀ i = Searched noKey (isEither a b) keys 8 i
 
 abbrev μ-loop : tie.MeasureT-loop
 μ-loop a b keys i₀ i = 8 - i
@@ -21,20 +22,20 @@ len c = search needs
 returns : tie.Need-returns Inv-loop μ-loop
 unfolding findEither
 returns c =
-    let t = c .before .before in
+    let t = c .before .before .before in
     let s = t .before .before in
-    within 0 (isEither (s .args .a) (s .args .b)) (s .args .t1) 8 (len s) (search-here (len s) (t .before .loop .inv) (t .loop-test .taken) (c .before .is-either .ensures) (c .if1 .taken))
+    within noKey (isEither (s .args .a) (s .args .b)) (s .args .t1) 8 (len s) (search-here (len s) (t .before .loop .inv) (t .loop-test .taken) (c .before .is-either .ensures) (c .if1 .taken))
 
 loop-again : tie.Need-loop-again Inv-loop μ-loop
 loop-again c =
-    let t = c .before .before in
+    let t = c .before .before .before in
     search-on (len (t .before .before)) (t .before .loop .inv) (t .loop-test .taken) (c .before .is-either .ensures) (c .if1 .left)
 
 returns-2 : tie.Need-returns-2 Inv-loop μ-loop
 unfolding findEither
 returns-2 c =
     let s = c .before .before in
-    within 0 (isEither (s .args .a) (s .args .b)) (s .args .t1) 8 (len s) (search-out (len s) (c .before .loop .inv) (c .loop-test .left))
+    within noKey (isEither (s .args .a) (s .args .b)) (s .args .t1) 8 (len s) (search-out (len s) (c .before .loop .inv) (c .loop-test .left))
 
 pub find-either-spec : {M : Type 1} → statement M
 find-either-spec =

@@ -1,6 +1,6 @@
 -- `calls::place_for` meets its contract: what the search finds. Assumes nothing.
 use borrow.Author.Needs.{needs}
-use Rattle.calls.specs.Seat.{placeFor}
+use Rattle.calls.specs.View.{placeFor}
 use Rattle.calls.proofs.place_for.Statement.{statement}
 use Rattle.calls.proofs.place_for.Tie as tie
 

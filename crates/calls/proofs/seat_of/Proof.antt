@@ -1,6 +1,6 @@
 -- `calls::seat_of` meets its contract: what the search finds. Assumes nothing.
 use borrow.Author.Needs.{needs}
-use Rattle.calls.specs.Seat.{seatOf}
+use Rattle.calls.specs.View.{seatOf}
 use Rattle.calls.proofs.seat_of.Statement.{statement}
 use Rattle.calls.proofs.seat_of.Tie as tie
 

@@ -8,13 +8,13 @@ use Rattle.state.specs.declared.Port.{Port}
 use Rattle.state.specs.declared.Login.{Login}
 use Rattle.state.specs.declared.Standing.the-variants.{Open, NoExchange, NoLogin}
 use Rattle.state.specs.Changes.{loginAt}
-use Rattle.state.specs.Tables.{findLogin, findExchange, lookupOf, LookedUp}
+use Rattle.state.specs.Tables.{findLogin, findExchange, loginOf, lookupOf, LookedUp}
 use borrow.Author.Needs.{needs}
 use Rattle.state.proofs.lookup.Statement.{statement}
 use Rattle.state.proofs.lookup.Tie as tie
 
 no-login : (p : Port) (a x : ℕ) (f : Found) → Within (findLogin p a) 8 f → f ≡ Nothing → LookedUp p a x NoLogin
-unfolding lookupOf
+unfolding lookupOf loginOf
 no-login p a x f w e = record { is = rw (sym (w .is) ∙ e); below = tt }
 
 module _ (p : Port) (a x i : ℕ) (f g : Found) (l : Login) (w : Within (findLogin p a) 8 f) (e : f ≡ At i) (at : l ≡ loginAt p i) (v : Within (findExchange l x) 8 g) where
@@ -22,11 +22,11 @@ module _ (p : Port) (a x i : ℕ) (f g : Found) (l : Login) (w : Within (findLog
   inner = v .is ∙ ap (λ m. findExchange m x) at
 
   no-exchange : g ≡ Nothing → LookedUp p a x (NoExchange i)
-  unfolding lookupOf
+  unfolding lookupOf loginOf
   no-exchange h = record { is = rw (sym (w .is) ∙ e, sym inner ∙ h); below = w .below i e }
 
   found : (j : ℕ) → g ≡ At j → LookedUp p a x (Open i j)
-  unfolding lookupOf
+  unfolding lookupOf loginOf
   found j h = record { is = rw (sym (w .is) ∙ e, sym inner ∙ h); below = (w .below i e, v .below j h) }
 
 returns : tie.Need-returns
