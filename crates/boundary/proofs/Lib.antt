@@ -1,8 +1,6 @@
-mod Answers
 mod Elements
-mod Events
-mod Laws
-mod Lending
+mod Keyed
 mod Lent
 mod Logins
+mod Onward
 mod Reached
