@@ -80,7 +80,7 @@ like-has a {l} {m} (same u d) h = same-has a l m u d ∙ h
 like-has a gone h = empty-has a
 
 -- of two logins that are apart one at most has an address
-apart-has : (a : ℕ) (l m : Login) → apartAddress l m ≡ true → hasAddress a l ≡ true → (b : Bool) → hasAddress a m ≡ b → b ≡ false
+pub apart-has : (a : ℕ) (l m : Login) → apartAddress l m ≡ true → hasAddress a l ≡ true → (b : Bool) → hasAddress a m ≡ b → b ≡ false
 unfolding apartAddress
 apart-has a l m d h true k = apart d (rw (has-used a l h, has-used a m k, eq-eqb (l .address) (m .address) (has-its a l h ∙ sym (has-its a m k))))
 apart-has a l m d h false k = refl
@@ -137,9 +137,11 @@ stored-sees p a Nothing l o = refl
 -- the same of what is stored once every login was changed
 another-changed : (p : Port) (c : Change) (a : ℕ) (at : Found) (l : Login) → Another p a at l → Another (changedAll c p) a at l
 unfolding loginAt changedAll
-another-changed p c a (At i) l o =
-    (ap (hasAddress a) (ap (getD (map (changedOf c) (p .logins)) i) (sym (empty-changed c)) ∙ List·getD-map (changedOf c) (p .logins) i emptyLogin)
-    ∙ like-has a (like c (getD (p .logins) i emptyLogin)) (o .0), o .1)
+another-changed p c a (At i) l o = (
+  ap (hasAddress a) (ap (getD (map (changedOf c) (p .logins)) i) (sym (empty-changed c)) ∙ List·getD-map (changedOf c) (p .logins) i emptyLogin)
+      ∙ like-has a (like c (getD (p .logins) i emptyLogin)) (o .0),
+  o .1,
+)
 another-changed p c a Nothing l o = tt
 
 -- after any turn that stores nothing of an address its login is what the turn's change makes of what it was, and so are its exchanges

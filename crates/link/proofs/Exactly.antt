@@ -15,15 +15,15 @@ use Rattle.params.specs.declared.Fault.{Fault}
 use Rattle.params.specs.declared.Verdict.{Verdict}
 use Rattle.params.specs.declared.Verdict.the-variants as verdict
 use Rattle.params.specs.Words.{paramsOf, verdictOf, reasonOf}
-use Rattle.params.proofs.Exactly.{accepted, accepts-then, rejected, rejected-first, rejects-then}
+use Rattle.params.proofs.Exactly.{accepted, accepts-then, rejected, rejects-then}
 use Rattle.state.specs.declared.Port.{Port}
 use Rattle.state.specs.Changes.{withLogin}
 use Rattle.state.specs.Tables.{freeLogin}
 use Rattle.reply.specs.declared.Reply.{Reply}
 use Rattle.reply.specs.declared.Reply.the-variants as reply
 use Rattle.reply.specs.declared.Accepted.the-variants as accepted
-use Rattle.link.specs.declared.Decided.{Decided}
-use Rattle.link.specs.Link.{decidedAs, sizeOf, outcomeOf, newLogin, plogiOf, linkOf}
+use Rattle.calls.specs.Turn.{Decided, decidedAs}
+use Rattle.link.specs.Link.{sizeOf, outcomeOf, newLogin, plogiOf, linkOf}
 use Rattle.link.specs.Login.{ended, leftBy, Accepts, Rejects, wrong-size, test-fails, no-place}
 
 module _ (p : Port) (h : Header) (f : List ℕ) (plogi : getD f 24 0 ≡ 3) where
@@ -51,7 +51,7 @@ module _ (p : Port) (h : Header) (f : List ℕ) (plogi : getD f 24 0 ≡ 3) wher
   -- rejected, with this reason, and the sender's login ended where the size is right
   pub rejects : (r x : ℕ) → Rejects p h f r x → linkOf p h f ≡ decidedAs (reply.Reject r x) (leftBy p h f)
   rejects r x (wrong-size n) = of-wrong n
-  rejects r x (test-fails e t b none) = of-test e t (rejects-then (paramsOf f 28) t b none)
+  rejects r x (test-fails e t i) = of-test e t (rejects-then (paramsOf f 28) t i)
   rejects r x (no-place e t n) = of-full e (accepts-then (paramsOf f 28) t) n
 
   -- there is no third answer
@@ -73,7 +73,7 @@ module _ (p : Port) (h : Header) (f : List ℕ) (plogi : getD f 24 0 ≡ 3) wher
       by-test : length f ≡ 140 → (v : Verdict) → verdictOf (paramsOf f 28) ≡ v → Answered (linkOf p h f .reply)
       by-test e verdict.Accept v = by-room e v (freeLogin (ended p h)) refl
       by-test e (verdict.Reject t) v =
-          let a : Rejects p h f (reasonOf t .reason) (reasonOf t .explanation) = test-fails e t (rejected (paramsOf f 28) t v) (rejected-first (paramsOf f 28) t v) in
+          let a : Rejects p h f (reasonOf t .reason) (reasonOf t .explanation) = test-fails e t (rejected (paramsOf f 28) t v) in
           subst Answered (sym (ap (λ (d : Decided). d .reply) (rejects _ _ a))) (no _ _ a)
 
       by-size : (b : Bool) → eqb (length f) 140 ≡ b → Answered (linkOf p h f .reply)

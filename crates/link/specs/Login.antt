@@ -1,14 +1,15 @@
 -- When a port login is accepted and when it is rejected, as the theorems say it (document 01, "Link services", PLOGI).
-use Prim.Native.Nat.{ℕ, _<_}
+use Prim.Native.Nat.{ℕ}
 use mathlib.Core.Path.{_≡_}
-use mathlib.Core.Bool.{true, false, cond}
+use mathlib.Core.Bool.{false, cond}
 use mathlib.Core.List.{List}
 use lib.Dec.{eqb}
 use lib.ListN.{length}
 use Rattle.tables.specs.declared.Found.the-variants.{At, Nothing}
+use Rattle.tables.specs.Firsts.{IsFirst}
 use Rattle.frame.specs.declared.Header.{Header}
 use Rattle.params.specs.declared.Fault.{Fault}
-use Rattle.params.specs.Words.{paramsOf, fails, reasonOf, rank}
+use Rattle.params.specs.Words.{paramsOf, fails, faults, reasonOf}
 use Rattle.state.specs.declared.Port.{Port}
 use Rattle.state.specs.declared.Change.the-variants.{EndLogin}
 use Rattle.state.specs.Changes.{changedAll}
@@ -32,6 +33,5 @@ pub record Accepts (p : Port) (h : Header) (f : List ℕ) : Type 0 where
 -- what a rejected one has, with its reason and explanation: "wrong size 03,00", the first word test that fails, or no "free place, else 09,29"
 pub data Rejects (p : Port) (h : Header) (f : List ℕ) : ℕ → ℕ → Type 0 where
   wrong-size : (length f ≡ 140 → ⊥) → Rejects p h f 0x03 0x00
-  test-fails : length f ≡ 140 → (t : Fault) → fails (paramsOf f 28) t ≡ true → ((g : Fault) → rank g < rank t → fails (paramsOf f 28) g ≡ false)
-      → Rejects p h f (reasonOf t .reason) (reasonOf t .explanation)
+  test-fails : length f ≡ 140 → (t : Fault) → IsFirst (fails (paramsOf f 28)) faults t → Rejects p h f (reasonOf t .reason) (reasonOf t .explanation)
   no-place : length f ≡ 140 → ((t : Fault) → fails (paramsOf f 28) t ≡ false) → freeLogin (ended p h) ≡ Nothing → Rejects p h f 0x09 0x29

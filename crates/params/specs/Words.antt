@@ -1,10 +1,11 @@
 -- PLOGI's word tests (document 01, "Link services").
 use Prim.Native.Nat.{ℕ, _+_, _-_, _*_, _%_}
-use mathlib.Core.Bool.{Bool, true, false, cond, not, _&&_, _||_}
+use mathlib.Core.Bool.{Bool, true, false, not, _&&_, _||_}
 use mathlib.Core.List.{List, [], _∷_}
 use lib.Dec.{eqb, ltb}
 use lib.ListN.{getD}
 use Rattle.tables.specs.Lists.{all}
+use Rattle.tables.specs.Firsts.{firstOf}
 use Rattle.wire.specs.Bytes.{num, part}
 use Rattle.params.specs.declared.Params.{Params}
 use Rattle.params.specs.declared.Fault.{Fault}
@@ -49,16 +50,12 @@ fails p ConcurrentSequences = eqb (p .concurrent) 0
 fails p OpenSequences = eqb (p .sequences) 0
 
 -- "Tests in word order"
-abbrev pub inOrder : List Fault
-inOrder = BufferSize ∷ PortName ∷ NodeName ∷ ClassThree ∷ DataSize ∷ ConcurrentSequences ∷ OpenSequences ∷ []
+abbrev pub faults : List Fault
+faults = BufferSize ∷ PortName ∷ NodeName ∷ ClassThree ∷ DataSize ∷ ConcurrentSequences ∷ OpenSequences ∷ []
 
 -- rejected by the first test that fails, accepted where none does
-abbrev pub firstFault : (Fault → Bool) → List Fault → Verdict
-firstFault test [] = Accept
-firstFault test (f ∷ fs) = cond (test f) (Reject f) (firstFault test fs)
-
 unfoldable pub verdictOf : Params → Verdict
-verdictOf p = firstFault (fails p) inOrder
+verdictOf p = firstOf (fails p) faults Reject Accept
 
 abbrev pub accepts : Verdict → Bool
 accepts Accept = true
@@ -80,13 +77,3 @@ reasonOf ClassThree = rejection 0x03 0x01
 reasonOf DataSize = rejection 0x03 0x07
 reasonOf ConcurrentSequences = rejection 0x03 0x09
 reasonOf OpenSequences = rejection 0x03 0x01
-
--- the tests before this one, counted
-abbrev pub rank : Fault → ℕ
-rank BufferSize = 0
-rank PortName = 1
-rank NodeName = 2
-rank ClassThree = 3
-rank DataSize = 4
-rank ConcurrentSequences = 5
-rank OpenSequences = 6

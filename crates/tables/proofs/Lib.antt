@@ -3,3 +3,4 @@ pub mod Loops
 pub mod Searches
 pub mod Keeping
 pub mod Below
+pub mod Firsts

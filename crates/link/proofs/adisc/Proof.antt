@@ -2,7 +2,8 @@
 use mathlib.Core.Path.{sym, ap, _∙_}
 use borrow.Author.Tests.{eq-eqb, ne-eqb}
 use Rattle.reply.specs.declared.Reply.the-variants as reply
-use Rattle.link.specs.Link.{servedAs, adiscOf}
+use Rattle.calls.specs.Turn.{servedAs}
+use Rattle.link.specs.Link.{adiscOf}
 use borrow.Author.Needs.{needs}
 use Rattle.link.proofs.adisc.Statement.{statement}
 use Rattle.link.proofs.adisc.Tie as tie

@@ -3,7 +3,8 @@ use mathlib.Core.Path.{sym, ap, _∙_}
 use Rattle.reply.specs.declared.Reply.the-variants as reply
 use Rattle.reply.specs.declared.Accepted.the-variants as accepted
 use Rattle.state.specs.Changes.{withPaired}
-use Rattle.link.specs.Link.{servedAs, prloOf}
+use Rattle.calls.specs.Turn.{servedAs}
+use Rattle.link.specs.Link.{prloOf}
 use borrow.Author.Needs.{needs}
 use Rattle.link.proofs.prlo.Statement.{statement}
 use Rattle.link.proofs.prlo.Tie as tie
