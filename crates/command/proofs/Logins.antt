@@ -58,14 +58,14 @@ unfolding hasAddress
 alike-has (alike n es) a = refl
 
 -- the task flags end logins of nobody
-data Mild : Task → Type 0 where
+pub data Mild : Task → Type 0 where
   code : (n : ℕ) → Mild (task.Code n)
   abort : (a : ℕ) → Mild (task.Apply (EndExchangesOf a))
   reset : Mild (task.Apply Reset)
   clear : (a : ℕ) → Mild (task.Apply (Clear a))
   execute : Mild task.Execute
 
-task-mild : (c : Cmnd) (n from : ℕ) → Mild (taskOf c n from)
+pub task-mild : (c : Cmnd) (n from : ℕ) → Mild (taskOf c n from)
 unfolding taskOf taskFor
 task-mild c n from =
     let t = c .task in
