@@ -36,7 +36,7 @@ expired (held p true k) = held p true k
 expired (held p false k) = out
 
 -- the record that a login is, `out` where it is none
-abbrev recordIn : Login → Record
+abbrev pub recordIn : Login → Record
 recordIn l = cond (isUsed l) (recordAt l) out
 
 -- no login of an address: exactly when its record is `out`
@@ -59,7 +59,7 @@ found-record p a i e = rw e
 
 -- the record of an address is that of its login, which has the address or is none
 module _ (p : Port) (a : ℕ) where
-  record-is : recordOf p a ≡ recordIn (loginOf p a)
+  pub record-is : recordOf p a ≡ recordIn (loginOf p a)
   unfolding recordOf loginOf
   record-is = by (findLogin p a) refl
     where
