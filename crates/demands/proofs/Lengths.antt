@@ -1,16 +1,14 @@
 -- How long what is sent is: a multiple of 4, at most 140 bytes for a frame in, and from 24 to 2,072 for a next frame. Assumes nothing.
-use mathlib.Core.Path.{_≡_, refl, sym, ap, _∙_}
+use mathlib.Core.Path.{_≡_, refl}
 use mathlib.Core.Bool.{Bool, true, false, cond}
 use mathlib.Core.List.{List, [], _++_}
 use Prim.Native.Nat.{ℕ, _+_, _%_, _≤_, min}
 use native.Mathlib.Omega.{arith}
 use lib.ListN.{length, length-append, length-take}
-use Rattle.tables.proofs.Firsts.{FirstSays, at-first, at-none, first-says}
 use Rattle.wire.specs.Bytes.{fillCount}
 use Rattle.frame.specs.declared.Header.{Header}
 use Rattle.frame.specs.Head.{headerOf, headerBytes}
-use Rattle.refusal.specs.declared.Said.the-variants.{Sent, Refused}
-use Rattle.refusal.specs.Refusal.{frameOrder}
+use Rattle.refusal.specs.declared.Said.the-variants.{Sent}
 use Rattle.state.specs.declared.Exchange.{Exchange}
 use Rattle.state.specs.declared.Own.{Own}
 use Rattle.state.specs.Changes.{ownOf}
@@ -23,11 +21,10 @@ use Rattle.reply.specs.declared.Reply.the-variants as reply
 use Rattle.reply.specs.Payload.{shortBytes, loginBytes, addressBytes, pairBytes, unpairBytes, acceptedBytes, rejectBytes, logoutBytes, abortAcceptBytes, abortRejectBytes, statusBytes, codeBytes, senseBytes, responseBytes, payloadOf}
 use Rattle.reply.specs.Reply.{headOf, filled, silent, bytesOf}
 use Rattle.serve.specs.Next.{hasMore, nextReply, askedBy, exchangeOf, fullOf, sourceOf, frameBytes}
-use Rattle.arrival.specs.Arrival.{appliesIn}
 use Rattle.drive.specs.declared.Drive.{Drive}
 use Rattle.drive.specs.declared.Answer.{Answer}
-use Rattle.drive.specs.Drive.{refused}
-use Rattle.drive.specs.Entry.{replyBytes, answered, decidedIn, frameIn, nextFrame}
+use Rattle.drive.specs.Entry.{replyBytes, decidedIn, frameIn, nextFrame}
+use Rattle.drive.proofs.Ways.{frame-cases}
 use Rattle.demands.proofs.Decoding.{framed-long, few-bytes}
 use Rattle.demands.proofs.Calls.{gave}
 
@@ -90,18 +87,16 @@ same-length m n e = cc
 
 -- a frame in
 pub frame-long : (d : Drive) (f l : List ℕ) (n : ℕ) → length (d .port .accept) ≡ 112 → frameIn d f (length l) .said ≡ Sent n → (n ≤ 140) × (n % 4 ≡ 0)
-unfolding frameIn replyBytes ownOf
-frame-long d f l n words e = by (first-says (appliesIn (d .unit) (d .port) (headerOf f) f (length l)) frameOrder (λ x. refused x d) (answered d (headerOf f) (decidedIn d f)) refl)
-  where
-    by : FirstSays (appliesIn (d .unit) (d .port) (headerOf f) f (length l)) frameOrder (λ x. refused x d) (answered d (headerOf f) (decidedIn d f)) (frameIn d f (length l)) → (n ≤ 140) × (n % 4 ≡ 0)
-    by (at-first x i q) = let s : Refused x ≡ Sent n = sym (ap (λ (y : Answer). y .said) q) ∙ e in let z : _≡_ {A = ℕ} 0 1 = cc in absurd (omega arith)
-    by (at-none i q) =
-        let o = ownOf (d .port) in
-        let r = decidedIn d f .reply in
-        let is = same-length (length (bytesOf o (headerOf f) r [])) n (sym (ap (λ (y : Answer). y .said) q) ∙ e) in
-        let few = bytes-few o (headerOf f) r [] (payload-few o (headerOf f) r words) in
-        let four = bytes-four o (headerOf f) r [] in
-        (omega arith, omega arith)
+unfolding replyBytes ownOf
+frame-long d f l n words =
+    frame-cases d f (length l) (λ (a : Answer). a .said ≡ Sent n → (n ≤ 140) × (n % 4 ≡ 0)) (λ x _ e. let z : _≡_ {A = ℕ} 0 1 = cc in absurd (omega arith))
+    (λ _ e.
+      let o = ownOf (d .port) in
+      let r = decidedIn d f .reply in
+      let is = same-length (length (bytesOf o (headerOf f) r [])) n e in
+      let few = bytes-few o (headerOf f) r [] (payload-few o (headerOf f) r words) in
+      let four = bytes-four o (headerOf f) r [] in
+      (omega arith, omega arith))
 
 -- a next frame: data or FCP_RSP, and so never nothing
 either-loud : (b : Bool) (r s : Reply) → silent r ≡ false → silent s ≡ false → silent (cond b r s) ≡ false

@@ -4,7 +4,6 @@ use mathlib.Core.List.{List}
 use Prim.Native.Nat.{ℕ}
 use lib.ListN.{length}
 use borrow.Author.Tests.{eq-eqb, ne-eqb}
-use Rattle.tables.proofs.Firsts.{none-then}
 use Rattle.wire.specs.Bytes.{onto}
 use Rattle.frame.specs.Head.{headerOf}
 use Rattle.params.specs.Words.{paramsOf}
@@ -15,22 +14,21 @@ use Rattle.calls.specs.Turn.{Decided, decidedAs}
 use Rattle.link.specs.Link.{newLogin, linkOf}
 use Rattle.link.specs.Login.{ended, leftBy, Accepts, Rejects}
 use Rattle.link.proofs.Exactly.{accepts, accepts-only, rejects, rejects-only}
-use Rattle.refusal.specs.Refusal.{frameOrder}
-use Rattle.arrival.specs.Arrival.{kindOf, appliesIn}
+use Rattle.arrival.specs.Arrival.{kindOf}
 use Rattle.drive.specs.declared.Drive.{Drive}
 use Rattle.drive.specs.declared.Answer.{Answer}
-use Rattle.drive.specs.Drive.{refused}
 use Rattle.drive.specs.Entry.{answered, decidedIn, replyBytes, frameIn, frameInBuffer}
 use Rattle.demands.specs.Login.{LoginIn}
+use Rattle.demands.proofs.Refusals.{frame-answers}
 
 module _ (d : Drive) (f l : List ℕ) (p : LoginIn d f l) where
   -- the answer and the buffer are those of the link services' reply
   pub login-answered : (frameIn d f (length l) ≡ answered d (headerOf f) (linkOf (d .port) (headerOf f) f)) × (frameInBuffer d f l ≡ onto (replyBytes d (headerOf f) (linkOf (d .port) (headerOf f) f)) l)
-  unfolding frameIn frameInBuffer kindOf
+  unfolding kindOf
   login-answered =
-      let at-entry = appliesIn (d .unit) (d .port) (headerOf f) f (length l) in
+      let t = frame-answers d f l (p .passed) in
       let is : decidedIn d f ≡ linkOf (d .port) (headerOf f) f = rw (p .link) in
-      (none-then at-entry frameOrder (λ x. refused x d) _ (p .passed) ∙ ap (answered d (headerOf f)) is, none-then at-entry frameOrder (λ x. l) _ (p .passed) ∙ ap (λ (r : Decided). onto (replyBytes d (headerOf f) r) l) is)
+      (t .0 ∙ ap (answered d (headerOf f)) is, t .1 ∙ ap (λ (r : Decided). onto (replyBytes d (headerOf f) r) l) is)
 
   -- accepted, and stored at the lowest free place: where the size is right, every word test passes and a place is free once the sender's own login has ended
   pub login-accepts : (a : Accepts (d .port) (headerOf f) f)

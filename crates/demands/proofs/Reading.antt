@@ -27,8 +27,8 @@ use Rattle.serve.specs.Whole as whole
 use Rattle.serve.proofs.Steps.{passed}
 use Rattle.serve.proofs.Frames.{runs, is-data, is-response}
 use Rattle.serve.proofs.Keeping.{next-kept}
-use Rattle.serve.proofs.Whole.{whole-read}
-use Rattle.serve.proofs.Comes.{whole-comes}
+use Rattle.serve.proofs.Whole.{run-read}
+use Rattle.serve.proofs.Comes.{run-comes}
 use Rattle.arrival.specs.Arrival.{shortBuffer}
 use Rattle.drive.specs.declared.Drive.{Drive}
 use Rattle.drive.specs.Entry.{nextFrameBuffer}
@@ -190,7 +190,7 @@ reads-whole d e unit a x i j pieces last w long o reads =
     let p = d .port in
     let r = exchangeOf p i j in
     let t = ran (o .ox) reads in
-    let s = whole-read u unit p (e .port) a x i j pieces (Status 0x00 (t .residual)) w long (o .stands) (o .kind) (o .fresh) (t .run) in
+    let s = run-read u unit p (e .port) a x i j pieces (Status 0x00 (t .residual)) w long (o .stands) (o .kind) (o .fresh) (t .run) in
     let is = same-status (t .residual) (residualOf (r .wanted) (r .expected)) (s .0 .response) in
     let small = residual-small (r .wanted) (r .expected) (wanted-small u r (runs u p a x i j w (o .stands) .wanted)) (o .expected) in (
       record {
@@ -229,9 +229,9 @@ module _ (u : Unit) (unit : List ℕ) (a x : ℕ) (l : List ℕ) (room : length 
           drive = sym (drive-is (driveAt p) a x start W l i j k roomy w step);
         }
 
-  run-comes : {p q : Port} {pieces : List Piece} {r : Response} → wellFormed u p ≡ true → Run u unit a x p pieces r q → Comes unit a x (driveAt p)
+  calls-come : {p q : Port} {pieces : List Piece} {r : Response} → wellFormed u p ≡ true → Run u unit a x p pieces r q → Comes unit a x (driveAt p)
   unfolding call
-  run-comes {p} {q} {pieces} {r} w (whole.ends start len i j k step reply) =
+  calls-come {p} {q} {pieces} {r} w (whole.ends start len i j k step reply) =
       let none = is-response (fullOf p i) (exchangeOf p i j) r reply .0 in
       record {
         pieces = [];
@@ -240,9 +240,9 @@ module _ (u : Unit) (unit : List ℕ) (a x : ℕ) (l : List ℕ) (room : length 
         reads = responds (call p start len i j k w step) (shows-response u p a x i j k (cut unit start len) none .1);
         rooms = ap (λ (m : ℕ). m ∷ []) room;
       }
-  run-comes {p} {q} {pieces} {r} w (whole.piece start len i j k f step reply rest) =
+  calls-come {p} {q} {pieces} {r} w (whole.piece start len i j k f step reply rest) =
       let more = is-data (fullOf p i) (exchangeOf p i j) f reply .0 in
-      let on = run-comes (next-kept u p a x start (cut unit start len) w) rest in
+      let on = calls-come (next-kept u p a x start (cut unit start len) w) rest in
       record {
         pieces = _;
         last = on .last;
@@ -255,4 +255,4 @@ module _ (u : Unit) (unit : List ℕ) (a x : ℕ) (l : List ℕ) (room : length 
 pub reads-come : (d : Drive) (unit : List ℕ) (a x i j : ℕ) → wellFormed (d .unit) (d .port) ≡ true → length unit ≡ 512 * d .unit .capacity → lookupOf (d .port) a x ≡ Open i j
     → loginAt (d .port) i .proven ≡ 1 → Comes unit a x d
 reads-come d unit a x i j w long o proven =
-    run-comes (d .unit) unit a x (replicate 2136 0) (length-replicate {A = ℕ} 2136 0) w (whole-comes (d .unit) unit (d .port) a x i j w long o proven .run)
+    calls-come (d .unit) unit a x (replicate 2136 0) (length-replicate {A = ℕ} 2136 0) w (run-comes (d .unit) unit (d .port) a x i j w long o proven .run)

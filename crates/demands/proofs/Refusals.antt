@@ -6,8 +6,9 @@ use mathlib.Core.List.{List}
 use Prim.Native.Nat.{ℕ}
 use native.Mathlib.Omega.{arith}
 use lib.ListN.{length}
-use Rattle.tables.specs.Firsts.{firstOf, IsFirst}
-use Rattle.tables.proofs.Firsts.{first-then, then-first, first-over}
+use Rattle.tables.specs.Firsts.{firstOf, NoneOf, IsFirst}
+use Rattle.tables.proofs.Firsts.{first-then, none-then, then-first, first-over}
+use Rattle.wire.specs.Bytes.{onto}
 use Rattle.frame.specs.Head.{headerOf}
 use Rattle.refusal.specs.declared.Refusal.{Refusal}
 use Rattle.refusal.specs.declared.Refusal.the-variants.{ShortBuffer, IllFormed}
@@ -54,6 +55,11 @@ module _ (d : Drive) (f l : List ℕ) where
   pub frame-refuses : (x : Refusal) → IsFirst applies-in frameOrder x → (frameIn d f (length l) ≡ refused x d) × (frameInBuffer d f l ≡ l)
   unfolding frameIn frameInBuffer
   frame-refuses x i = (first-then applies-in frameOrder (λ y. refused y d) _ i, first-then applies-in frameOrder (λ y. l) _ i)
+
+  -- where none applies: answered, and the reply stands at the front of the buffer
+  pub frame-answers : NoneOf applies-in frameOrder → (frameIn d f (length l) ≡ answered d (headerOf f) (decidedIn d f)) × (frameInBuffer d f l ≡ onto (replyBytes d (headerOf f) (decidedIn d f)) l)
+  unfolding frameIn frameInBuffer
+  frame-answers n = (none-then applies-in frameOrder (λ y. refused y d) _ n, none-then applies-in frameOrder (λ y. l) _ n)
 
 -- a next frame out, in the order 1, 2, 9, 7, 10
 module _ (d : Drive) (a x start : ℕ) (W l : List ℕ) where

@@ -163,6 +163,6 @@ module _ (u : Unit) (unit : List ℕ) (long : length unit ≡ 512 * u .capacity)
       one-fewer m n h l = omega arith
 
 -- every open exchange of a proven login can be served to its end, of whatever kind it is and whatever was sent of it
-pub whole-comes : (u : Unit) (unit : List ℕ) (p : Port) (a x i j : ℕ) → wellFormed u p ≡ true → length unit ≡ 512 * u .capacity → lookupOf p a x ≡ Open i j → loginAt p i .proven ≡ 1 → Ends u unit a x p
-whole-comes u unit p a x i j w long o proven =
+pub run-comes : (u : Unit) (unit : List ℕ) (p : Port) (a x i j : ℕ) → wellFormed u p ≡ true → length unit ≡ 512 * u .capacity → lookupOf p a x ≡ Open i j → loginAt p i .proven ≡ 1 → Ends u unit a x p
+run-comes u unit p a x i j w long o proven =
     comes u unit long 65536 (omega arith) (omega arith) a x i j (left (exchangeOf p i j)) p (le-refl (left (exchangeOf p i j))) (record { formed = w; stands = o; proven = proven })

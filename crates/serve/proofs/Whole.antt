@@ -186,10 +186,10 @@ read-enough u unit e long reads =
     omega arith
 
 -- a READ of which nothing was sent yet, whatever windows of the unit are lent: its frames are the bytes of its blocks, to its total, each once and in order; then comes its response, and its place is free
-pub whole-read : (u : Unit) (unit : List ℕ) (p q : Port) (a x i j : ℕ) (pieces : List Piece) (r : Response) → wellFormed u p ≡ true → length unit ≡ 512 * u .capacity
+pub run-read : (u : Unit) (unit : List ℕ) (p q : Port) (a x i j : ℕ) (pieces : List Piece) (r : Response) → wellFormed u p ≡ true → length unit ≡ 512 * u .capacity
     → lookupOf p a x ≡ Open i j → exchangeOf p i j .kind ≡ kindRead → exchangeOf p i j .sent ≡ 0 → Run u unit a x p pieces r q
     → (AllFrames (drop (512 * exchangeOf p i j .start) unit) (fullOf p i) (exchangeOf p i j) pieces r) × (q ≡ withLogin p i (endedAt (loginAt p i) j))
-whole-read u unit p q a x i j pieces r w long o kind fresh run =
+run-read u unit p q a x i j pieces r w long o kind fresh run =
     let e = exchangeOf p i j in
     all-frames u unit p q a x i j pieces r (drop (512 * e .start) unit) w o (rw (eq-eqb (e .kind) kindRead kind))
     (read-enough u unit e long (is-read u e kind (runs u p a x i j w o .wanted))) fresh run
@@ -208,10 +208,10 @@ made-enough u e long other h =
     omega arith
 
 -- the same of made data: all frames of an INQUIRY, a READ CAPACITY or a REQUEST SENSE
-pub whole-made : (u : Unit) (unit : List ℕ) (p q : Port) (a x i j : ℕ) (pieces : List Piece) (r : Response) → wellFormed u p ≡ true → length (u .identity) ≡ 28
+pub run-made : (u : Unit) (unit : List ℕ) (p q : Port) (a x i j : ℕ) (pieces : List Piece) (r : Response) → wellFormed u p ≡ true → length (u .identity) ≡ 28
     → lookupOf p a x ≡ Open i j → (exchangeOf p i j .kind ≡ kindRead → ⊥) → exchangeOf p i j .sent ≡ 0 → Run u unit a x p pieces r q
     → (AllFrames (madeBytes u (exchangeOf p i j .kind)) (fullOf p i) (exchangeOf p i j) pieces r) × (q ≡ withLogin p i (endedAt (loginAt p i) j))
-whole-made u unit p q a x i j pieces r w long o kind fresh run =
+run-made u unit p q a x i j pieces r w long o kind fresh run =
     let e = exchangeOf p i j in
     let other = ne-eqb (e .kind) kindRead kind in
     all-frames u unit p q a x i j pieces r (madeBytes u (e .kind)) w o (rw other) (made-enough u e long other (runs u p a x i j w o .wanted)) fresh run
