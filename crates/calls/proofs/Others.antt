@@ -137,9 +137,11 @@ stored-sees p a Nothing l o = refl
 -- the same of what is stored once every login was changed
 another-changed : (p : Port) (c : Change) (a : ℕ) (at : Found) (l : Login) → Another p a at l → Another (changedAll c p) a at l
 unfolding loginAt changedAll
-another-changed p c a (At i) l o =
-    (ap (hasAddress a) (ap (getD (map (changedOf c) (p .logins)) i) (sym (empty-changed c)) ∙ List·getD-map (changedOf c) (p .logins) i emptyLogin)
-    ∙ like-has a (like c (getD (p .logins) i emptyLogin)) (o .0), o .1)
+another-changed p c a (At i) l o = (
+  ap (hasAddress a) (ap (getD (map (changedOf c) (p .logins)) i) (sym (empty-changed c)) ∙ List·getD-map (changedOf c) (p .logins) i emptyLogin)
+      ∙ like-has a (like c (getD (p .logins) i emptyLogin)) (o .0),
+  o .1,
+)
 another-changed p c a Nothing l o = tt
 
 -- after any turn that stores nothing of an address its login is what the turn's change makes of what it was, and so are its exchanges
