@@ -27,13 +27,12 @@ use Rattle.reply.specs.declared.Reply.the-variants as reply
 use Rattle.reply.specs.declared.Response.{Response}
 use Rattle.calls.specs.declared.View.{View}
 use Rattle.calls.specs.declared.Served.{Served}
-use Rattle.calls.specs.declared.Decision.{Decision}
 use Rattle.calls.specs.View.{viewOf}
 use Rattle.calls.specs.Turn.{Decided, servedAt, servedIn, sentTurn}
-use Rattle.calls.specs.Others.{Another}
+use Rattle.calls.specs.Others.{Elsewhere}
 use Rattle.calls.proofs.Views.{view-seat, view-login}
 use Rattle.calls.proofs.Decisions.{on-cond, on-found}
-use Rattle.calls.proofs.Others.{empty-has, other-has, changed-sees, others-see, seat-another}
+use Rattle.calls.proofs.Others.{empty-has, changed-sees, others-see, seat-another}
 use Rattle.command.specs.declared.Cmnd.{Cmnd}
 use Rattle.command.specs.declared.Task.{Task}
 use Rattle.command.specs.declared.Task.the-variants as task
@@ -123,21 +122,13 @@ alike-stored p i m below x b = rw (found-stored p i m x b) (by (findLogin p b))
     by (At j) = at-stored p i m below x j
     by Nothing = itself emptyLogin
 
--- where the login of an address ends: its own is gone, and that of any other stays
+-- where the login of an address ends it is gone
 own-ended : (p : Port) (a : ℕ) → endedOf a (loginOf p a) ≡ emptyLogin
 unfolding loginOf endedOf
 own-ended p a = step (findLogin p a) refl
   where
     step : (f : Found) → findLogin p a ≡ f → cond (hasAddress a (loginIn p f)) emptyLogin (loginIn p f) ≡ emptyLogin
     step (At i) e = rw (found-has p a i e)
-    step Nothing e = rw (empty-has a)
-
-other-ended : (p : Port) (a b : ℕ) → (b ≡ a → ⊥) → endedOf a (loginOf p b) ≡ loginOf p b
-unfolding loginOf endedOf
-other-ended p a b n = step (findLogin p b) refl
-  where
-    step : (f : Found) → findLogin p b ≡ f → cond (hasAddress a (loginIn p f)) emptyLogin (loginIn p f) ≡ loginIn p f
-    step (At i) e = rw (other-has a b (loginAt p i) (λ q. n (sym q)) (found-has p b i e))
     step Nothing e = rw (empty-has a)
 
 -- a command is answered with nothing or FCP_RSP
@@ -242,43 +233,33 @@ module _ (u : Unit) (p : Port) (h : Header) (f : List ℕ) where
         step true r = after-spoken (command-spoken r) (loginOf p from) _ (command-paired r from)
         step false r = rw (command-unpaired r) (changed-sees p d (EndLogin from) from ∙ own-ended p from)
 
-    -- the login of every other address, from any sender
-    pub command-others : (b : ℕ) → (b ≡ from → ⊥) → Alike (loginOf p b) (loginOf (commandOf u p h f .port) b)
-    unfolding loggedOut
-    command-others b n = step (eqb (loginOf p from .paired) 1) refl
-      where
-        step : (x : Bool) → Paired x → Alike (loginOf p b) (loginOf (commandOf u p h f .port) b)
-        step true r = command-paired r b
-        step false r = rw (command-unpaired r, changed-sees p d (EndLogin from) b, other-ended p from b n) (itself (loginOf p b))
-
   -- as a turn, told on what the sender sees
   module _ (fine : all (loginFine u (p .address)) (p .logins) ≡ true) where
     abbrev v : View
     v = viewOf u p from
 
-    -- of another than the address b, unless b sent it
-    abbrev Foreign : ℕ → Decision → Type 0
-    Foreign b x = Another p b (x .at) (x .login)
+    task-another : (b : ℕ) {t : Task} → Mild t → (i : ℕ) (s : Served) → hasAddress b (loginAt p i) ≡ false → hasAddress b (s .login) ≡ false → Elsewhere p b (taskTurn t (servedIn i s))
+    task-another b (code n) i s x y = (tt, tt)
+    task-another b (abort a) i s x y = (tt, tt)
+    task-another b reset i s x y = (tt, tt)
+    task-another b (clear a) i s x y = (tt, tt)
+    task-another b execute i s x y = ((x, y), tt)
 
-    task-another : (b : ℕ) (t : Task) (i : ℕ) (s : Served) → hasAddress b (loginAt p i) ≡ false → hasAddress b (s .login) ≡ false → Foreign b (taskTurn t (servedIn i s))
-    task-another b (task.Code n) i s x y = tt
-    task-another b (task.Apply e) i s x y = tt
-    task-another b task.Execute i s x y = (x, y)
-
-    pub command-another : (b : ℕ) → (b ≡ from → ⊥) → Foreign b (commandTurn v h f)
+    -- it stores nothing of another address, and ends no login of it
+    pub command-another : (b : ℕ) → (b ≡ from → ⊥) → Elsewhere p b (commandTurn v h f)
     unfolding commandTurn commandedTurn
-    command-another b n = on-found (Foreign b) (v .seat) _ _ (λ i e. on-cond (Foreign b) (eqb (v .login .paired) 1) (at i e) tt) (λ _. tt)
+    command-another b n = on-found (Elsewhere p b) (v .seat) _ _ (λ i e. on-cond (Elsewhere p b) (eqb (v .login .paired) 1) (at i e) (tt, n)) (λ _. (tt, n))
       where
         place : Found
         place = findExchange (v .login) (h .«ox_id»)
 
-        at : (i : ℕ) → v .seat ≡ At i → Foreign b (taskTurn (taskOf (cmndOf f) (length f) from) (servedIn i (executeOf (v .unit) (v .login) place (h .«ox_id») (cmndOf f))))
+        at : (i : ℕ) → v .seat ≡ At i → Elsewhere p b (taskTurn (taskOf (cmndOf f) (length f) from) (servedIn i (executeOf (v .unit) (v .login) place (h .«ox_id») (cmndOf f))))
         at i e =
             let seat = sym (view-seat u p from fine) ∙ e in
             let none = seat-another p b from i n seat in
-            task-another b (taskOf (cmndOf f) (length f) from) i _ none
+            task-another b (task-mild (cmndOf f) (length f) from) i _ none
             (alike-has (moves-alike (v .unit) (v .login) place (h .«ox_id») (cmndOf f) (execute-moves (v .unit) (v .login) place (h .«ox_id») (cmndOf f))) b ∙ ap (hasAddress b) (view-login u p from fine i seat) ∙ none)
 
-    -- so the login of b is what the turn's change of every login makes of it
-    pub command-sees : pairs apartAddress (p .logins) ≡ true → (b : ℕ) → (b ≡ from → ⊥) → loginOf (commandOf u p h f .port) b ≡ changedOf (commandTurn v h f .change) (loginOf p b)
-    command-sees d b n = ap (λ (x : Decided). loginOf (x .port) b) (sym (command-turn u p fine h f)) ∙ others-see p d (sentTurn 0 (commandTurn v h f)) b (command-another b n)
+    -- so the login of another address is what the change of every login makes of it
+    pub command-others : pairs apartAddress (p .logins) ≡ true → (b : ℕ) → (b ≡ from → ⊥) → loginOf (commandOf u p h f .port) b ≡ changedOf (commandTurn v h f .change) (loginOf p b)
+    command-others d b n = ap (λ (x : Decided). loginOf (x .port) b) (sym (command-turn u p fine h f)) ∙ others-see p d (sentTurn 0 (commandTurn v h f)) b (command-another b n .0)
