@@ -57,14 +57,14 @@ unfolding hasAddress
 alike-has (alike n es) a = refl
 
 -- the task flags end logins of nobody
-pub data Mild : Task → Type 0 where
+data Mild : Task → Type 0 where
   code : (n : ℕ) → Mild (task.Code n)
   abort : (a : ℕ) → Mild (task.Apply (EndExchangesOf a))
   reset : Mild (task.Apply Reset)
   clear : (a : ℕ) → Mild (task.Apply (Clear a))
   execute : Mild task.Execute
 
-pub task-mild : (c : Cmnd) (n from : ℕ) → Mild (taskOf c n from)
+task-mild : (c : Cmnd) (n from : ℕ) → Mild (taskOf c n from)
 unfolding taskOf taskFor
 task-mild c n from =
     let t = c .task in
