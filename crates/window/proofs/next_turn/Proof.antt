@@ -41,13 +41,13 @@ use denote.Triple.Table.{entered, cited}
 use denote.Triple.Walked.{says, Stays, stay-none, stay-none-slice, gave-slice, walkOf, goes-none, goes-none-slice, goes-gave-slice, Walks, ends-at, walked, walk-meets}
 use denote.Exit.{yes}
 use denote.Triple.Clauses.{ensured, lasts}
-use Rattle.drive.specs.Turn.{nextTurn, nextTurnBuffer}
-use Rattle.drive.specs.declared.View.{View}
-use Rattle.drive.specs.declared.Turn.{Turn}
-use Rattle.drive.proofs.View as Vw
-use Rattle.drive.proofs.View.Laws as Vw′
-use Rattle.drive.proofs.Turn as Tn
-use Rattle.drive.proofs.Turn.Laws as Tn′
+use Rattle.drive.specs.Turn.{nextOutTurn, nextOutBuffer}
+use Rattle.calls.specs.declared.View.{View}
+use Rattle.calls.specs.declared.Turn.{Turn}
+use Rattle.calls.proofs.View as Vw
+use Rattle.calls.proofs.View.Laws as Vw′
+use Rattle.calls.proofs.Turn as Tn
+use Rattle.calls.proofs.Turn.Laws as Tn′
 use Rattle.window.specs.declared.Window.{Window}
 use Rattle.window.proofs.Window as T
 use Rattle.window.proofs.Window.Laws as T′
@@ -150,7 +150,7 @@ module _ {M : Type 1} (𝓤 : URA M) (H : Heap 𝓤) (A : Atoms 𝓤) (W : Given
       owned ! Vw.the-row (Is Vw.the-row) (LL.makes Vw.the-type Vw′.the-plain 𝓤 H A) c _ is-c $ fjoin ! $ move ! (2 ∷ 0 ∷ []) $ use2 W (raw (G 𝓤 H A mem run .pre to)) asked $ frame ! $ done !
 
   abbrev Said : Turn → List ℕ → Type 0
-  Said r zs = (r ≡ nextTurn c i j m (now y) (length ys)) × (zs ≡ nextTurnBuffer c i j m (now y) ys)
+  Said r zs = (r ≡ nextOutTurn c i j m (now y) (length ys)) × (zs ≡ nextOutBuffer c i j m (now y) ys)
 
   exits : (r : Turn) (u : Val) (zs : List ℕ) → Said r zs → length zs ≡ length ys
       → ent 𝓤 (⋆ 𝓤 H A ((‵ (flft κ q) ⊛ ‵ (flft κ′ q′) ⊛ ‵ ftrue) ∷ ‵ (finally u8 γ zs) ∷ ‵ OwnB ∷ ‵ (Tn.the-row .own r (u ∷ [])) ∷ [])) (Post u)

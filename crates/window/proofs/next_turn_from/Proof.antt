@@ -1,4 +1,4 @@
--- `window::next_turn_from` meets its contract: a walk of its MIR, by hand. The window is taken apart, and `next_turn` of the view is called on it, the numbers, the block, the bytes and the reply.
+-- `window::next_turn_from` meets its contract: a walk of its MIR, by hand. The window is taken apart, and `drive::next_turn` is called on the view, the numbers, the block, the bytes and the reply.
 -- The window is Copy: what it owns is had twice, one copy is kept whole for the exit, and of the other what `bytes` owns goes to the callee. `reply` goes to the callee at its own lifetime, share and ghost name, and is given up for good (`gave-slice`).
 -- The view and the numbers are plain data: what they own is made anew from their relation (`owned`) wherever it is asked.
 -- Assumes nothing.
@@ -43,20 +43,20 @@ use denote.Triple.Table.{entered, cited}
 use denote.Triple.Walked.{says, Stays, stay-none, gave-slice, walkOf, goes-none, goes-gave-slice, Walks, ends-at, walked, walk-meets}
 use denote.Exit.{yes}
 use denote.Triple.Clauses.{ensured, lasts}
-use Rattle.drive.specs.Turn.{nextTurn, nextTurnBuffer}
-use Rattle.drive.specs.declared.View.{View}
-use Rattle.drive.specs.declared.Turn.{Turn}
-use Rattle.drive.proofs.View as Vw
-use Rattle.drive.proofs.View.Laws as Vw′
-use Rattle.drive.proofs.Turn as Tn
-use Rattle.drive.proofs.Turn.Laws as Tn′
+use Rattle.drive.specs.Turn.{nextOutTurn, nextOutBuffer}
+use Rattle.calls.specs.declared.View.{View}
+use Rattle.calls.specs.declared.Turn.{Turn}
+use Rattle.calls.proofs.View as Vw
+use Rattle.calls.proofs.View.Laws as Vw′
+use Rattle.calls.proofs.Turn as Tn
+use Rattle.calls.proofs.Turn.Laws as Tn′
 use Rattle.window.specs.declared.Window.{Window}
 use Rattle.window.proofs.Window as T
 use Rattle.window.proofs.Window.Laws as T′
-use Rattle.drive.proofs.View.next_turn as g
-use Rattle.drive.proofs.View.next_turn.Symbol as g-def
-use Rattle.drive.proofs.View.next_turn.Symbol.{name as #drive·View·next-turn}
-use Rattle.drive.proofs.View.next_turn.Met as g-thm
+use Rattle.drive.proofs.next_turn as g
+use Rattle.drive.proofs.next_turn.Symbol as g-def
+use Rattle.drive.proofs.next_turn.Symbol.{name as #drive·next-turn}
+use Rattle.drive.proofs.next_turn.Met as g-thm
 use Rattle.window.proofs.next_turn_from.Key.{name as #window·next-turn-from}
 use Rattle.window.proofs.next_turn_from as f
 use Rattle.window.proofs.next_turn_from.Statement as stated
@@ -150,10 +150,10 @@ module _ {M : Type 1} (𝓤 : URA M) (H : Heap 𝓤) (A : Atoms 𝓤) (W : Given
 
   -- what the answer is, and what reply holds at the end
   abbrev Gives : Turn → Type 0
-  Gives r = r ≡ nextTurn c i j (d .start) (now (d .bytes)) (length ys)
+  Gives r = r ≡ nextOutTurn c i j (d .start) (now (d .bytes)) (length ys)
 
   abbrev Leaves : List ℕ → Type 0
-  Leaves zs = zs ≡ nextTurnBuffer c i j (d .start) (now (d .bytes)) ys
+  Leaves zs = zs ≡ nextOutBuffer c i j (d .start) (now (d .bytes)) ys
 
   exits : (r : Turn) (u : Val) (zs : List ℕ) → Gives r × Leaves zs → length zs ≡ length ys
       → ent 𝓤 (⋆ 𝓤 H A ((‵ (flft κ q) ⊛ ‵ (flft κ′ q′) ⊛ ‵ ftrue) ∷ ‵ (finally u8 γ zs) ∷ ‵ Own ∷ ‵ (Tn.the-row .own r (u ∷ [])) ∷ [])) (Post u)
@@ -164,7 +164,7 @@ module _ {M : Type 1} (𝓤 : URA M) (H : Heap 𝓤) (A : Atoms 𝓤) (W : Given
       nothing ! $ move ! (1 ∷ 0 ∷ []) $ fjoin ! $ move ! (1 ∷ 0 ∷ []) $ fjoin ! $ owned ! u16 (Is u16) (uint-makes 𝓤 H A W w16) j _ (refl, j-fits) $ fjoin ! $ owned ! u32 (Is u32) (uint-makes 𝓤 H A W w32) i _ (refl, i-fits) $ fjoin ! $
       owned ! Vw.the-row (Is Vw.the-row) (LL.makes Vw.the-type Vw′.the-plain 𝓤 H A) c _ is-c $ fjoin ! $ done !
 
-  module _ (C : Calls 𝓤 H) (Λ : Loops 𝓤 H) (fm : FmC 𝓤 H (W .laws) C) (known : Triple 𝓤 (C #drive·View·next-turn) (G 𝓤 H A mem run)) where
+  module _ (C : Calls 𝓤 H) (Λ : Loops 𝓤 H) (fm : FmC 𝓤 H (W .laws) C) (known : Triple 𝓤 (C #drive·next-turn) (G 𝓤 H A mem run)) where
     walk : Holds (hasTy (T′.mir (named 0)) mach) × WT mach → Room u8 (length ys) → ent 𝓤 (onEntry 𝓤 H A f.signature κs (q, (q′, tt)) a vals) (WpFn 𝓤 H C Λ code.function (vval c ∷ vint w32 i ∷ vint w16 j ∷ mach ∷ s ∷ []) Post)
     walk wt room =
         qed W (raw (onEntry 𝓤 H A f.signature κs (q, (q′, tt)) a vals) ∷ []) ∵ enter ! C Λ code.function (vval c ∷ vint w32 i ∷ vint w16 j ∷ mach ∷ s ∷ []) _ $
@@ -191,7 +191,7 @@ module _ {M : Type 1} (𝓤 : URA M) (H : Heap 𝓤) (A : Atoms 𝓤) (W : Given
         keep ! (1 ∷ 2 ∷ 4 ∷ 0 ∷ []) $ by ! (exits r u (zs .1 .1 .1 .1 .1 .0) (e₁, e₂) l))))))))))))))))))
 
 module _ {M : Type 1} (𝓤 : URA M) (H : Heap 𝓤) (A : Atoms 𝓤) (W : Given 𝓤 H A) (mem : Memory → SProp 𝓤) (run : Routine → Fun 𝓤) where
-  f-walks : (C : Calls 𝓤 H) (Λ : Loops 𝓤 H) → FmC 𝓤 H (W .laws) C → Triple 𝓤 (C #drive·View·next-turn) (G 𝓤 H A mem run)
+  f-walks : (C : Calls 𝓤 H) (Λ : Loops 𝓤 H) → FmC 𝓤 H (W .laws) C → Triple 𝓤 (C #drive·next-turn) (G 𝓤 H A mem run)
       → Walks 𝓤 H A f.ended stayed (WpFn 𝓤 H C Λ code.function) (f.clauses 𝓤 H A mem run)
   f-walks C Λ fm known = walked 𝓤 H A f.ended stayed (f.clauses 𝓤 H A mem run) (WpFn 𝓤 H C Λ code.function)
       (λ κs. (LL.vals Vw.the-type Vw′.the-laws, (uint-vals w32, (uint-vals w16, (LL.vals (D κs) (L κs), (slice-vals, tt)))))) (λ κs. (LL.tells Vw.the-type Vw′.the-laws, (uint-tells w32, (uint-tells w16, (LL.tells (D κs) (L κs), (mut-slice-tells (named 1) (κs .1 .0) u8, tt))))))
@@ -199,7 +199,7 @@ module _ {M : Type 1} (𝓤 : URA M) (H : Heap 𝓤) (A : Atoms 𝓤) (W : Given
       (LL.lawful (D κs) (L κs) 𝓤 H A W .typed (a .1 .1 .1 .0) _ (are .1 .1 .1 .0) .0) (are .1 .1 .1 .1 .0 .0 .1)))
 
 f-meets : {M : Type 1} (𝓤 : URA M) (H : Heap 𝓤) (A : Atoms 𝓤) (W : Given 𝓤 H A) (mem : Memory → SProp 𝓤) (run : Routine → Fun 𝓤) (𝓣 : Tables 𝓤 H)
-    → Triple 𝓤 (𝓣 .C #drive·View·next-turn) (G 𝓤 H A mem run)
+    → Triple 𝓤 (𝓣 .C #drive·next-turn) (G 𝓤 H A mem run)
     → Meets 𝓤 H A f.signature (WpFn 𝓤 H (𝓣 .C) (𝓣 .Λ) code.function) (f.spec 𝓤 H A mem run)
 f-meets 𝓤 H A W mem run 𝓣 known = walk-meets 𝓤 H A f.ended stayed W (goes-none 𝓤 H A W 2 (λ _. Vw.the-row) yes (λ κs x f. refl), (goes-none 𝓤 H A W 2 (λ _. u32) yes (λ κs x f. refl), (goes-none 𝓤 H A W 2 (λ _. u16) yes (λ κs x f. refl), (goes-none 𝓤 H A W 2 B yes (λ κs x f. refl), (goes-gave-slice 𝓤 H A W 2 1 tt (plain (λ _. u8)), tt))))) (f.clauses 𝓤 H A mem run) (WpFn 𝓤 H (𝓣 .C) (𝓣 .Λ) code.function) (WpFn-mono 𝓤 H (W .laws) 𝓣 code.function)
     (f-walks 𝓤 H A W mem run (𝓣 .C) (𝓣 .Λ) (fmOf 𝓤 H (W .laws) 𝓣) known)
@@ -210,4 +210,4 @@ next-turn-from-spec 𝓤 H 𝓜 𝓖 𝓡 =
     entered 𝓤 H (tripleOf 𝓤 H (𝓖 .A) f.signature (f.spec 𝓤 H (𝓖 .A) (𝓜 .mem) (𝓡 .run)))
     (tables 𝓤 H 𝓜 𝓡 code.env .C) (tables 𝓤 H 𝓜 𝓡 code.env .Λ) #window·next-turn-from code.function (code.unfolded 𝓤 H 𝓜 𝓡)
     (f-meets 𝓤 H (𝓖 .A) (givenOf 𝓤 H 𝓜 𝓖) (𝓜 .mem) (𝓡 .run) (tablesOf 𝓤 H 𝓜 (tables 𝓤 H 𝓜 𝓡 code.env))
-    (cited 𝓤 H (G 𝓤 H (𝓖 .A) (𝓜 .mem) (𝓡 .run)) 𝓜 𝓡 code.env #drive·View·next-turn g-def.routine code.calls-drive·View·next-turn (g-thm.met 𝓤 H 𝓜 𝓖 𝓡)))
+    (cited 𝓤 H (G 𝓤 H (𝓖 .A) (𝓜 .mem) (𝓡 .run)) 𝓜 𝓡 code.env #drive·next-turn g-def.routine code.calls-drive·next-turn (g-thm.met 𝓤 H 𝓜 𝓖 𝓡)))
