@@ -32,7 +32,7 @@ use Rattle.link.specs.Record.{Kept, Record, out, held, keptFrom, recordAt, reco
 use Rattle.link.proofs.Ways.{is-logo}
 use Rattle.link.proofs.Records.{recordIn, record-is, end-record}
 use Rattle.link.proofs.Services.{AfterPlogi, AfterService, AfterAbort, effectOf}
-use Rattle.link.proofs.Requests.{link-plogi, link-service, link-out, abts-reply, abts-records}
+use Rattle.link.proofs.Requests.{link-plogi, link-service, link-out, abts-reply, abts-record}
 use Rattle.command.specs.Command.{loggedOut, commandOf}
 use Rattle.command.proofs.Logins.{Alike, alike, Spoken, silent, responds, command-paired, command-spoken, command-unpaired}
 use Rattle.arrival.specs.declared.Kind.{Kind}
@@ -214,7 +214,7 @@ module _ (d : Drive) (w : wellFormed (d .unit) (d .port) ≡ true) (f l : List �
   decided-meets rrq k e x = rw (e ∙ ap kindOf (x .form .routing)) (service-meets 0x12 44 x refl (λ z. absurd (omega arith)) (λ z. absurd (omega arith)) (λ z. absurd (omega arith)))
   decided-meets command k e x = rw (e ∙ ap kindOf (x .routing)) command-meets
   decided-meets abts k e x =
-      rw (e ∙ ap kindOf (x .routing)) (after-abort (recordOf p from) (abtsOf p from (h .«ox_id») (h .«rx_id») .reply) (recordOf (abtsOf p from (h .«ox_id») (h .«rx_id») .port) from) (abts-reply p from (h .«ox_id») (h .«rx_id»)) (abts-records p from (h .«ox_id») (h .«rx_id») from))
+      rw (e ∙ ap kindOf (x .routing)) (after-abort (recordOf p from) (abtsOf p from (h .«ox_id») (h .«rx_id») .reply) (recordOf (abtsOf p from (h .«ox_id») (h .«rx_id») .port) from) (abts-reply p from (h .«ox_id») (h .«rx_id»)) (abts-record p from (h .«ox_id») (h .«rx_id»)))
 
   frame-meets : (q : Request) → Makes from f q → Meets (recordOf p from) q (heardOf (frameIn d f (length l) .said) (frameInBuffer d f l)) (recordOf (frameIn d f (length l) .drive .port) from)
   frame-meets q x =

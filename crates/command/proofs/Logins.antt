@@ -17,10 +17,10 @@ use Rattle.state.specs.declared.Exchange.{Exchange}
 use Rattle.state.specs.declared.Login.{Login}
 use Rattle.state.specs.declared.Port.{Port}
 use Rattle.state.specs.declared.Unit.{Unit}
-use Rattle.state.specs.declared.Change.the-variants.{EndLogin, EndExchangesOf, Reset, Clear}
-use Rattle.state.specs.Changes.{emptyLogin, isUsed, hasAddress, loginAt, withState, withLogin, withExchange, withoutExchanges, endedOf, abortedOf, resetOf, losesTo, clearedBy, changedOf}
+use Rattle.state.specs.declared.Change.the-variants.{EndExchangesOf, Reset, Clear}
+use Rattle.state.specs.Changes.{emptyLogin, isUsed, hasAddress, loginAt, withState, withLogin, withExchange, withoutExchanges, abortedOf, resetOf, losesTo, clearedBy}
 use Rattle.state.specs.Tables.{findLogin, findExchange, freeExchange, loginIn, loginOf, soughtIn}
-use Rattle.state.proofs.Places.{found-has, login-other}
+use Rattle.state.proofs.Places.{login-other}
 use Rattle.formed.specs.Formed.{total, loginFine, apartAddress}
 use Rattle.reply.specs.declared.Reply.{Reply}
 use Rattle.reply.specs.declared.Reply.the-variants as reply
@@ -28,11 +28,11 @@ use Rattle.reply.specs.declared.Response.{Response}
 use Rattle.calls.specs.declared.View.{View}
 use Rattle.calls.specs.declared.Served.{Served}
 use Rattle.calls.specs.View.{viewOf}
-use Rattle.calls.specs.Turn.{Decided, servedAt, servedIn, sentTurn}
+use Rattle.calls.specs.Turn.{Decided, servedAt, servedIn}
 use Rattle.calls.specs.Others.{Elsewhere}
 use Rattle.calls.proofs.Views.{view-seat, view-login}
 use Rattle.calls.proofs.Decisions.{on-cond, on-found}
-use Rattle.calls.proofs.Others.{empty-has, changed-sees, others-see, seat-another}
+use Rattle.calls.proofs.Others.{changed-sees, seat-another}
 use Rattle.command.specs.declared.Cmnd.{Cmnd}
 use Rattle.command.specs.declared.Task.{Task}
 use Rattle.command.specs.declared.Task.the-variants as task
@@ -43,7 +43,6 @@ use Rattle.command.specs.Tests.{askedOf}
 use Rattle.command.specs.Command.{refusedWith, answerOf, answeredAs, executeOf, doneAs, commandedAt, loggedOut, commandOf}
 use Rattle.command.specs.Turn.{taskTurn, commandedTurn, commandTurn}
 use Rattle.command.proofs.Moves.{Moves, same, ends, tells, opens, execute-moves}
-use Rattle.command.proofs.Turns.{command-turn}
 
 -- a login with another attention and other exchanges
 pub data Alike (l : Login) : Login → Type 0 where
@@ -122,15 +121,6 @@ alike-stored p i m below x b = rw (found-stored p i m x b) (by (findLogin p b))
     by (At j) = at-stored p i m below x j
     by Nothing = itself emptyLogin
 
--- where the login of an address ends it is gone
-own-ended : (p : Port) (a : ℕ) → endedOf a (loginOf p a) ≡ emptyLogin
-unfolding loginOf endedOf
-own-ended p a = step (findLogin p a) refl
-  where
-    step : (f : Found) → findLogin p a ≡ f → cond (hasAddress a (loginIn p f)) emptyLogin (loginIn p f) ≡ emptyLogin
-    step (At i) e = rw (found-has p a i e)
-    step Nothing e = rw (empty-has a)
-
 -- a command is answered with nothing or FCP_RSP
 pub data Spoken : Reply → Type 0 where
   silent : Spoken reply.Nothing
@@ -147,21 +137,6 @@ execute-spoken u l place ox c = on-found Says place _ _ (λ j _. responds _) (λ
     by (asked.Refused key sense) = responds _
     by asked.Attention = responds _
     by (asked.Wants e) = on-cond Says (eqb (total e) 0) (responds _) (on-cond Says (readBit (c .bits)) (on-found Says (freeExchange l) _ _ (λ j _. silent) (λ _. responds _)) (responds _))
-
--- after an FCP_CMND: FCP_RSP or nothing, and the sender's login is alike; a drive LOGO, and it is gone; there is no other reply
-abbrev pub AfterCommand : Login → Reply → Login → Type 0
-AfterCommand l reply.Nothing m = Alike l m
-AfterCommand l (reply.Accept a) m = ⊥
-AfterCommand l (reply.Reject x y) m = ⊥
-AfterCommand l reply.Logout m = m ≡ emptyLogin
-AfterCommand l reply.AbortAccept m = ⊥
-AfterCommand l reply.AbortReject m = ⊥
-AfterCommand l (reply.Respond x) m = Alike l m
-AfterCommand l (reply.Data x) m = ⊥
-
-after-spoken : {x : Reply} → Spoken x → (l m : Login) → Alike l m → AfterCommand l x m
-after-spoken silent l m e = e
-after-spoken (responds y) l m e = e
 
 module _ (u : Unit) (p : Port) (h : Header) (f : List ℕ) where
   abbrev from : ℕ
@@ -224,15 +199,6 @@ module _ (u : Unit) (p : Port) (h : Header) (f : List ℕ) where
     pub command-paired : Paired true → Same (commandOf u p h f)
     command-paired r = paired-is r Same commanded-same
 
-    -- the sender's login after an FCP_CMND, by the kind of its reply
-    pub command-login : AfterCommand (loginOf p from) (commandOf u p h f .reply) (loginOf (commandOf u p h f .port) from)
-    unfolding loggedOut
-    command-login = step (eqb (loginOf p from .paired) 1) refl
-      where
-        step : (b : Bool) → Paired b → AfterCommand (loginOf p from) (commandOf u p h f .reply) (loginOf (commandOf u p h f .port) from)
-        step true r = after-spoken (command-spoken r) (loginOf p from) _ (command-paired r from)
-        step false r = rw (command-unpaired r) (changed-sees p d (EndLogin from) from ∙ own-ended p from)
-
   -- as a turn, told on what the sender sees
   module _ (fine : all (loginFine u (p .address)) (p .logins) ≡ true) where
     abbrev v : View
@@ -259,7 +225,3 @@ module _ (u : Unit) (p : Port) (h : Header) (f : List ℕ) where
             let none = seat-another p b from i n seat in
             task-another b (task-mild (cmndOf f) (length f) from) i _ none
             (alike-has (moves-alike (v .unit) (v .login) place (h .«ox_id») (cmndOf f) (execute-moves (v .unit) (v .login) place (h .«ox_id») (cmndOf f))) b ∙ ap (hasAddress b) (view-login u p from fine i seat) ∙ none)
-
-    -- so the login of another address is what the change of every login makes of it
-    pub command-others : pairs apartAddress (p .logins) ≡ true → (b : ℕ) → (b ≡ from → ⊥) → loginOf (commandOf u p h f .port) b ≡ changedOf (commandTurn v h f .change) (loginOf p b)
-    command-others d b n = ap (λ (x : Decided). loginOf (x .port) b) (sym (command-turn u p fine h f)) ∙ others-see p d (sentTurn 0 (commandTurn v h f)) b (command-another b n .0)

@@ -126,7 +126,7 @@ unfolding movedOn withExchange hasAddress
 own-at u p a x start W (Refused y) e = refl
 own-at u p a x start W (Frame i j k) e =
     let at = open-place p a x i j (passed p a x start (length W) i j k e .stands) in
-    same-kept p a i at (withExchange (loginAt p i) j (nextExchange (fullOf p i) (exchangeOf p i j))) (found-has p a i at) refl a
+    same-kept p a i at (withExchange (loginAt p i) j (nextExchange (fullOf p i) (exchangeOf p i j))) (found-has p a i at) refl
 
 abbrev Stays : Drive → ℕ → Answer → Type 0
 Stays d a r = recordOf (r .drive .port) a ≡ recordOf (d .port) a

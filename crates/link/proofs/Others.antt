@@ -1,4 +1,4 @@
--- A request is a turn of its sender alone: it stores nothing of another address and changes nothing of another's record. Assumes nothing.
+-- A request is a turn of its sender alone: it stores nothing of another address, and its change of every login leaves another's record. Assumes nothing.
 use Prim.Native.Nat.{ℕ, _+_}
 use mathlib.Core.Path.{_≡_, refl, sym, ap, _∙_}
 use mathlib.Core.Bool.{true, false, not}
@@ -7,7 +7,7 @@ use lib.Dec.{eqb}
 use lib.ListN.{length, getD}
 use Rattle.tables.specs.declared.Found.{Found}
 use Rattle.tables.specs.declared.Found.the-variants.{At, Nothing}
-use Rattle.tables.specs.Lists.{all, onFound, pairs}
+use Rattle.tables.specs.Lists.{all, onFound}
 use Rattle.wire.specs.Bytes.{num}
 use Rattle.frame.specs.declared.Header.{Header}
 use Rattle.params.specs.declared.Params.{Params}
@@ -19,20 +19,16 @@ use Rattle.state.specs.declared.Port.{Port}
 use Rattle.state.specs.declared.Unit.{Unit}
 use Rattle.state.specs.Changes.{hasAddress, withExchange, endedAt}
 use Rattle.state.specs.Tables.{findLogin, findExchange}
-use Rattle.formed.specs.Formed.{loginFine, apartAddress}
+use Rattle.formed.specs.Formed.{loginFine}
 use Rattle.calls.specs.declared.View.{View}
 use Rattle.calls.specs.declared.Decision.{Decision}
 use Rattle.calls.specs.View.{placeFor, viewOf}
-use Rattle.calls.specs.Turn.{Decided, sentTurn}
 use Rattle.calls.specs.Others.{Another, Elsewhere}
 use Rattle.calls.proofs.Views.{view-seat, view-login, view-place}
 use Rattle.calls.proofs.Decisions.{on-cond, on-found}
 use Rattle.calls.proofs.Others.{other-has, seat-another, place-another}
-use Rattle.link.specs.Link.{sizeOf, newLogin, outcomeAfter, linkOf}
+use Rattle.link.specs.Link.{sizeOf, newLogin, outcomeAfter}
 use Rattle.link.specs.Turn.{outcomeIn, loginDecision, plogiTurn, logoTurn, linkTurn, abortedLogin, abtsTurn}
-use Rattle.link.specs.Record.{recordOf}
-use Rattle.link.proofs.Turns.{link-turn}
-use Rattle.link.proofs.Records.{others-record}
 use Rattle.link.proofs.Services.{new-has, service-other}
 
 -- an exchange that ends leaves the address of its login
@@ -86,8 +82,3 @@ module _ (u : Unit) (p : Port) (fine : all (loginFine u (p .address)) (p .logins
   abts-another =
       on-found Other (v .seat) _ _
       (λ i e. on-cond Other (eqb (h .«rx_id») 0xffff) (stores-other i e _ (aborted-has (v .login) (h .«ox_id») a ∙ login-other i e), tt) (tt, tt)) (λ _. (tt, tt))
-
-  -- so a request leaves the record of every address but its sender's
-  pub others-kept : pairs apartAddress (p .logins) ≡ true → (f : List ℕ) → recordOf (linkOf p h f .port) a ≡ recordOf p a
-  others-kept d f =
-      ap (λ (x : Decided). recordOf (x .port) a) (sym (link-turn u p fine h f)) ∙ others-record p d (sentTurn 0 (linkTurn v h f)) a (link-another f .0) (link-another f .1)

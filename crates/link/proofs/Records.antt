@@ -24,9 +24,9 @@ use Rattle.state.specs.Tables.{isFree, findLogin, freeLogin, loginIn, loginOf}
 use Rattle.state.proofs.Places.{found-has, found-used}
 use Rattle.formed.specs.Formed.{apartAddress}
 use Rattle.calls.specs.declared.Turn.{Turn}
-use Rattle.calls.specs.Turn.{storedAt, portAfter}
+use Rattle.calls.specs.Turn.{portAfter}
 use Rattle.calls.specs.Others.{Another, Leaves}
-use Rattle.calls.proofs.Others.{empty-has, other-has, apart-has, changed-sees, stored-sees, others-see}
+use Rattle.calls.proofs.Others.{empty-has, other-has, apart-has, changed-sees, others-see}
 use Rattle.link.specs.Record.{Record, out, held, recordAt, recordOf, doubted}
 
 -- what "verification time over ends the unproven ones" makes of a record
@@ -135,10 +135,6 @@ left-in a l own (EndExchangesOf b) h = either-in l (hasAddress b l) _ _ refl ref
 left-in a l own Reset h = either-in l (isUsed l) _ _ refl refl
 left-in a l own (Clear b) h = either-in l (isUsed l) _ _ (either-in l (losesTo b l) _ _ refl refl) refl
 
--- a login stored, neither of the address nor where the address's stood
-pub stored-record : (p : Port) (a : ℕ) (at : Found) (l : Login) → Another p a at l → recordOf (storedAt at l p) a ≡ recordOf p a
-stored-record p a at l o = record-is (storedAt at l p) a ∙ ap recordIn (stored-sees p a at l o) ∙ sym (record-is p a)
-
 -- changes of every login, where the addresses are distinct
 module _ (p : Port) (d : pairs apartAddress (p .logins) ≡ true) where
   changed-record : (c : Change) (a : ℕ) → recordOf (changedAll c p) a ≡ recordIn (changedOf c (loginOf p a))
@@ -160,11 +156,7 @@ module _ (p : Port) (d : pairs apartAddress (p .logins) ≡ true) where
   pub over-record : (a : ℕ) → recordOf (changedAll EndUnproven p) a ≡ expired (recordOf p a)
   over-record a = changed-record EndUnproven a ∙ verified-in (loginOf p a) ∙ ap expired (sym (record-is p a))
 
-  -- any other change: the record is the old one
-  pub left-record : (a : ℕ) (c : Change) → Leaves a c → recordOf (changedAll c p) a ≡ recordOf p a
-  left-record a c h = changed-record c a ∙ left-in a (loginOf p a) (login-has p a) c h ∙ sym (record-is p a)
-
-  -- and after any turn of another sender that makes such a change
+  -- after any turn of another sender whose change leaves it: the record is the old one
   pub others-record : (t : Turn) (a : ℕ) → Another p a (t .at) (t .login) → Leaves a (t .change) → recordOf (portAfter p t) a ≡ recordOf p a
   others-record t a o h = record-is (portAfter p t) a ∙ ap recordIn (others-see p d t a o) ∙ left-in a (loginOf p a) (login-has p a) (t .change) h ∙ sym (record-is p a)
 

@@ -30,15 +30,18 @@ use Rattle.link.proofs.Records.{out-missing, missing-out, found-record}
 use Rattle.link.proofs.Services.{AfterPlogi, AfterLogo, AfterService, AfterAbort, effectOf, service-record, exchange-kept, plogi-record, logo-record}
 
 module _ (p : Port) (a ox rx : ℕ) where
-  -- ABTS leaves the record of every address as it was
-  pub abts-records : (b : ℕ) → recordOf (abtsOf p a ox rx .port) b ≡ recordOf p b
+  -- ABTS leaves the record of its sender
+  pub abts-record : recordOf (abtsOf p a ox rx .port) a ≡ recordOf p a
   unfolding abtsOf
-  abts-records b = by (lookupOf p a ox) refl
+  abts-record = by (lookupOf p a ox) refl
     where
-      by : (s : Standing) → lookupOf p a ox ≡ s → recordOf (abortedAt s rx p .port) b ≡ recordOf p b
+      Stays : Decided → Type 0
+      Stays d = recordOf (d .port) a ≡ recordOf p a
+
+      by : (s : Standing) → lookupOf p a ox ≡ s → Stays (abortedAt s rx p)
       by NoLogin e = refl
-      by (NoExchange i) e = on-cond (λ (d : Decided). recordOf (d .port) b ≡ recordOf p b) (eqb rx 0xffff) refl refl
-      by (Open i j) e = on-cond (λ (d : Decided). recordOf (d .port) b ≡ recordOf p b) (eqb rx 0xffff) (exchange-kept p a i (open-place p a ox i j e) j b) refl
+      by (NoExchange i) e = on-cond Stays (eqb rx 0xffff) refl refl
+      by (Open i j) e = on-cond Stays (eqb rx 0xffff) (exchange-kept p a i (open-place p a ox i j e) j) refl
 
   -- ABTS: a drive LOGO where the record is `out`, BA_ACC or BA_RJT where it is not
   pub abts-reply : AfterAbort (recordOf p a) (abtsOf p a ox rx .reply)

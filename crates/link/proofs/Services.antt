@@ -6,7 +6,7 @@ use mathlib.Core.List.{List}
 use native.Mathlib.Omega.{arith}
 use lib.Dec.{eqb}
 use lib.ListN.{getD}
-use borrow.Author.Tests.{eqb-true, eqb-false, eq-eqb}
+use borrow.Author.Tests.{eq-eqb}
 use Rattle.tables.specs.declared.Found.{Found}
 use Rattle.tables.specs.declared.Found.the-variants.{At, Nothing}
 use Rattle.tables.specs.Lists.{onFound, pairs}
@@ -28,12 +28,12 @@ use Rattle.reply.specs.declared.Accepted.{Accepted}
 use Rattle.reply.specs.declared.Accepted.the-variants as accepted
 use Rattle.calls.specs.declared.Served.{Served}
 use Rattle.calls.specs.Turn.{decidedAs, servedAs, servedAt}
-use Rattle.calls.proofs.Others.{empty-has, other-has, seat-another}
+use Rattle.calls.proofs.Others.{empty-has}
 use Rattle.link.specs.declared.Outcome.{Outcome}
 use Rattle.link.specs.declared.Outcome.the-variants.{Place, Rejected}
 use Rattle.link.specs.Link.{newLogin, outcomeAfter, outcomeOf, outcomeReply, outcomePort, plogiOf, namesDiffer, provenBy, pdiscOf, adiscOf, logoOf, pairFine, pageFine, prliOf, prloOf, rrqOf, serviceOf}
 use Rattle.link.specs.Record.{Record, out, held, keptFrom, recordAt, recordOf, proved, paired, unpaired}
-use Rattle.link.proofs.Records.{found-record, stored-record, end-record, store-record, drop-record, place-record}
+use Rattle.link.proofs.Records.{found-record, end-record, store-record, drop-record, place-record}
 
 -- after PLOGI: ACC, and the record is unpaired, proven and of the parameters sent; LS_RJT, and it is `out`; there is no other reply
 abbrev pub AfterPlogi : Params → Reply → Record → Type 0
@@ -173,18 +173,14 @@ module _ (p : Port) (a i : ℕ) (at : findLogin p a ≡ At i) where
   does-record d (rejects x y) = store-record p a i at (loginAt p i) (found-has p a i at) ∙ sym (found-record p a i at)
   does-record d ends = drop-record p a i at d
 
-  -- a login of the same address that says the same leaves every record as it was
-  pub same-kept : (m : Login) → hasAddress a m ≡ true → recordAt m ≡ recordAt (loginAt p i) → (b : ℕ) → recordOf (withLogin p i m) b ≡ recordOf p b
-  same-kept m h e b = step (eqb b a) refl
-    where
-      step : (x : Bool) → eqb b a ≡ x → recordOf (withLogin p i m) b ≡ recordOf p b
-      step true k = ap (recordOf (withLogin p i m)) (eqb-true b a k) ∙ store-record p a i at m h ∙ e ∙ sym (found-record p a i at) ∙ ap (recordOf p) (sym (eqb-true b a k))
-      step false k = let n = eqb-false b a k in stored-record p b (At i) m (seat-another p b a i n at, other-has b a m n h)
+  -- a login of the same address that says the same leaves the record as it was
+  pub same-kept : (m : Login) → hasAddress a m ≡ true → recordAt m ≡ recordAt (loginAt p i) → recordOf (withLogin p i m) a ≡ recordOf p a
+  same-kept m h e = store-record p a i at m h ∙ e ∙ sym (found-record p a i at)
 
-  -- an exchange that ends leaves every record as it was
-  pub exchange-kept : (j b : ℕ) → recordOf (withLogin p i (endedAt (loginAt p i) j)) b ≡ recordOf p b
+  -- and so does an exchange that ends
+  pub exchange-kept : (j : ℕ) → recordOf (withLogin p i (endedAt (loginAt p i) j)) a ≡ recordOf p a
   unfolding withExchange hasAddress
-  exchange-kept j b = same-kept (endedAt (loginAt p i) j) (found-has p a i at) refl b
+  exchange-kept j = same-kept (endedAt (loginAt p i) j) (found-has p a i at) refl
 
   module _ (d : pairs apartAddress (p .logins) ≡ true) where
     -- the service of any code

@@ -12,16 +12,14 @@ use Rattle.tables.specs.Lists.{all, onFound}
 use Rattle.refusal.specs.declared.Refusal.{Refusal}
 use Rattle.refusal.specs.declared.Refusal.the-variants.{NoExchange, Unproven, BadWindow}
 use Rattle.refusal.specs.declared.Said.the-variants as said
-use Rattle.state.specs.declared.Change.{Change}
 use Rattle.state.specs.declared.Change.the-variants.{Keep}
 use Rattle.state.specs.declared.Port.{Port}
 use Rattle.state.specs.declared.Unit.{Unit}
 use Rattle.state.specs.declared.Standing.{Standing}
-use Rattle.state.specs.Changes.{ownOf, hasAddress, loginAt, withExchange, changedOf}
-use Rattle.state.specs.Tables.{findExchange, loginOf, standingIn}
+use Rattle.state.specs.Changes.{ownOf, hasAddress, loginAt, withExchange}
+use Rattle.state.specs.Tables.{findExchange, standingIn}
 use Rattle.state.proofs.Places.{open-place}
-use Rattle.formed.specs.Formed.{loginFine, wellFormed}
-use Rattle.formed.proofs.Parts.{formed-parts}
+use Rattle.formed.specs.Formed.{loginFine}
 use Rattle.reply.specs.Reply.{sentOf, writtenOf}
 use Rattle.calls.specs.declared.View.{View}
 use Rattle.calls.specs.declared.Turn.{Turn}
@@ -30,8 +28,8 @@ use Rattle.calls.specs.Turn.{refusedTurn, AtBelow}
 use Rattle.calls.specs.Others.{Another}
 use Rattle.calls.proofs.Views.{at-below, view-unit, view-own, view-seat, view-login, lookup-seen}
 use Rattle.calls.proofs.Decisions.{on-cond, on-found, keep-is}
-use Rattle.calls.proofs.Others.{seat-another, others-see}
-use Rattle.serve.specs.Next.{windowPlace, exchangeOf, fullOf, sourceOf, Step, Refused, Frame, openStep, stepAt, stepOf, frameBytes, movedOn, Next, nextAt, nextOf, bufferAt, nextBuffer}
+use Rattle.calls.proofs.Others.{seat-another}
+use Rattle.serve.specs.Next.{windowPlace, exchangeOf, fullOf, sourceOf, Step, Refused, Frame, openStep, stepAt, stepOf, frameBytes, movedOn, nextAt, nextOf, bufferAt, nextBuffer}
 use Rattle.serve.specs.Turn.{fullIn, exchangeIn, askedIn, replyIn, frameTurn, onOpen, nextTurn, nextTurnBuffer, nextBy}
 use Rattle.serve.proofs.Steps.{passed}
 
@@ -124,12 +122,3 @@ unfolding hasAddress withExchange
 next-another u p b x start W fine room a n =
     turn-cases (viewOf u p b) b x start W room (λ t. Another p a (t .at) (t .login)) (λ _. tt)
     (λ i j k s. let o = seat-another p a b i n (sym (view-seat u p b fine) ∙ s) in (o, rw (seen u p b x start W fine i s) o))
-
--- so the login of a, and its exchanges, are what they were
-pub next-others : (u : Unit) (p : Port) (b x start : ℕ) (W : List ℕ) → wellFormed u p ≡ true → (a : ℕ) → (a ≡ b → ⊥) → loginOf (nextOf u p b x start W .port) a ≡ loginOf p a
-next-others u p b x start W w a n =
-    let f = formed-parts w in
-    let t = nextTurn (viewOf u p b) b x start W 2136 in
-    ap (λ (m : Next). loginOf (m .port) a) (sym (next-turn u p b x start W (f .logins) 2136 refl))
-    ∙ others-see p (f .addresses) t a (next-another u p b x start W (f .logins) 2136 a n)
-    ∙ ap (λ (c : Change). changedOf c (loginOf p a)) (next-keeps (viewOf u p b) b x start W 2136)
