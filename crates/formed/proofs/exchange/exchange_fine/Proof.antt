@@ -1,10 +1,10 @@
--- `formed::exchange_fine` meets its contract: each test that was made is one of the definition. Assumes nothing.
+-- `formed::exchange::exchange_fine` meets its contract: each test that was made is one of the definition. Assumes nothing.
 use mathlib.Core.Path.{sym, _∙_}
 use borrow.Author.Tests.{eq-eqb, ne-eqb, le-leb, lt-leb}
 use Rattle.formed.specs.Formed.{exchangeFine}
 use borrow.Author.Needs.{needs}
-use Rattle.formed.proofs.exchange_fine.Statement.{statement}
-use Rattle.formed.proofs.exchange_fine.Tie as tie
+use Rattle.formed.proofs.exchange.exchange_fine.Statement.{statement}
+use Rattle.formed.proofs.exchange.exchange_fine.Tie as tie
 
 returns : tie.Need-returns
 unfolding exchangeFine

@@ -1,9 +1,9 @@
--- `formed::exchange_key` meets its contract: what is said of the place makes its key. Assumes nothing.
+-- `formed::exchange::exchange_key` meets its contract: what is said of the place makes its key. Assumes nothing.
 use mathlib.Core.Path.{_∙_}
 use Rattle.formed.specs.Keys.{exchangeKey}
 use borrow.Author.Needs.{needs}
-use Rattle.formed.proofs.exchange_key.Statement.{statement}
-use Rattle.formed.proofs.exchange_key.Tie as tie
+use Rattle.formed.proofs.exchange.exchange_key.Statement.{statement}
+use Rattle.formed.proofs.exchange.exchange_key.Tie as tie
 
 returns : tie.Need-returns
 unfolding exchangeKey

@@ -1,12 +1,12 @@
--- `formed::used_fine` meets its contract: each test that was made is one of the definition. Assumes nothing.
+-- `formed::login::used_fine` meets its contract: each test that was made is one of the definition. Assumes nothing.
 use native.Mathlib.Omega.{arith}
 use mathlib.Core.Path.{sym, _∙_}
 use Rattle.formed.proofs.Sizes.{stored-size}
 use Rattle.formed.proofs.Keys.{exchanges-are}
 use Rattle.formed.specs.Formed.{usedFine}
 use borrow.Author.Needs.{needs}
-use Rattle.formed.proofs.used_fine.Statement.{statement}
-use Rattle.formed.proofs.used_fine.Tie as tie
+use Rattle.formed.proofs.login.used_fine.Statement.{statement}
+use Rattle.formed.proofs.login.used_fine.Tie as tie
 
 exchange-keys-requires : tie.Need-exchange-keys-requires
 exchange-keys-requires c κs =

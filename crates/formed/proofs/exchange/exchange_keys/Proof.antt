@@ -1,4 +1,4 @@
--- `formed::exchange_keys` meets its contract: a loop that stores the key of each exchange. Assumes nothing.
+-- `formed::exchange::exchange_keys` meets its contract: a loop that stores the key of each exchange. Assumes nothing.
 use Prim.Native.Nat.{_-_}
 use mathlib.Core.Path.{_≡_, refl}
 use mathlib.Core.List.{map}
@@ -7,8 +7,8 @@ use borrow.Author.Needs.{needs}
 use Rattle.tables.proofs.Loops.{Filled, fill-starts, fill-on, fill-out}
 use Rattle.state.specs.Changes.{emptyExchange}
 use Rattle.formed.specs.Keys.{exchangeKey}
-use Rattle.formed.proofs.exchange_keys.Statement.{statement}
-use Rattle.formed.proofs.exchange_keys.Tie as tie
+use Rattle.formed.proofs.exchange.exchange_keys.Statement.{statement}
+use Rattle.formed.proofs.exchange.exchange_keys.Tie as tie
 
 abbrev Inv-loop : tie.InvT-loop
 Inv-loop u full paired t k₀ i₀ k i = Filled emptyExchange (exchangeKey u full paired) (map (exchangeKey u full paired) t) k t 8 i

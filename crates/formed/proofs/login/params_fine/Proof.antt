@@ -1,10 +1,10 @@
--- `formed::params_fine` meets its contract: each test that was made is one of the definition. Assumes nothing.
+-- `formed::login::params_fine` meets its contract: each test that was made is one of the definition. Assumes nothing.
 use mathlib.Core.Path.{sym, _∙_}
 use borrow.Author.Tests.{eq-eqb, ne-eqb}
 use Rattle.formed.specs.Formed.{paramsFine}
 use borrow.Author.Needs.{needs}
-use Rattle.formed.proofs.params_fine.Statement.{statement}
-use Rattle.formed.proofs.params_fine.Tie as tie
+use Rattle.formed.proofs.login.params_fine.Statement.{statement}
+use Rattle.formed.proofs.login.params_fine.Tie as tie
 
 returns : tie.Need-returns
 unfolding paramsFine

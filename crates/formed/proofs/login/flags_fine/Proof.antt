@@ -1,8 +1,8 @@
--- `formed::flags_fine` meets its contract: each test that was made is one of the definition. Assumes nothing.
+-- `formed::login::flags_fine` meets its contract: each test that was made is one of the definition. Assumes nothing.
 use borrow.Author.Tests.{lt-leb, le-leb, eq-eqb, ne-eqb}
 use Rattle.formed.specs.Formed.{flagsFine}
-use Rattle.formed.proofs.flags_fine.Statement.{statement}
-use Rattle.formed.proofs.flags_fine.Tie as tie
+use Rattle.formed.proofs.login.flags_fine.Statement.{statement}
+use Rattle.formed.proofs.login.flags_fine.Tie as tie
 
 returns : tie.Need-returns
 unfolding flagsFine

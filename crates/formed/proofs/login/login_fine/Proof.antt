@@ -1,9 +1,9 @@
--- `formed::login_fine` meets its contract: each test that was made is one of the definition. Assumes nothing.
+-- `formed::login::login_fine` meets its contract: each test that was made is one of the definition. Assumes nothing.
 use borrow.Author.Tests.{eq-eqb, ne-eqb}
 use Rattle.formed.specs.Formed.{loginFine}
 use borrow.Author.Needs.{needs}
-use Rattle.formed.proofs.login_fine.Statement.{statement}
-use Rattle.formed.proofs.login_fine.Tie as tie
+use Rattle.formed.proofs.login.login_fine.Statement.{statement}
+use Rattle.formed.proofs.login.login_fine.Tie as tie
 
 returns : tie.Need-returns
 unfolding loginFine

@@ -1,10 +1,10 @@
--- `formed::read_fits` meets its contract: each test that was made is one of the definition. Assumes nothing.
+-- `formed::exchange::read_fits` meets its contract: each test that was made is one of the definition. Assumes nothing.
 use borrow.Author.Tests.{eq-eqb, ne-eqb, le-leb, lt-leb, lt-ltb, le-ltb}
 use Rattle.formed.proofs.Orders.{fits-after}
 use Rattle.formed.specs.Formed.{readFits}
 use borrow.Author.Needs.{needs}
-use Rattle.formed.proofs.read_fits.Statement.{statement}
-use Rattle.formed.proofs.read_fits.Tie as tie
+use Rattle.formed.proofs.exchange.read_fits.Statement.{statement}
+use Rattle.formed.proofs.exchange.read_fits.Tie as tie
 
 returns : tie.Need-returns
 unfolding readFits

@@ -1,4 +1,4 @@
--- `formed::sent_fits` meets its contract: each test that was made is one of the definition, by one quotient. Assumes nothing.
+-- `formed::exchange::sent_fits` meets its contract: each test that was made is one of the definition, by one quotient. Assumes nothing.
 use mathlib.Core.Path.{sym}
 use native.Mathlib.Nat.{div-mul-le-self}
 use native.Mathlib.Omega.{arith}
@@ -6,8 +6,8 @@ use borrow.Author.Tests.{lt-leb}
 use Rattle.formed.specs.Formed.{sentFits}
 use Rattle.formed.proofs.Advance.{sent-whole, frames-few, sent-short, sent-all}
 use borrow.Author.Needs.{needs}
-use Rattle.formed.proofs.sent_fits.Statement.{statement}
-use Rattle.formed.proofs.sent_fits.Tie as tie
+use Rattle.formed.proofs.exchange.sent_fits.Statement.{statement}
+use Rattle.formed.proofs.exchange.sent_fits.Tie as tie
 
 returns : tie.Need-returns
 unfolding sentFits

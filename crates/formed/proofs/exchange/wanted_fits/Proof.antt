@@ -1,9 +1,9 @@
--- `formed::wanted_fits` meets its contract: each test that was made is one of the definition. Assumes nothing.
+-- `formed::exchange::wanted_fits` meets its contract: each test that was made is one of the definition. Assumes nothing.
 use borrow.Author.Tests.{eq-eqb, ne-eqb, le-leb, lt-leb}
 use Rattle.formed.specs.Formed.{wantedFits}
 use borrow.Author.Needs.{needs}
-use Rattle.formed.proofs.wanted_fits.Statement.{statement}
-use Rattle.formed.proofs.wanted_fits.Tie as tie
+use Rattle.formed.proofs.exchange.wanted_fits.Statement.{statement}
+use Rattle.formed.proofs.exchange.wanted_fits.Tie as tie
 
 returns : tie.Need-returns
 unfolding wantedFits

@@ -1,9 +1,9 @@
--- `formed::address_fine` meets its contract: each test that was made is one of the definition. Assumes nothing.
+-- `formed::login::address_fine` meets its contract: each test that was made is one of the definition. Assumes nothing.
 use mathlib.Core.Path.{sym, _∙_}
 use Rattle.formed.specs.Formed.{addressFine}
 use borrow.Author.Needs.{needs}
-use Rattle.formed.proofs.address_fine.Statement.{statement}
-use Rattle.formed.proofs.address_fine.Tie as tie
+use Rattle.formed.proofs.login.address_fine.Statement.{statement}
+use Rattle.formed.proofs.login.address_fine.Tie as tie
 
 returns : tie.Need-returns
 unfolding addressFine

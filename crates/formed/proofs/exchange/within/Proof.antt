@@ -1,7 +1,7 @@
--- `formed::within` meets its contract: each test that was made is one of the definition. Assumes nothing.
+-- `formed::exchange::within` meets its contract: each test that was made is one of the definition. Assumes nothing.
 use borrow.Author.Tests.{le-leb, lt-leb}
-use Rattle.formed.proofs.within.Statement.{statement}
-use Rattle.formed.proofs.within.Tie as tie
+use Rattle.formed.proofs.exchange.within.Statement.{statement}
+use Rattle.formed.proofs.exchange.within.Tie as tie
 
 returns : tie.Need-returns
 returns c = rw (le-leb _ _ (c .if1 .taken))
