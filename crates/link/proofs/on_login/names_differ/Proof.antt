@@ -1,9 +1,9 @@
--- `link::names_differ` meets its contract. Assumes nothing.
+-- `link::on_login::names_differ` meets its contract. Assumes nothing.
 use mathlib.Core.Path.{sym, _∙_}
 use Rattle.link.specs.Link.{namesDiffer}
 use borrow.Author.Needs.{needs}
-use Rattle.link.proofs.names_differ.Statement.{statement}
-use Rattle.link.proofs.names_differ.Tie as tie
+use Rattle.link.proofs.on_login.names_differ.Statement.{statement}
+use Rattle.link.proofs.on_login.names_differ.Tie as tie
 
 returns : tie.Need-returns
 unfolding namesDiffer

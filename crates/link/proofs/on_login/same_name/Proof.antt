@@ -1,4 +1,4 @@
--- `link::same_name` meets its contract: two lists compared place by place, by the laws of it. Assumes nothing.
+-- `link::on_login::same_name` meets its contract: two lists compared place by place, by the laws of it. Assumes nothing.
 use Prim.Native.Nat.{_-_}
 use mathlib.Core.Path.{_≡_, refl}
 use native.Mathlib.Omega.{arith}
@@ -6,8 +6,8 @@ use lib.ListN.{length}
 use borrow.Author.Needs.{needs}
 use Rattle.tables.specs.Lists.{same}
 use Rattle.tables.proofs.Loops.{Compared, same-on, same-fails, same-out}
-use Rattle.link.proofs.same_name.Statement.{statement}
-use Rattle.link.proofs.same_name.Tie as tie
+use Rattle.link.proofs.on_login.same_name.Statement.{statement}
+use Rattle.link.proofs.on_login.same_name.Tie as tie
 
 abbrev Inv-loop : tie.InvT-loop
 Inv-loop a b i₀ i = Compared (same a b) a b 8 i

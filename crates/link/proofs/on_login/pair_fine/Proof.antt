@@ -1,10 +1,10 @@
--- `link::pair_fine` meets its contract. Assumes nothing.
+-- `link::on_login::pair_fine` meets its contract. Assumes nothing.
 use mathlib.Core.Path.{sym, _∙_}
 use borrow.Author.Tests.{eq-eqb, ne-eqb}
 use Rattle.link.specs.Link.{pairFine}
 use borrow.Author.Needs.{needs}
-use Rattle.link.proofs.pair_fine.Statement.{statement}
-use Rattle.link.proofs.pair_fine.Tie as tie
+use Rattle.link.proofs.on_login.pair_fine.Statement.{statement}
+use Rattle.link.proofs.on_login.pair_fine.Tie as tie
 
 returns : tie.Need-returns
 unfolding pairFine

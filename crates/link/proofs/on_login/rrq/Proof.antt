@@ -1,10 +1,10 @@
--- `link::rrq` meets its contract. Assumes nothing.
+-- `link::on_login::rrq` meets its contract. Assumes nothing.
 use mathlib.Core.Path.{sym, _∙_}
 use borrow.Author.Tests.{eq-eqb, ne-eqb}
 use Rattle.link.specs.Link.{rrqOf}
 use borrow.Author.Needs.{needs}
-use Rattle.link.proofs.rrq.Statement.{statement}
-use Rattle.link.proofs.rrq.Tie as tie
+use Rattle.link.proofs.on_login.rrq.Statement.{statement}
+use Rattle.link.proofs.on_login.rrq.Tie as tie
 
 returns : tie.Need-returns
 unfolding rrqOf

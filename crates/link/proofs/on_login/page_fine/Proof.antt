@@ -1,8 +1,8 @@
--- `link::page_fine` meets its contract. Assumes nothing.
+-- `link::on_login::page_fine` meets its contract. Assumes nothing.
 use borrow.Author.Tests.{eq-eqb, ne-eqb}
 use Rattle.link.specs.Link.{pageFine}
-use Rattle.link.proofs.page_fine.Statement.{statement}
-use Rattle.link.proofs.page_fine.Tie as tie
+use Rattle.link.proofs.on_login.page_fine.Statement.{statement}
+use Rattle.link.proofs.on_login.page_fine.Tie as tie
 
 returns : tie.Need-returns
 unfolding pageFine

@@ -1,9 +1,9 @@
--- `link::prli` meets its contract. Assumes nothing.
+-- `link::on_login::prli` meets its contract. Assumes nothing.
 use mathlib.Core.Path.{sym, _∙_}
 use Rattle.link.specs.Link.{prliOf}
 use borrow.Author.Needs.{needs}
-use Rattle.link.proofs.prli.Statement.{statement}
-use Rattle.link.proofs.prli.Tie as tie
+use Rattle.link.proofs.on_login.prli.Statement.{statement}
+use Rattle.link.proofs.on_login.prli.Tie as tie
 
 returns : tie.Need-returns
 unfolding prliOf

@@ -1,12 +1,12 @@
--- `link::adisc` meets its contract. Assumes nothing.
+-- `link::on_login::adisc` meets its contract. Assumes nothing.
 use mathlib.Core.Path.{sym, ap, _∙_}
 use borrow.Author.Tests.{eq-eqb, ne-eqb}
 use Rattle.reply.specs.declared.Reply.the-variants as reply
 use Rattle.calls.specs.Turn.{servedAs}
 use Rattle.link.specs.Link.{adiscOf}
 use borrow.Author.Needs.{needs}
-use Rattle.link.proofs.adisc.Statement.{statement}
-use Rattle.link.proofs.adisc.Tie as tie
+use Rattle.link.proofs.on_login.adisc.Statement.{statement}
+use Rattle.link.proofs.on_login.adisc.Tie as tie
 
 returns : tie.Need-returns
 unfolding adiscOf

@@ -1,4 +1,4 @@
--- `link::prlo` meets its contract. Assumes nothing.
+-- `link::on_login::prlo` meets its contract. Assumes nothing.
 use mathlib.Core.Path.{sym, ap, _∙_}
 use Rattle.reply.specs.declared.Reply.the-variants as reply
 use Rattle.reply.specs.declared.Accepted.the-variants as accepted
@@ -6,8 +6,8 @@ use Rattle.state.specs.Changes.{withPaired}
 use Rattle.calls.specs.Turn.{servedAs}
 use Rattle.link.specs.Link.{prloOf}
 use borrow.Author.Needs.{needs}
-use Rattle.link.proofs.prlo.Statement.{statement}
-use Rattle.link.proofs.prlo.Tie as tie
+use Rattle.link.proofs.on_login.prlo.Statement.{statement}
+use Rattle.link.proofs.on_login.prlo.Tie as tie
 
 returns : tie.Need-returns
 unfolding prloOf

@@ -1,9 +1,9 @@
--- `link::service` meets its contract: a service for each code. Assumes nothing.
+-- `link::on_login::service` meets its contract: a service for each code. Assumes nothing.
 use borrow.Author.Tests.{eq-eqb, ne-eqb}
 use Rattle.link.specs.Link.{serviceOf}
 use borrow.Author.Needs.{needs}
-use Rattle.link.proofs.service.Statement.{statement}
-use Rattle.link.proofs.service.Tie as tie
+use Rattle.link.proofs.on_login.service.Statement.{statement}
+use Rattle.link.proofs.on_login.service.Tie as tie
 
 returns : tie.Need-returns
 unfolding serviceOf

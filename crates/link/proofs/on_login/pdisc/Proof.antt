@@ -1,11 +1,11 @@
--- `link::pdisc` meets its contract. Assumes nothing.
+-- `link::on_login::pdisc` meets its contract. Assumes nothing.
 use mathlib.Core.Path.{sym, ap, _∙_}
 use Rattle.reply.specs.declared.Reply.the-variants as reply
 use Rattle.calls.specs.Turn.{servedAs}
 use Rattle.link.specs.Link.{pdiscOf}
 use borrow.Author.Needs.{needs}
-use Rattle.link.proofs.pdisc.Statement.{statement}
-use Rattle.link.proofs.pdisc.Tie as tie
+use Rattle.link.proofs.on_login.pdisc.Statement.{statement}
+use Rattle.link.proofs.on_login.pdisc.Tie as tie
 
 returns : tie.Need-returns
 unfolding pdiscOf
