@@ -1,4 +1,4 @@
--- `recording::untouched` meets its contract: the loop of a test at each byte. Assumes nothing.
+-- `recording::lines::untouched` meets its contract: the loop of a test at each byte. Assumes nothing.
 use mathlib.Core.Path.{refl}
 use Prim.Native.Nat.{_-_}
 use native.Mathlib.Omega.{arith}
@@ -7,8 +7,8 @@ use lib.ListN.{length}
 use borrow.Author.Tests.{eq-eqb, ne-eqb}
 use Rattle.tables.proofs.Loops.{Tested, test-on, test-fails, test-out}
 use Rattle.recording.specs.Answers.{allFill}
-use Rattle.recording.proofs.untouched.Statement.{statement}
-use Rattle.recording.proofs.untouched.Tie as tie
+use Rattle.recording.proofs.lines.untouched.Statement.{statement}
+use Rattle.recording.proofs.lines.untouched.Tie as tie
 
 abbrev Inv-loop : tie.InvT-loop
 Inv-loop lent i₀ i = Tested 0 (allFill lent) (λ b rest. eqb b 0x5a) lent (length lent) i

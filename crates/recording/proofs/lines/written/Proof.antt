@@ -1,12 +1,12 @@
--- `recording::written` meets its contract: what is put at the front of 4,100 zeros. Assumes nothing.
+-- `recording::lines::written` meets its contract: what is put at the front of 4,100 zeros. Assumes nothing.
 use mathlib.Core.Path.{_≡_, sym, ap, _∙_}
 use native.Mathlib.Omega.{arith}
 use lib.ListN.{length, replicate}
 use lib.Seq.{length-take-le}
 use Rattle.wire.proofs.Fronts.{length-onto}
 use borrow.Author.Needs.{needs}
-use Rattle.recording.proofs.written.Statement.{statement}
-use Rattle.recording.proofs.written.Tie as tie
+use Rattle.recording.proofs.lines.written.Statement.{statement}
+use Rattle.recording.proofs.lines.written.Tie as tie
 
 returns : tie.Need-returns
 returns c =

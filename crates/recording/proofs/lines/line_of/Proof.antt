@@ -1,12 +1,12 @@
--- `recording::line_of` meets its contract: a law for each of what may be said. Assumes nothing.
+-- `recording::lines::line_of` meets its contract: a law for each of what may be said. Assumes nothing.
 use mathlib.Core.Path.{_≡_, sym}
 use native.Mathlib.Omega.{arith}
 use lib.ListN.{length, take}
 use lib.Seq.{length-take-le}
 use Rattle.recording.proofs.Laws.{line-sent, line-refused}
 use borrow.Author.Needs.{needs}
-use Rattle.recording.proofs.line_of.Statement.{statement}
-use Rattle.recording.proofs.line_of.Tie as tie
+use Rattle.recording.proofs.lines.line_of.Statement.{statement}
+use Rattle.recording.proofs.lines.line_of.Tie as tie
 
 slice-aggregate-written : tie.Need-slice-aggregate-written
 slice-aggregate-written c = sym (length-take-le _ _ (c .before .least .ensures .2))

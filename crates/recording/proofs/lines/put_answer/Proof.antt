@@ -1,4 +1,4 @@
--- `recording::put_answer` meets its contract: three writers, each lent what the one before it left. Assumes nothing.
+-- `recording::lines::put_answer` meets its contract: three writers, each lent what the one before it left. Assumes nothing.
 use mathlib.Core.Path.{_≡_, refl, sym, ap, _∙_}
 use Prim.Native.Nat.{_-_, _+_}
 use native.Mathlib.Omega.{arith}
@@ -10,8 +10,8 @@ use Rattle.wire.proofs.Parts.{wrote-then}
 use Rattle.wire.specs.Bytes.{Wrote, bytes}
 use Rattle.recording.specs.Answers.{answer, flagOf}
 use borrow.Author.Needs.{needs}
-use Rattle.recording.proofs.put_answer.Statement.{statement}
-use Rattle.recording.proofs.put_answer.Tie as tie
+use Rattle.recording.proofs.lines.put_answer.Statement.{statement}
+use Rattle.recording.proofs.lines.put_answer.Tie as tie
 
 returns : tie.Need-returns
 unfolding answer
