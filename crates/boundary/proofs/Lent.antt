@@ -28,10 +28,13 @@ use Rattle.state.proofs.Port as Po
 use Rattle.state.proofs.Port.Laws as Po′
 use Rattle.state.proofs.Unit as Un
 use Rattle.state.proofs.Unit.Laws as Un′
+use Rattle.formed.specs.declared.Key.{Key}
+use Rattle.calls.specs.declared.Turn.{Turn}
 use Rattle.drive.specs.declared.Drive.{Drive}
 use Rattle.drive.proofs.Drive as Dr
 use Rattle.drive.proofs.Drive.Laws as Dr′
 use Rattle.boundary.specs.Boundary.{codeOf}
+use Rattle.boundary.specs.Settled.{settledOf}
 use Rattle.boundary.proofs.code as n
 
 -- the machine values of a drive, of a port, of a unit and of what is said
@@ -46,6 +49,10 @@ uval u = LL.val Un.the-type Un′.the-laws u
 
 abbrev pub sval : Said → Val
 sval d = EL.val Sd.the-type Sd′.the-laws d
+
+-- the drive with its port after a turn, settled in place
+abbrev pub settled : Drive → List Key → Turn → Drive
+settled d ks t = record { unit = d .unit; port = settledOf (d .port) ks t }
 
 -- types of locals: a number, and the lent port
 abbrev pub word : Ty

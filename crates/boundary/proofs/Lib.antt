@@ -1,5 +1,8 @@
+mod Answers
 mod Elements
+mod Events
 mod Keyed
+mod Lending
 mod Lent
 mod Logins
 mod Onward
