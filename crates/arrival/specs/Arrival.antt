@@ -34,12 +34,12 @@ badSource own from = not (validAddress from) || eqb from own
 
 -- "(22h, 01h), (23h, 01h), (81h, 00h), (06h, 08h)"
 unfoldable pub knownPair : ℕ → ℕ → Bool
-knownPair rctl kind = cond (eqb rctl 0x22) (eqb kind 0x01) (cond (eqb rctl 0x23) (eqb kind 0x01) (cond (eqb rctl 0x81) (eqb kind 0x00) (eqb rctl 0x06 && eqb kind 0x08)))
+knownPair rctl protocol = cond (eqb rctl 0x22) (eqb protocol 0x01) (cond (eqb rctl 0x23) (eqb protocol 0x01) (cond (eqb rctl 0x81) (eqb protocol 0x00) (eqb rctl 0x06 && eqb protocol 0x08)))
 
 -- 6: "R_CTL, TYPE not one of ..; or DF_CTL, SEQ_CNT or the low two bits of F_CTL not 0; or a 22h frame without payload"
 unfoldable pub unknownForm : Header → ℕ → Bool
 unknownForm h size =
-    not (knownPair (h .«r_ctl») (h .kind)) || not (eqb (h .«df_ctl») 0) || not (eqb (h .«seq_cnt») 0) || not (eqb (h .«f_ctl» % 4) 0) || eqb (h .«r_ctl») 0x22 && leb size 24
+    not (knownPair (h .«r_ctl») (h .protocol)) || not (eqb (h .«df_ctl») 0) || not (eqb (h .«seq_cnt») 0) || not (eqb (h .«f_ctl» % 4) 0) || eqb (h .«r_ctl») 0x22 && leb size 24
 
 -- "Refusal 7 spares only PLOGI, PDISC, ADISC, LOGO"
 unfoldable pub spared : ℕ → ℕ → Bool

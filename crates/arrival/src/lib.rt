@@ -71,14 +71,14 @@ fn bad_source(own: u32, from: u32) -> bool
 }
 
 // R_CTL and TYPE of a frame that is taken.
-fn known_pair(r_ctl: u8, kind: u8) -> bool
-    ensures { λ r. ⌜ r ≡ knownPair «r_ctl» kind ⌝ }
+fn known_pair(r_ctl: u8, protocol: u8) -> bool
+    ensures { λ r. ⌜ r ≡ knownPair «r_ctl» protocol ⌝ }
 {
     match r_ctl {
-        0x22 => kind == 0x01,
-        0x23 => kind == 0x01,
-        0x81 => kind == 0x00,
-        0x06 => kind == 0x08,
+        0x22 => protocol == 0x01,
+        0x23 => protocol == 0x01,
+        0x81 => protocol == 0x00,
+        0x06 => protocol == 0x08,
         _ => false,
     }
 }
@@ -87,7 +87,7 @@ fn known_pair(r_ctl: u8, kind: u8) -> bool
 fn unknown_form(h: Header, size: usize) -> bool
     ensures { λ r. ⌜ r ≡ unknownForm h size ⌝ }
 {
-    if known_pair(h.r_ctl, h.kind) {
+    if known_pair(h.r_ctl, h.protocol) {
         if h.df_ctl != 0 {
             return true;
         }

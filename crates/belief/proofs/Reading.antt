@@ -21,7 +21,7 @@ use Rattle.reply.specs.declared.Reply.the-variants as reply
 use Rattle.reply.specs.Payload.{shortBytes, loginBytes, addressBytes, pairBytes, unpairBytes, acceptedBytes, rejectBytes}
 use Rattle.reply.specs.Reply.{answerHead, logoutHead, dataHead, filled, bytesOf}
 use Rattle.belief.specs.Host.{Answer, none, acc, rjt, dlogo, other}
-use Rattle.belief.specs.Wire.{answerOf}
+use Rattle.belief.specs.Wire.{soundOf}
 
 -- a byte that was laid over the front
 onto-at : (p l : List ℕ) (i : ℕ) → i < length p → i < length l → getD (onto p l) i 0 ≡ getD p i 0
@@ -52,13 +52,13 @@ module _ (B l : List ℕ) (room : 2136 ≤ length l) (some : 24 ≤ length B) wh
   code-byte : 25 ≤ length B → getD (onto B l) 24 0 ≡ getD B 24 0
   code-byte h = onto-at B l 24 (omega arith) (omega arith)
 
-  read-done : (x : ℕ) → getD B 0 0 ≡ 0x23 → 25 ≤ length B → getD B 24 0 ≡ x → answerOf (length B) (onto B l) ≡ cond (eqb x 0x02) acc rjt
+  read-done : (x : ℕ) → getD B 0 0 ≡ 0x23 → 25 ≤ length B → getD B 24 0 ≡ x → soundOf (length B) (onto B l) ≡ cond (eqb x 0x02) acc rjt
   read-done x r h c = rw (ne-eqb (length B) 0 (λ e. absurd (omega arith)), first-byte, r, code-byte h, c)
 
-  read-logout : getD B 0 0 ≡ 0x22 → answerOf (length B) (onto B l) ≡ dlogo
+  read-logout : getD B 0 0 ≡ 0x22 → soundOf (length B) (onto B l) ≡ dlogo
   read-logout r = rw (ne-eqb (length B) 0 (λ e. absurd (omega arith)), first-byte, r)
 
-  read-other : (r : ℕ) → getD B 0 0 ≡ r → eqb r 0x23 ≡ false → eqb r 0x22 ≡ false → answerOf (length B) (onto B l) ≡ other
+  read-other : (r : ℕ) → getD B 0 0 ≡ r → eqb r 0x23 ≡ false → eqb r 0x22 ≡ false → soundOf (length B) (onto B l) ≡ other
   read-other r e a b = rw (ne-eqb (length B) 0 (λ q. absurd (omega arith)), first-byte, e, a, b)
 
 module _ (g : Header) (P : List ℕ) where
@@ -91,20 +91,20 @@ module _ (g : Header) (P l : List ℕ) (room : 2136 ≤ length l) where
   long : 24 ≤ length (headerBytes g ++ P)
   long = let q = head-length g P in omega arith
 
-  framed-done : (x : ℕ) → g .«r_ctl» ≡ 0x23 → (getD P 0 0 ≡ x) × (1 ≤ length P) → answerOf (length (headerBytes g ++ P)) (onto (headerBytes g ++ P) l) ≡ cond (eqb x 0x02) acc rjt
+  framed-done : (x : ℕ) → g .«r_ctl» ≡ 0x23 → (getD P 0 0 ≡ x) × (1 ≤ length P) → soundOf (length (headerBytes g ++ P)) (onto (headerBytes g ++ P) l) ≡ cond (eqb x 0x02) acc rjt
   framed-done x r c =
       let q = head-length g P in
       let n = c .1 in
       read-done (headerBytes g ++ P) l room long x (head-first g P ∙ r) (omega arith) (head-code g P ∙ c .0)
 
-  framed-logout : g .«r_ctl» ≡ 0x22 → answerOf (length (headerBytes g ++ P)) (onto (headerBytes g ++ P) l) ≡ dlogo
+  framed-logout : g .«r_ctl» ≡ 0x22 → soundOf (length (headerBytes g ++ P)) (onto (headerBytes g ++ P) l) ≡ dlogo
   framed-logout r = read-logout (headerBytes g ++ P) l room long (head-first g P ∙ r)
 
-  framed-other : (r : ℕ) → g .«r_ctl» ≡ r → eqb r 0x23 ≡ false → eqb r 0x22 ≡ false → answerOf (length (headerBytes g ++ P)) (onto (headerBytes g ++ P) l) ≡ other
+  framed-other : (r : ℕ) → g .«r_ctl» ≡ r → eqb r 0x23 ≡ false → eqb r 0x22 ≡ false → soundOf (length (headerBytes g ++ P)) (onto (headerBytes g ++ P) l) ≡ other
   framed-other r e a b = read-other (headerBytes g ++ P) l room long r (head-first g P ∙ e) a b
 
 -- the host reads each reply as it sounds
-pub reads : (o : Own) (h : Header) (r : Reply) (l : List ℕ) → 2136 ≤ length l → answerOf (length (bytesOf o h r [])) (onto (bytesOf o h r []) l) ≡ sounds r
+pub reads : (o : Own) (h : Header) (r : Reply) (l : List ℕ) → 2136 ≤ length l → soundOf (length (bytesOf o h r [])) (onto (bytesOf o h r []) l) ≡ sounds r
 unfolding bytesOf answerHead logoutHead dataHead
 reads o h reply.Nothing l room = refl
 reads o h (reply.Accept a) l room = framed-done _ _ l room 0x02 refl (accept-first (o .address) (o .accept) a)

@@ -53,12 +53,12 @@ pub record FromHost (a : ℕ) : Type 0 where
   pub makes : Makes a bytes request
 
 -- what the n bytes of a reply at the front of the buffer say, by R_CTL and the first byte of the payload
-abbrev pub answerOf : ℕ → List ℕ → Answer
-answerOf n l = cond (eqb n 0) none (cond (eqb (getD l 0 0) 0x23) (cond (eqb (getD l 24 0) 0x02) acc rjt) (cond (eqb (getD l 0 0) 0x22) dlogo other))
+abbrev pub soundOf : ℕ → List ℕ → Answer
+soundOf n l = cond (eqb n 0) none (cond (eqb (getD l 0 0) 0x23) (cond (eqb (getD l 24 0) 0x02) acc rjt) (cond (eqb (getD l 0 0) 0x22) dlogo other))
 
 -- nothing comes back of a frame that is refused
 abbrev pub heardOf : Said → List ℕ → Answer
-heardOf (Sent n) l = answerOf n l
+heardOf (Sent n) l = soundOf n l
 heardOf (Refused x) l = none
 
 -- a call for the next frame to the host, with any window and buffer

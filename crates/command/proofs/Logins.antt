@@ -40,7 +40,7 @@ use Rattle.command.specs.declared.Asked.{Asked}
 use Rattle.command.specs.declared.Asked.the-variants as asked
 use Rattle.command.specs.Cmnd.{cmndOf, readBit, malformed, taskFor, taskOf}
 use Rattle.command.specs.Tests.{askedOf}
-use Rattle.command.specs.Command.{refusedWith, answerOf, answeredAs, executeOf, doneAs, commandedAt, loggedOut, commandOf}
+use Rattle.command.specs.Command.{refusedWith, openedOf, answeredAs, executeOf, doneAs, commandedAt, loggedOut, commandOf}
 use Rattle.command.specs.Turn.{taskTurn, commandedTurn, commandTurn}
 use Rattle.command.proofs.Moves.{Moves, same, ends, tells, opens, execute-moves}
 
@@ -130,7 +130,7 @@ abbrev Says : Served → Type 0
 Says s = Spoken (s .reply)
 
 execute-spoken : (u : Unit) (l : Login) (place : Found) (ox : ℕ) (c : Cmnd) → Says (executeOf u l place ox c)
-unfolding executeOf refusedWith answerOf
+unfolding executeOf refusedWith openedOf
 execute-spoken u l place ox c = on-found Says place _ _ (λ j _. responds _) (λ _. by (askedOf u (l .attention) ox c))
   where
     by : (a : Asked) → Says (answeredAs a l c)

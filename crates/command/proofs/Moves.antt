@@ -22,7 +22,7 @@ use Rattle.command.specs.declared.Asked.the-variants as asked
 use Rattle.command.specs.Cmnd.{readBit}
 use Rattle.command.specs.Cdb.{decodedOf}
 use Rattle.command.specs.Tests.{otherUnit, attends, unknown, writes, outside, exchangeFor, askedBy, askedOf}
-use Rattle.command.specs.Command.{refusedWith, reports, toldOf, answerOf, answeredAs, executeOf}
+use Rattle.command.specs.Command.{refusedWith, reports, toldOf, openedOf, answeredAs, executeOf}
 
 -- what a command's CDB asks for
 abbrev pub operationOf : Cmnd → Operation
@@ -76,8 +76,8 @@ module _ (u : Unit) (l : Login) (place : Found) (ox : ℕ) (c : Cmnd) where
   moves-found (At j) g t p q = p j
   moves-found Nothing g t p q = q refl
 
-  answer-moves : (e : Exchange) → Passed u (l .attention) ox c e → place ≡ Nothing → Moves (answerOf l (c .bits) e .login)
-  unfolding answerOf toldOf
+  answer-moves : (e : Exchange) → Passed u (l .attention) ox c e → place ≡ Nothing → Moves (openedOf l (c .bits) e .login)
+  unfolding openedOf toldOf
   answer-moves e p none =
       moves-if (eqb (total e) 0) _ _ (λ _. same)
       (λ n. moves-if (readBit (c .bits)) _ _ (λ _. moves-found (freeExchange l) _ _ (λ j. opens (reports (e .kind)) j e p (eqb-false (total e) 0 n) none) (λ _. same)) (λ _. same))

@@ -31,26 +31,26 @@ use Rattle.command.specs.declared.Asked.the-variants as asked
 use Rattle.command.specs.Cmnd.{cmndOf, readBit, taskOf}
 use Rattle.command.specs.Cdb.{decodedOf}
 use Rattle.command.specs.Tests.{askedBy, askedOf}
-use Rattle.command.specs.Command.{refusedWith, toldOf, answerOf, executeOf}
+use Rattle.command.specs.Command.{refusedWith, toldOf, openedOf, executeOf}
 use Rattle.command.specs.Turn.{commandedTurn, loggedOutTurn, commandTurn}
 
 module _ (l : Login) (bits : ℕ) (e : Exchange) (d : Served) where
-  pub answer-good : (x : Residual) → total e ≡ 0 → x ≡ residualOf (e .wanted) (e .expected) → d ≡ servedAs (reply.Respond (response.Status 0 x)) l → d ≡ answerOf l bits e
-  unfolding answerOf
+  pub answer-good : (x : Residual) → total e ≡ 0 → x ≡ residualOf (e .wanted) (e .expected) → d ≡ servedAs (reply.Respond (response.Status 0 x)) l → d ≡ openedOf l bits e
+  unfolding openedOf
   answer-good x z ex ed = rw (eq-eqb (total e) 0 z) (ed ∙ ap (λ r. servedAs (reply.Respond (response.Status 0 r)) l) ex)
 
   module _ (n : total e ≡ 0 → ⊥) where
-    pub answer-unread : readBit bits ≡ false → d ≡ servedAs (reply.Respond (response.Code 2)) l → d ≡ answerOf l bits e
-    unfolding answerOf
+    pub answer-unread : readBit bits ≡ false → d ≡ servedAs (reply.Respond (response.Code 2)) l → d ≡ openedOf l bits e
+    unfolding openedOf
     answer-unread b ed = rw (ne-eqb (total e) 0 n, b) ed
 
     module _ (b : readBit bits ≡ true) where
-      pub answer-full : (x : Residual) → freeExchange l ≡ Nothing → x ≡ residualOf 0 (e .expected) → d ≡ servedAs (reply.Respond (response.Status 0x28 x)) l → d ≡ answerOf l bits e
-      unfolding answerOf
+      pub answer-full : (x : Residual) → freeExchange l ≡ Nothing → x ≡ residualOf 0 (e .expected) → d ≡ servedAs (reply.Respond (response.Status 0x28 x)) l → d ≡ openedOf l bits e
+      unfolding openedOf
       answer-full x f ex ed = rw (ne-eqb (total e) 0 n, b, f) (ed ∙ ap (λ r. servedAs (reply.Respond (response.Status 0x28 r)) l) ex)
 
-      pub answer-opens : (j : ℕ) (m k : Login) → freeExchange l ≡ At j → m ≡ toldOf l (e .kind) → k ≡ withExchange m j e → d ≡ servedAs reply.Nothing k → d ≡ answerOf l bits e
-      unfolding answerOf
+      pub answer-opens : (j : ℕ) (m k : Login) → freeExchange l ≡ At j → m ≡ toldOf l (e .kind) → k ≡ withExchange m j e → d ≡ servedAs reply.Nothing k → d ≡ openedOf l bits e
+      unfolding openedOf
       answer-opens j m k f em ek ed = rw (ne-eqb (total e) 0 n, b, f) (ed ∙ ap (servedAs reply.Nothing) (ek ∙ ap (λ m. withExchange m j e) em))
 
 -- tests 2 to 7, on the CDB as it was decoded
@@ -76,7 +76,7 @@ module _ (u : Unit) (l : Login) (ox : ℕ) (c : Cmnd) (d : Served) where
     unfolding executeOf
     execute-attention m i em ed = rw (f, sym ea, i) (ed ∙ ap (λ m. refusedWith m 0x06 (l .attention) (c .expected)) em)
 
-    pub execute-wants : (e : Exchange) → a ≡ asked.Wants e → d ≡ answerOf l (c .bits) e → Executed
+    pub execute-wants : (e : Exchange) → a ≡ asked.Wants e → d ≡ openedOf l (c .bits) e → Executed
     unfolding executeOf
     execute-wants e i ed = rw (f, sym ea, i) ed
 

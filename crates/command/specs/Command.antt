@@ -44,8 +44,8 @@ unfoldable pub toldOf : Login → ℕ → Login
 toldOf l kind = cond (reports kind) (withAttention l 0) l
 
 -- "Nothing to send: FCP_RSP at once"; "(8) bytes to send without the read bit, RSP_CODE 02; (9) bytes to send, eight open, status 28h"; "Else the exchange opens silently"
-unfoldable pub answerOf : Login → ℕ → Exchange → Served
-answerOf l bits e =
+unfoldable pub openedOf : Login → ℕ → Exchange → Served
+openedOf l bits e =
     cond (eqb (total e) 0) (servedAs (reply.Respond (response.Status 0x00 (residualOf (e .wanted) (e .expected)))) l)
     (cond (readBit bits)
     (onFound (freeExchange l) (λ j. servedAs reply.Nothing (withExchange (toldOf l (e .kind)) j e)) (servedAs (reply.Respond (response.Status 0x28 (residualOf 0 (e .expected)))) l))
@@ -55,7 +55,7 @@ answerOf l bits e =
 abbrev pub answeredAs : Asked → Login → Cmnd → Served
 answeredAs (asked.Refused key code) l c = refusedWith l key code (c .expected)
 answeredAs asked.Attention l c = refusedWith (withAttention l 0) 0x06 (l .attention) (c .expected)
-answeredAs (asked.Wants e) l c = answerOf l (c .bits) e
+answeredAs (asked.Wants e) l c = openedOf l (c .bits) e
 
 -- "(1) OX_ID open at this login: that exchange ends, 0B/4E/00", by the place where it was found, and then the other tests
 unfoldable pub executeOf : Unit → Login → Found → ℕ → Cmnd → Served

@@ -19,7 +19,7 @@ ghost use Prim.Native.Nat.{_*_, _≤_, min};
 ghost use Rattle.state.specs.Kinds.{kindRead};
 ghost use Rattle.command.specs.Cdb.{Countable};
 ghost use Rattle.command.specs.Tests.{senseKind, inquiryKind, fresh, exchangeFor};
-ghost use Rattle.command.specs.Command.{toldOf, answerOf};
+ghost use Rattle.command.specs.Command.{toldOf, openedOf};
 
 // The exchange that would send what a command wants; one that wants nothing opens none.
 pub(crate) fn exchange_for(
@@ -121,7 +121,7 @@ fn smaller(a: u32, b: u32) -> u32
 
 // Nothing to send is answered at once; else tests 8 and 9, and the exchange opens.
 pub(crate) fn answer(l: Login, bits: u8, e: Exchange) -> Served
-    ensures { λ r. ⌜ r ≡ answerOf l bits e ⌝ }
+    ensures { λ r. ⌜ r ≡ openedOf l bits e ⌝ }
 {
     let wanted = e.wanted;
     let expected = e.expected;

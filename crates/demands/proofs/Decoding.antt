@@ -105,12 +105,12 @@ module _ (u : Unit) (p : Port) (a x i j k : ℕ) (W : List ℕ) where
   response-bytes r e = rw e
 
   -- R_CTL and TYPE tell the two apart
-  pub data-kind : (f : DataFrame) → nextReply (fullOf p i) (exchangeOf p i j) ≡ Data f → (headerOf (frameBytes u p a x i j k W) .«r_ctl» ≡ 0x01) × (headerOf (frameBytes u p a x i j k W) .kind ≡ 0x08)
+  pub data-kind : (f : DataFrame) → nextReply (fullOf p i) (exchangeOf p i j) ≡ Data f → (headerOf (frameBytes u p a x i j k W) .«r_ctl» ≡ 0x01) × (headerOf (frameBytes u p a x i j k W) .protocol ≡ 0x08)
   unfolding headerOf headerBytes data-head dataHead
   data-kind f e = rw (data-bytes f e) (refl, refl)
 
   pub response-kind : (r : Residual) → nextReply (fullOf p i) (exchangeOf p i j) ≡ Respond (Status 0x00 r)
-      → (headerOf (frameBytes u p a x i j k W) .«r_ctl» ≡ 0x07) × (headerOf (frameBytes u p a x i j k W) .kind ≡ 0x08)
+      → (headerOf (frameBytes u p a x i j k W) .«r_ctl» ≡ 0x07) × (headerOf (frameBytes u p a x i j k W) .protocol ≡ 0x08)
   unfolding headerOf headerBytes response-head answerHead
   response-kind r e = rw (response-bytes r e) (refl, refl)
 

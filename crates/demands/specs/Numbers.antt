@@ -25,13 +25,13 @@ made capacity = madeFrom record { capacity = capacity; address = 0xef; identity 
 
 -- a frame to it
 abbrev pub frame : ℕ → ℕ → ℕ → ℕ → List ℕ → List ℕ
-frame rctl kind from ox payload =
+frame rctl protocol from ox payload =
     headerBytes record {
       «r_ctl» = rctl;
       «d_id» = 0xef;
       reserved = 0;
       «s_id» = from;
-      kind = kind;
+      protocol = protocol;
       «f_ctl» = 0x290000;
       «seq_id» = 0;
       «df_ctl» = 0;

@@ -28,11 +28,11 @@ frameAt l n = take n l
 
 -- the table of reply headers, "FCP_DATA, last or not": R_CTL 01h, TYPE 08h
 abbrev pub isData : List ℕ → Bool
-isData f = eqb (headerOf f .«r_ctl») 0x01 && eqb (headerOf f .kind) 0x08
+isData f = eqb (headerOf f .«r_ctl») 0x01 && eqb (headerOf f .protocol) 0x08
 
 -- the table of reply headers, "FCP_RSP": R_CTL 07h, TYPE 08h
 abbrev pub isResponse : List ℕ → Bool
-isResponse f = eqb (headerOf f .«r_ctl») 0x07 && eqb (headerOf f .kind) 0x08
+isResponse f = eqb (headerOf f .«r_ctl») 0x07 && eqb (headerOf f .protocol) 0x08
 
 -- "FCP frames add the fill count to F_CTL": the count is F_CTL's low two bits
 abbrev pub fillIn : List ℕ → ℕ

@@ -39,7 +39,7 @@ use Rattle.drive.specs.declared.Answer.{Answer}
 use Rattle.drive.specs.Drive.{refused}
 use Rattle.drive.specs.Entry.{decidedIn, answered, frameIn, nextFrame}
 use Rattle.drive.specs.Turn.{decisionAs, decisionOf, passedTurn, nextOutTurn, answerTo}
-use Rattle.drive.specs.Others.{OfOthers, frame, done, next, turnIn, turnOut, answerOf, turnOf}
+use Rattle.drive.specs.Others.{OfOthers, frame, done, next, turnIn, turnOut, othersAnswer, turnOf}
 use Rattle.drive.proofs.Turns.{stays-is, passed-answer, next-out-turn}
 use Rattle.drive.proofs.Ways.{next-short}
 
@@ -100,7 +100,7 @@ module _ (d : Drive) (w : wellFormed (d .unit) (d .port) ≡ true) where
         (on-cond (Aside a) (v .fine) (next-another u p b x start W (formed-parts w .logins) room a n, subst (Leaves a) (sym (next-keeps v b x start W room)) tt) (tt, tt))
 
   module _ {a : ℕ} where
-    turn-is : (c : OfOthers a) → answerTo d (turnOf d c) ≡ answerOf d c
+    turn-is : (c : OfOthers a) → answerTo d (turnOf d c) ≡ othersAnswer d c
     turn-is (frame f room n) = turn-in f room
     turn-is (done f room r) = turn-in f room
     turn-is (next b x start W room n) = turn-out b x start W room
@@ -112,11 +112,11 @@ module _ (d : Drive) (w : wellFormed (d .unit) (d .port) ≡ true) where
     turn-aside (next b x start W room n) = out-aside b x start W room a n
 
     -- the login of a after a call of others: what the turn's change of every login makes of it
-    pub others-see : (c : OfOthers a) → loginOf (answerOf d c .drive .port) a ≡ changedOf (turnOf d c .change) (loginOf p a)
+    pub others-see : (c : OfOthers a) → loginOf (othersAnswer d c .drive .port) a ≡ changedOf (turnOf d c .change) (loginOf p a)
     others-see c = ap (λ (r : Answer). loginOf (r .drive .port) a) (sym (turn-is c)) ∙ calls.others-see p (formed-parts w .addresses) (turnOf d c) a (turn-aside c .0)
 
     -- and that change is none that ends or unproves it, so a's record is as it was
-    pub others-record : (c : OfOthers a) → recordOf (answerOf d c .drive .port) a ≡ recordOf p a
+    pub others-record : (c : OfOthers a) → recordOf (othersAnswer d c .drive .port) a ≡ recordOf p a
     others-record c =
         ap (λ (r : Answer). recordOf (r .drive .port) a) (sym (turn-is c)) ∙ records.others-record p (formed-parts w .addresses) (turnOf d c) a (turn-aside c .0) (turn-aside c .1)
 

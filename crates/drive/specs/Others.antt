@@ -31,10 +31,10 @@ unfoldable pub turnOut : Drive → ℕ → ℕ → ℕ → List ℕ → ℕ → 
 turnOut d a x start W room = cond (shortBuffer room) (refusedTurn ShortBuffer) (nextOutTurn (viewOf (d .unit) (d .port) a) a x start W room)
 
 -- the answer to such a call, and what it comes to
-abbrev pub answerOf : {a : ℕ} → Drive → OfOthers a → Answer
-answerOf d (frame f room n) = frameIn d f room
-answerOf d (done f room r) = frameIn d f room
-answerOf d (next b x start W room n) = nextFrame d b x start W room
+abbrev pub othersAnswer : {a : ℕ} → Drive → OfOthers a → Answer
+othersAnswer d (frame f room n) = frameIn d f room
+othersAnswer d (done f room r) = frameIn d f room
+othersAnswer d (next b x start W room n) = nextFrame d b x start W room
 
 abbrev pub turnOf : {a : ℕ} → Drive → OfOthers a → Turn
 turnOf d (frame f room n) = turnIn d f room

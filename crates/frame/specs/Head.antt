@@ -13,7 +13,7 @@ headerOf f =
       «d_id» = num 3 f 1;
       reserved = getD f 4 0;
       «s_id» = num 3 f 5;
-      kind = getD f 8 0;
+      protocol = getD f 8 0;
       «f_ctl» = num 3 f 9;
       «seq_id» = getD f 12 0;
       «df_ctl» = getD f 13 0;
@@ -28,7 +28,7 @@ unfoldable pub headerBytes : Header → List ℕ
 headerBytes h =
     h .«r_ctl» ∷ bytes 3 (h .«d_id»)
     ++ (h .reserved ∷ bytes 3 (h .«s_id»))
-    ++ (h .kind ∷ bytes 3 (h .«f_ctl»))
+    ++ (h .protocol ∷ bytes 3 (h .«f_ctl»))
     ++ (h .«seq_id» ∷ h .«df_ctl» ∷ bytes 2 (h .«seq_cnt»))
     ++ bytes 2 (h .«ox_id»)
     ++ bytes 2 (h .«rx_id»)

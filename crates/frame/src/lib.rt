@@ -11,13 +11,13 @@ ghost use mathlib.Core.Path.{_≡_};
 ghost use Rattle.wire.specs.Bytes.{onto};
 ghost use Rattle.frame.specs.Head.{headerOf, headerBytes};
 
-// The fields of a header in their order. The three fields of 24 bits stand in 32; kind is TYPE.
+// The fields of a header in their order. The three fields of 24 bits stand in 32; protocol is TYPE.
 pub struct Header {
     pub r_ctl: u8,
     pub d_id: u32,
     pub reserved: u8,
     pub s_id: u32,
-    pub kind: u8,
+    pub protocol: u8,
     pub f_ctl: u32,
     pub seq_id: u8,
     pub df_ctl: u8,
@@ -45,7 +45,7 @@ pub fn read_header(frame: &[u8]) -> Header
         d_id: be24(frame, 1),
         reserved: byte_at(frame, 4),
         s_id: be24(frame, 5),
-        kind: byte_at(frame, 8),
+        protocol: byte_at(frame, 8),
         f_ctl: be24(frame, 9),
         seq_id: byte_at(frame, 12),
         df_ctl: byte_at(frame, 13),
@@ -76,7 +76,7 @@ fn header_bytes(h: Header) -> [u8; 24]
         s[0],
         s[1],
         s[2],
-        h.kind,
+        h.protocol,
         f[0],
         f[1],
         f[2],

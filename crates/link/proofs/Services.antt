@@ -124,13 +124,13 @@ adisc-does : (l : Login) (from named : ℕ) (port node : List ℕ) → Does prov
 unfolding adiscOf hasAddress
 adisc-does l from named port node = does-cond (namesDiffer l port node) ends (does-cond (eqb named from) (takes _ _ (λ b. refl) refl) ends)
 
-prli-does : (l : Login) (page kind flags roles : ℕ) → Does paired l (prliOf l page kind flags roles)
+prli-does : (l : Login) (page protocol flags roles : ℕ) → Does paired l (prliOf l page protocol flags roles)
 unfolding prliOf hasAddress
-prli-does l page kind flags roles = does-cond (pairFine page kind flags roles) (takes _ _ (λ b. refl) refl) (rejects _ _)
+prli-does l page protocol flags roles = does-cond (pairFine page protocol flags roles) (takes _ _ (λ b. refl) refl) (rejects _ _)
 
-prlo-does : (l : Login) (page kind : ℕ) → Does unpaired l (prloOf l page kind)
+prlo-does : (l : Login) (page protocol : ℕ) → Does unpaired l (prloOf l page protocol)
 unfolding prloOf withoutExchanges hasAddress
-prlo-does l page kind = does-cond (pageFine page kind) (takes _ _ (λ b. refl) refl) (rejects _ _)
+prlo-does l page protocol = does-cond (pageFine page protocol) (takes _ _ (λ b. refl) refl) (rejects _ _)
 
 rrq-does : (l : Login) (from named : ℕ) (place : Found) → Does (λ r. r) l (rrqOf l from named place)
 unfolding rrqOf

@@ -117,7 +117,7 @@ logoOf p from named =
 
 -- "B1-3 = 10 00 14 and W1/B0 = 08h"
 unfoldable pub pageFine : ℕ → ℕ → Bool
-pageFine page kind = eqb page 0x100014 && eqb kind 0x08
+pageFine page protocol = eqb page 0x100014 && eqb protocol 0x08
 
 -- bit n of a byte, where b is 2 to the n
 abbrev pub bitSet : ℕ → ℕ → Bool
@@ -125,16 +125,16 @@ bitSet b byte = eqb (byte / b % 2) 1
 
 -- PRLI "also needs W1/B2 bit 5 and, in W4, bits 5 and 1"
 unfoldable pub pairFine : ℕ → ℕ → ℕ → ℕ → Bool
-pairFine page kind flags roles = pageFine page kind && bitSet 32 flags && bitSet 32 roles && bitSet 2 roles
+pairFine page protocol flags roles = pageFine page protocol && bitSet 32 flags && bitSet 32 roles && bitSet 2 roles
 
 -- PRLI: "else 09,00; it marks the login paired and ends nothing"
 unfoldable pub prliOf : Login → ℕ → ℕ → ℕ → ℕ → Served
-prliOf l page kind flags roles =
-    cond (pairFine page kind flags roles) (servedAs (reply.Accept accepted.Pair) (withPaired l 1)) (servedAs (reply.Reject 0x09 0x00) l)
+prliOf l page protocol flags roles =
+    cond (pairFine page protocol flags roles) (servedAs (reply.Accept accepted.Pair) (withPaired l 1)) (servedAs (reply.Reject 0x09 0x00) l)
 
 -- PRLO: "else 09,00"; "ends the pairing and its exchanges"
 unfoldable pub prloOf : Login → ℕ → ℕ → Served
-prloOf l page kind = cond (pageFine page kind) (servedAs (reply.Accept accepted.Unpair) (withPaired (withoutExchanges l) 0)) (servedAs (reply.Reject 0x09 0x00) l)
+prloOf l page protocol = cond (pageFine page protocol) (servedAs (reply.Accept accepted.Unpair) (withPaired (withoutExchanges l) 0)) (servedAs (reply.Reject 0x09 0x00) l)
 
 -- RRQ: "W1/B1-3 not S_ID 03,15; that OX_ID open 03,17; else ACC of 4 bytes", by the place where that exchange was found
 unfoldable pub rrqOf : Login → ℕ → ℕ → Found → Served

@@ -80,10 +80,10 @@ fn adisc(l: Login, from: u32, named: u32, port: [u8; 8], node: [u8; 8]) -> Serve
 }
 
 // PRLI: marks the login paired and ends nothing.
-fn prli(l: Login, page: u32, kind: u8, flags: u8, roles: u8) -> Served
-    ensures { λ r. ⌜ r ≡ prliOf l page kind flags roles ⌝ }
+fn prli(l: Login, page: u32, protocol: u8, flags: u8, roles: u8) -> Served
+    ensures { λ r. ⌜ r ≡ prliOf l page protocol flags roles ⌝ }
 {
-    if pair_fine(page, kind, flags, roles) {
+    if pair_fine(page, protocol, flags, roles) {
         let mut m = l;
         m.paired = 1;
         serve_as(Reply::Accept(Accepted::Pair), m)
@@ -92,10 +92,10 @@ fn prli(l: Login, page: u32, kind: u8, flags: u8, roles: u8) -> Served
     }
 }
 
-fn pair_fine(page: u32, kind: u8, flags: u8, roles: u8) -> bool
-    ensures { λ r. ⌜ r ≡ pairFine page kind flags roles ⌝ }
+fn pair_fine(page: u32, protocol: u8, flags: u8, roles: u8) -> bool
+    ensures { λ r. ⌜ r ≡ pairFine page protocol flags roles ⌝ }
 {
-    if page_fine(page, kind) {
+    if page_fine(page, protocol) {
         if flags / 32 % 2 == 1 {
             if roles / 32 % 2 == 1 {
                 return roles / 2 % 2 == 1;
@@ -106,10 +106,10 @@ fn pair_fine(page: u32, kind: u8, flags: u8, roles: u8) -> bool
 }
 
 // PRLO: ends the pairing and its exchanges.
-fn prlo(l: Login, page: u32, kind: u8) -> Served
-    ensures { λ r. ⌜ r ≡ prloOf l page kind ⌝ }
+fn prlo(l: Login, page: u32, protocol: u8) -> Served
+    ensures { λ r. ⌜ r ≡ prloOf l page protocol ⌝ }
 {
-    if page_fine(page, kind) {
+    if page_fine(page, protocol) {
         let mut m = end_exchanges(l);
         m.paired = 0;
         serve_as(Reply::Accept(Accepted::Unpair), m)
@@ -145,11 +145,11 @@ fn proven(a: Accepted, l: Login) -> Served
     }
 }
 
-fn page_fine(page: u32, kind: u8) -> bool
-    ensures { λ r. ⌜ r ≡ pageFine page kind ⌝ }
+fn page_fine(page: u32, protocol: u8) -> bool
+    ensures { λ r. ⌜ r ≡ pageFine page protocol ⌝ }
 {
     if page == 0x100014 {
-        kind == 0x08
+        protocol == 0x08
     } else {
         false
     }

@@ -15,13 +15,13 @@ use Rattle.reply.specs.Payload.{payloadOf}
 
 -- R_CTL, TYPE, F_CTL, SEQ_ID, SEQ_CNT, OX_ID and OFFSET as given; "addresses swapped, .. RX_ID FFFFh, the rest 0"
 abbrev pub swapped : Header → ℕ → ℕ → ℕ → ℕ → ℕ → ℕ → ℕ → Header
-swapped h rctl kind fctl seq count ox offset =
+swapped h rctl protocol fctl seq count ox offset =
     record {
       «r_ctl» = rctl;
       «d_id» = h .«s_id»;
       reserved = 0;
       «s_id» = h .«d_id»;
-      kind = kind;
+      protocol = protocol;
       «f_ctl» = fctl;
       «seq_id» = seq;
       «df_ctl» = 0;
@@ -33,7 +33,7 @@ swapped h rctl kind fctl seq count ox offset =
 
 -- "OX_ID echoed"
 unfoldable pub answerHead : Header → ℕ → ℕ → ℕ → ℕ → Header
-answerHead h rctl kind fctl seq = swapped h rctl kind fctl seq 0 (h .«ox_id») 0
+answerHead h rctl protocol fctl seq = swapped h rctl protocol fctl seq 0 (h .«ox_id») 0
 
 -- "LOGO by the drive, OX_ID = destination address": 22 01, 290000, 00
 unfoldable pub logoutHead : Header → Header

@@ -26,15 +26,15 @@ pub(crate) fn reply_head(h: Header, r: Reply, fill: usize) -> Header
     }
 }
 
-fn answer_head(h: Header, r_ctl: u8, kind: u8, f_ctl: u32, seq_id: u8) -> Header
-    ensures { λ g. ⌜ g ≡ answerHead h «r_ctl» kind «f_ctl» «seq_id» ⌝ }
+fn answer_head(h: Header, r_ctl: u8, protocol: u8, f_ctl: u32, seq_id: u8) -> Header
+    ensures { λ g. ⌜ g ≡ answerHead h «r_ctl» protocol «f_ctl» «seq_id» ⌝ }
 {
     Header {
         r_ctl: r_ctl,
         d_id: h.s_id,
         reserved: 0,
         s_id: h.d_id,
-        kind: kind,
+        protocol: protocol,
         f_ctl: f_ctl,
         seq_id: seq_id,
         df_ctl: 0,

@@ -181,7 +181,7 @@ fn asked_by(own: u32, address: u32, ox_id: u16) -> Header
         d_id: own,
         reserved: 0,
         s_id: address,
-        kind: 0,
+        protocol: 0,
         f_ctl: 0,
         seq_id: 0,
         df_ctl: 0,
