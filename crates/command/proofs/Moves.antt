@@ -14,14 +14,18 @@ use Rattle.state.specs.declared.Unit.{Unit}
 use Rattle.state.specs.Changes.{withAttention, withExchange, endedAt}
 use Rattle.state.specs.Tables.{freeExchange}
 use Rattle.formed.specs.Formed.{total}
+use Rattle.reply.specs.declared.Reply.{Reply}
+use Rattle.reply.specs.declared.Reply.the-variants as reply
 use Rattle.calls.specs.declared.Served.{Served}
+use Rattle.calls.specs.Turn.{servedAs}
+use Rattle.calls.proofs.Decisions.{on-found}
 use Rattle.command.specs.declared.Cmnd.{Cmnd}
 use Rattle.command.specs.declared.Operation.{Operation}
 use Rattle.command.specs.declared.Asked.{Asked}
 use Rattle.command.specs.declared.Asked.the-variants as asked
 use Rattle.command.specs.Cmnd.{readBit}
 use Rattle.command.specs.Cdb.{decodedOf}
-use Rattle.command.specs.Tests.{otherUnit, attends, unknown, writes, outside, exchangeFor, askedBy, askedOf}
+use Rattle.command.specs.Tests.{otherUnit, attends, unknown, writes, outside, exchangeFor, testedBy, askedOf}
 use Rattle.command.specs.Command.{refusedWith, reports, toldOf, openedOf, answeredAs, executeOf}
 
 -- what a command's CDB asks for
@@ -48,7 +52,7 @@ same-exchange : (d e : Exchange) → asked.Wants d ≡ asked.Wants e → e ≡ d
 same-exchange d e h = cc
 
 wants-passed : (u : Unit) (attention ox : ℕ) (c : Cmnd) (e : Exchange) → askedOf u attention ox c ≡ asked.Wants e → Passed u attention ox c e
-unfolding askedOf askedBy
+unfolding askedOf testedBy
 wants-passed u attention ox c e =
     let o = operationOf c in
     passed-cond (otherUnit o (c .lun)) _ _ e (λ _. refused-not 0x05 0x25 e)
@@ -68,10 +72,10 @@ module _ (u : Unit) (l : Login) (place : Found) (ox : ℕ) (c : Cmnd) where
     tells : Moves (withAttention l 0)
     opens : (b : Bool) (j : ℕ) (e : Exchange) → Passed u (l .attention) ox c e → (total e ≡ 0 → ⊥) → place ≡ Nothing → Moves (withExchange (cond b (withAttention l 0) l) j e)
 
-  moves-if : (b : Bool) (s t : Served) → (b ≡ true → Moves (s .login)) → (b ≡ false → Moves (t .login)) → Moves (cond b s t .login)
-  moves-if true s t p q = p refl
-  moves-if false s t p q = q refl
+  abbrev Moved : Served → Type 0
+  Moved s = Moves (s .login)
 
+<<<<<<< HEAD
   moves-found : (f : Found) (g : ℕ → Served) (t : Served) → ((j : ℕ) → Moves (g j .login)) → (f ≡ Nothing → Moves (t .login)) → Moves (onFound f g t .login)
   moves-found (At j) g t p q = p j
   moves-found Nothing g t p q = q refl
@@ -81,13 +85,27 @@ module _ (u : Unit) (l : Login) (place : Found) (ox : ℕ) (c : Cmnd) where
   answer-moves e p none =
       moves-if (eqb (total e) 0) _ _ (λ _. same)
       (λ n. moves-if (readBit (c .bits)) _ _ (λ _. moves-found (freeExchange l) _ _ (λ j. opens (reports (e .kind)) j e p (eqb-false (total e) 0 n) none) (λ _. same)) (λ _. same))
+=======
+  answer-moves : (e : Exchange) → Passed u (l .attention) ox c e → place ≡ Nothing → Moved (answerOf l (c .bits) e)
+  unfolding answerOf toldOf
+  answer-moves e p none = by (eqb (total e) 0) (readBit (c .bits)) (freeExchange l) _ _ _ refl
+    where
+      opened : ℕ → Served
+      opened j = servedAs reply.Nothing (withExchange (cond (reports (e .kind)) (withAttention l 0) l) j e)
+>>>>>>> h-command
 
-  asked-moves : (a : Asked) → askedOf u (l .attention) ox c ≡ a → place ≡ Nothing → Moves (answeredAs a l c .login)
+      by : (b r : Bool) (g : Found) (x y z : Reply) → eqb (total e) 0 ≡ b → Moved (cond b (servedAs x l) (cond r (onFound g opened (servedAs y l)) (servedAs z l)))
+      by true r g x y z n = same
+      by false true (At j) x y z n = opens (reports (e .kind)) j e p (eqb-false (total e) 0 n) none
+      by false true Nothing x y z n = same
+      by false false g x y z n = same
+
+  asked-moves : (a : Asked) → askedOf u (l .attention) ox c ≡ a → place ≡ Nothing → Moved (answeredAs a l c)
   unfolding refusedWith
   asked-moves (asked.Refused key code) e none = same
   asked-moves asked.Attention e none = tells
   asked-moves (asked.Wants d) e none = answer-moves d (wants-passed u (l .attention) ox c d e) none
 
-  pub execute-moves : Moves (executeOf u l place ox c .login)
+  pub execute-moves : Moved (executeOf u l place ox c)
   unfolding executeOf refusedWith
-  execute-moves = moves-found place _ _ ends (λ none. asked-moves (askedOf u (l .attention) ox c) refl none)
+  execute-moves = on-found Moved place _ _ (λ j _. ends j) (λ none. asked-moves (askedOf u (l .attention) ox c) refl none)

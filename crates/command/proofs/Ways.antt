@@ -30,7 +30,7 @@ use Rattle.command.specs.declared.Asked.{Asked}
 use Rattle.command.specs.declared.Asked.the-variants as asked
 use Rattle.command.specs.Cmnd.{cmndOf, readBit, taskOf}
 use Rattle.command.specs.Cdb.{decodedOf}
-use Rattle.command.specs.Tests.{askedBy, askedOf}
+use Rattle.command.specs.Tests.{testedBy, askedOf}
 use Rattle.command.specs.Command.{refusedWith, toldOf, openedOf, executeOf}
 use Rattle.command.specs.Turn.{commandedTurn, loggedOutTurn, commandTurn}
 
@@ -54,9 +54,9 @@ module _ (l : Login) (bits : ℕ) (e : Exchange) (d : Served) where
       answer-opens j m k f em ek ed = rw (ne-eqb (total e) 0 n, b, f) (ed ∙ ap (servedAs reply.Nothing) (ek ∙ ap (λ m. withExchange m j e) em))
 
 -- tests 2 to 7, on the CDB as it was decoded
-pub asked-is : (u : Unit) (attention ox : ℕ) (c : Cmnd) {d : Decoded} {a : Asked} → d ≡ decodedOf (c .cdb) → a ≡ askedBy u attention ox c d → a ≡ askedOf u attention ox c
+pub asked-is : (u : Unit) (attention ox : ℕ) (c : Cmnd) {d : Decoded} {a : Asked} → d ≡ decodedOf (c .cdb) → a ≡ testedBy u attention ox c d → a ≡ askedOf u attention ox c
 unfolding askedOf
-asked-is u attention ox c ed e = e ∙ ap (askedBy u attention ox c) ed
+asked-is u attention ox c ed e = e ∙ ap (testedBy u attention ox c) ed
 
 module _ (u : Unit) (l : Login) (ox : ℕ) (c : Cmnd) (d : Served) where
   -- what it is to be

@@ -99,8 +99,8 @@ exchangeFor Write attention ox lun expected = fresh ox expected kindFree 0 0 0
 exchangeFor Unknown attention ox lun expected = fresh ox expected kindFree 0 0 0
 
 -- "(2) .., 05/25/00; (3) .., and cleared; (4) .., 05/20/00; (5) 2Ah, 07/27/00; (6) .., 05/24/00; (7) .., 05/21/00"
-unfoldable pub askedBy : Unit → ℕ → ℕ → Cmnd → Decoded → Asked
-askedBy u attention ox c d =
+unfoldable pub testedBy : Unit → ℕ → ℕ → Cmnd → Decoded → Asked
+testedBy u attention ox c d =
     cond (otherUnit (d .operation) (c .lun)) (Refused 0x05 0x25)
     (cond (attends (d .operation) attention) Attention
     (cond (unknown (d .operation)) (Refused 0x05 0x20)
@@ -110,4 +110,4 @@ askedBy u attention ox c d =
     (Wants (exchangeFor (d .operation) attention ox (c .lun) (c .expected))))))))
 
 unfoldable pub askedOf : Unit → ℕ → ℕ → Cmnd → Asked
-askedOf u attention ox c = askedBy u attention ox c (decodedOf (c .cdb))
+askedOf u attention ox c = testedBy u attention ox c (decodedOf (c .cdb))

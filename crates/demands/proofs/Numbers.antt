@@ -13,7 +13,7 @@ use Rattle.residual.specs.Residual.{residualOf}
 use Rattle.link.specs.Link.{sizeOf, newLogin, outcomeOf, plogiOf, pageFine, pairFine, prliOf, serviceOf, linkOf}
 use Rattle.command.specs.Cmnd.{cmndOf, malformed, taskFor, taskOf}
 use Rattle.command.specs.Cdb.{inquiryField, capacityField, range10, decodedOf}
-use Rattle.command.specs.Tests.{otherUnit, attends, beyond, askedBy as testedBy, askedOf}
+use Rattle.command.specs.Tests.{otherUnit, attends, beyond, testedBy, askedOf}
 use Rattle.command.specs.Command.{refusedWith, toldOf, openedOf, executeOf, commandedAt, commandOf}
 use Rattle.cover.specs.Cover.{coverOf}
 use Rattle.serve.specs.Next.{hasMore, readsMore, placeOf, frameOf, nextReply, nextExchange, sourceOf, windowPlace, askedBy, openStep, stepOf, frameBytes, movedOn, nextOf, nextBuffer}
