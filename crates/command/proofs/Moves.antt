@@ -25,7 +25,7 @@ use Rattle.command.specs.declared.Asked.{Asked}
 use Rattle.command.specs.declared.Asked.the-variants as asked
 use Rattle.command.specs.Cmnd.{readBit}
 use Rattle.command.specs.Cdb.{decodedOf}
-use Rattle.command.specs.Tests.{otherUnit, attends, unknown, writes, outside, exchangeFor, testedBy, askedOf}
+use Rattle.command.specs.Tests.{otherUnit, attends, unknown, writes, outside, exchangeFor, askedBy, askedOf}
 use Rattle.command.specs.Command.{refusedWith, reports, toldOf, openedOf, answeredAs, executeOf}
 
 -- what a command's CDB asks for
@@ -52,7 +52,7 @@ same-exchange : (d e : Exchange) → asked.Wants d ≡ asked.Wants e → e ≡ d
 same-exchange d e h = cc
 
 wants-passed : (u : Unit) (attention ox : ℕ) (c : Cmnd) (e : Exchange) → askedOf u attention ox c ≡ asked.Wants e → Passed u attention ox c e
-unfolding askedOf testedBy
+unfolding askedOf askedBy
 wants-passed u attention ox c e =
     let o = operationOf c in
     passed-cond (otherUnit o (c .lun)) _ _ e (λ _. refused-not 0x05 0x25 e)
@@ -75,24 +75,12 @@ module _ (u : Unit) (l : Login) (place : Found) (ox : ℕ) (c : Cmnd) where
   abbrev Moved : Served → Type 0
   Moved s = Moves (s .login)
 
-<<<<<<< HEAD
-  moves-found : (f : Found) (g : ℕ → Served) (t : Served) → ((j : ℕ) → Moves (g j .login)) → (f ≡ Nothing → Moves (t .login)) → Moves (onFound f g t .login)
-  moves-found (At j) g t p q = p j
-  moves-found Nothing g t p q = q refl
-
-  answer-moves : (e : Exchange) → Passed u (l .attention) ox c e → place ≡ Nothing → Moves (openedOf l (c .bits) e .login)
+  answer-moves : (e : Exchange) → Passed u (l .attention) ox c e → place ≡ Nothing → Moved (openedOf l (c .bits) e)
   unfolding openedOf toldOf
-  answer-moves e p none =
-      moves-if (eqb (total e) 0) _ _ (λ _. same)
-      (λ n. moves-if (readBit (c .bits)) _ _ (λ _. moves-found (freeExchange l) _ _ (λ j. opens (reports (e .kind)) j e p (eqb-false (total e) 0 n) none) (λ _. same)) (λ _. same))
-=======
-  answer-moves : (e : Exchange) → Passed u (l .attention) ox c e → place ≡ Nothing → Moved (answerOf l (c .bits) e)
-  unfolding answerOf toldOf
   answer-moves e p none = by (eqb (total e) 0) (readBit (c .bits)) (freeExchange l) _ _ _ refl
     where
       opened : ℕ → Served
       opened j = servedAs reply.Nothing (withExchange (cond (reports (e .kind)) (withAttention l 0) l) j e)
->>>>>>> h-command
 
       by : (b r : Bool) (g : Found) (x y z : Reply) → eqb (total e) 0 ≡ b → Moved (cond b (servedAs x l) (cond r (onFound g opened (servedAs y l)) (servedAs z l)))
       by true r g x y z n = same
