@@ -25,7 +25,7 @@ use Rattle.command.specs.declared.Asked.{Asked}
 use Rattle.command.specs.declared.Asked.the-variants as asked
 use Rattle.command.specs.Cmnd.{readBit}
 use Rattle.command.specs.Cdb.{decodedOf}
-use Rattle.command.specs.Tests.{otherUnit, attends, unknown, writes, outside, exchangeFor, askedBy, askedOf}
+use Rattle.command.specs.Tests.{otherUnit, attends, unknown, writes, outside, exchangeFor, testedBy, askedOf}
 use Rattle.command.specs.Command.{refusedWith, reports, toldOf, openedOf, answeredAs, executeOf}
 
 -- what a command's CDB asks for
@@ -52,7 +52,7 @@ same-exchange : (d e : Exchange) → asked.Wants d ≡ asked.Wants e → e ≡ d
 same-exchange d e h = cc
 
 wants-passed : (u : Unit) (attention ox : ℕ) (c : Cmnd) (e : Exchange) → askedOf u attention ox c ≡ asked.Wants e → Passed u attention ox c e
-unfolding askedOf askedBy
+unfolding askedOf testedBy
 wants-passed u attention ox c e =
     let o = operationOf c in
     passed-cond (otherUnit o (c .lun)) _ _ e (λ _. refused-not 0x05 0x25 e)
