@@ -1,8 +1,9 @@
 mod Answers
 mod Elements
 mod Events
-mod Laws
+mod Keyed
 mod Lending
 mod Lent
 mod Logins
+mod Onward
 mod Reached

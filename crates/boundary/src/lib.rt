@@ -145,7 +145,6 @@ fn view(p: &mut Port, u: Unit, address: u32) -> View
 
 // Stores what a turn changes, each login where it stands, and tells what was said. The keys are those of the logins. The place that is stored last is not changed before.
 fn settle(p: &mut Port, keys: [Key; 8], t: Turn) -> u64
-    requires { ⌜ Places (t .at) ⌝ }
     ensures { λ r. ⌜ (r ≡ codeOf (t .said)) × (now (p .exit) ≡ settledOf (now (p .entry)) keys t) ⌝ }
 {
     let k = spare(keys, t.at);

@@ -27,10 +27,9 @@ use Rattle.reply.specs.declared.Reply.the-variants as reply
 use Rattle.reply.specs.declared.Response.{Response}
 use Rattle.calls.specs.declared.View.{View}
 use Rattle.calls.specs.declared.Served.{Served}
-use Rattle.calls.specs.declared.Decision.{Decision}
 use Rattle.calls.specs.View.{viewOf}
 use Rattle.calls.specs.Turn.{Decided, servedAt, servedIn}
-use Rattle.calls.specs.Others.{Another}
+use Rattle.calls.specs.Others.{Elsewhere}
 use Rattle.calls.proofs.Views.{view-seat, view-login}
 use Rattle.calls.proofs.Decisions.{on-cond, on-found}
 use Rattle.calls.proofs.Others.{changed-sees, seat-another}
@@ -57,14 +56,14 @@ unfolding hasAddress
 alike-has (alike n es) a = refl
 
 -- the task flags end logins of nobody
-pub data Mild : Task → Type 0 where
+data Mild : Task → Type 0 where
   code : (n : ℕ) → Mild (task.Code n)
   abort : (a : ℕ) → Mild (task.Apply (EndExchangesOf a))
   reset : Mild (task.Apply Reset)
   clear : (a : ℕ) → Mild (task.Apply (Clear a))
   execute : Mild task.Execute
 
-pub task-mild : (c : Cmnd) (n from : ℕ) → Mild (taskOf c n from)
+task-mild : (c : Cmnd) (n from : ℕ) → Mild (taskOf c n from)
 unfolding taskOf taskFor
 task-mild c n from =
     let t = c .task in
@@ -205,25 +204,24 @@ module _ (u : Unit) (p : Port) (h : Header) (f : List ℕ) where
     abbrev v : View
     v = viewOf u p from
 
-    -- of another than the address b, unless b sent it
-    abbrev Foreign : ℕ → Decision → Type 0
-    Foreign b x = Another p b (x .at) (x .login)
+    task-another : (b : ℕ) {t : Task} → Mild t → (i : ℕ) (s : Served) → hasAddress b (loginAt p i) ≡ false → hasAddress b (s .login) ≡ false → Elsewhere p b (taskTurn t (servedIn i s))
+    task-another b (code n) i s x y = (tt, tt)
+    task-another b (abort a) i s x y = (tt, tt)
+    task-another b reset i s x y = (tt, tt)
+    task-another b (clear a) i s x y = (tt, tt)
+    task-another b execute i s x y = ((x, y), tt)
 
-    task-another : (b : ℕ) (t : Task) (i : ℕ) (s : Served) → hasAddress b (loginAt p i) ≡ false → hasAddress b (s .login) ≡ false → Foreign b (taskTurn t (servedIn i s))
-    task-another b (task.Code n) i s x y = tt
-    task-another b (task.Apply e) i s x y = tt
-    task-another b task.Execute i s x y = (x, y)
-
-    pub command-another : (b : ℕ) → (b ≡ from → ⊥) → Foreign b (commandTurn v h f)
+    -- it stores nothing of another address, and ends no login of it
+    pub command-another : (b : ℕ) → (b ≡ from → ⊥) → Elsewhere p b (commandTurn v h f)
     unfolding commandTurn commandedTurn
-    command-another b n = on-found (Foreign b) (v .seat) _ _ (λ i e. on-cond (Foreign b) (eqb (v .login .paired) 1) (at i e) tt) (λ _. tt)
+    command-another b n = on-found (Elsewhere p b) (v .seat) _ _ (λ i e. on-cond (Elsewhere p b) (eqb (v .login .paired) 1) (at i e) (tt, n)) (λ _. (tt, n))
       where
         place : Found
         place = findExchange (v .login) (h .«ox_id»)
 
-        at : (i : ℕ) → v .seat ≡ At i → Foreign b (taskTurn (taskOf (cmndOf f) (length f) from) (servedIn i (executeOf (v .unit) (v .login) place (h .«ox_id») (cmndOf f))))
+        at : (i : ℕ) → v .seat ≡ At i → Elsewhere p b (taskTurn (taskOf (cmndOf f) (length f) from) (servedIn i (executeOf (v .unit) (v .login) place (h .«ox_id») (cmndOf f))))
         at i e =
             let seat = sym (view-seat u p from fine) ∙ e in
             let none = seat-another p b from i n seat in
-            task-another b (taskOf (cmndOf f) (length f) from) i _ none
+            task-another b (task-mild (cmndOf f) (length f) from) i _ none
             (alike-has (moves-alike (v .unit) (v .login) place (h .«ox_id») (cmndOf f) (execute-moves (v .unit) (v .login) place (h .«ox_id») (cmndOf f))) b ∙ ap (hasAddress b) (view-login u p from fine i seat) ∙ none)

@@ -3,10 +3,8 @@ use Prim.Native.Nat.{ℕ}
 use mathlib.Core.Path.{_≡_, refl, sym, ap, _∙_, subst}
 use mathlib.Core.Bool.{Bool, true, false, cond, not}
 use mathlib.Core.List.{List}
-use lib.Dec.{eqb}
 use lib.ListN.{length}
 use Rattle.tables.proofs.Firsts.{FirstSays, at-first, at-none, first-says, first-then, none-then}
-use Rattle.frame.specs.declared.Header.{Header}
 use Rattle.frame.specs.Head.{headerOf}
 use Rattle.refusal.specs.declared.Refusal.{Refusal}
 use Rattle.refusal.specs.declared.Refusal.the-variants.{ShortBuffer}
@@ -18,22 +16,17 @@ use Rattle.state.specs.Tables.{loginOf}
 use Rattle.state.proofs.Places.{found-has, open-place}
 use Rattle.formed.specs.Formed.{wellFormed}
 use Rattle.formed.proofs.Parts.{formed-parts}
-use Rattle.calls.specs.declared.Decision.{Decision}
 use Rattle.calls.specs.declared.Turn.{Turn}
 use Rattle.calls.specs.View.{viewOf}
 use Rattle.calls.specs.Turn.{refusedTurn}
-use Rattle.calls.specs.Others.{Another}
-use Rattle.calls.proofs.Decisions.{on-cond, on-found}
+use Rattle.calls.specs.Others.{Another, Leaves, Elsewhere}
+use Rattle.calls.proofs.Decisions.{on-cond}
 use Rattle.calls.proofs.Others as calls
 use Rattle.link.specs.Record.{recordOf}
 use Rattle.link.proofs.Records as records
-use Rattle.link.proofs.Records.{Leaves}
 use Rattle.link.proofs.Services.{same-kept}
-use Rattle.link.proofs.Others.{Elsewhere, link-another, abts-another}
-use Rattle.command.specs.declared.Task.{Task}
-use Rattle.command.specs.Cmnd.{cmndOf, taskOf}
-use Rattle.command.specs.Turn.{taskTurn, commandedTurn, commandTurn}
-use Rattle.command.proofs.Logins.{Mild, code, abort, reset, clear, execute, task-mild, command-another}
+use Rattle.link.proofs.Others.{link-another, abts-another}
+use Rattle.command.proofs.Logins.{command-another}
 use Rattle.serve.specs.Next.{exchangeOf, fullOf, nextExchange, Step, Refused, Frame, stepOf, movedOn, nextAt, nextOf}
 use Rattle.serve.proofs.Steps.{passed}
 use Rattle.serve.proofs.Turns.{next-keeps, next-another}
@@ -49,24 +42,6 @@ use Rattle.drive.specs.Turn.{decisionAs, decisionOf, passedTurn, nextOut
 use Rattle.drive.specs.Others.{OfOthers, frame, done, next, turnIn, turnOut, answerOf, turnOf}
 use Rattle.drive.proofs.Turns.{stays-is, passed-answer, next-out-turn}
 use Rattle.drive.proofs.Ways.{next-short}
-
--- a command changes no login of another but in its attention and exchanges: the task flags end no login, and a drive LOGO ends its sender's
-module _ (u : Unit) (p : Port) (h : Header) (f : List ℕ) (a : ℕ) (n : a ≡ h .«s_id» → ⊥) where
-  task-leaves : (t : Task) → Mild t → (d : Decision) → Leaves a (d .change) → Leaves a (taskTurn t d .change)
-  task-leaves t (code k) d l = tt
-  task-leaves t (abort b) d l = tt
-  task-leaves t reset d l = tt
-  task-leaves t (clear b) d l = tt
-  task-leaves t execute d l = l
-
-  abbrev Fits : Decision → Type 0
-  Fits d = Leaves a (d .change)
-
-  command-leaves : Fits (commandTurn (viewOf u p (h .«s_id»)) h f)
-  unfolding commandTurn commandedTurn
-  command-leaves =
-      let v = viewOf u p (h .«s_id») in
-      on-found Fits (v .seat) _ _ (λ i _. on-cond Fits (eqb (v .login .paired) 1) (task-leaves (taskOf (cmndOf f) (length f) (h .«s_id»)) (task-mild (cmndOf f) (length f) (h .«s_id»)) _ tt) n) (λ _. n)
 
 module _ (d : Drive) (w : wellFormed (d .unit) (d .port) ≡ true) where
   abbrev u : Unit
@@ -84,7 +59,7 @@ module _ (d : Drive) (w : wellFormed (d .unit) (d .port) ≡ true) where
   decided-aside f a n Link = link-another u p (formed-parts w .logins) (headerOf f) a n f
   decided-aside f a n Done = (tt, tt)
   decided-aside f a n Abort = abts-another u p (formed-parts w .logins) (headerOf f) a n
-  decided-aside f a n Command = (command-another u p (headerOf f) f (formed-parts w .logins) a n, command-leaves u p (headerOf f) f a n)
+  decided-aside f a n Command = command-another u p (headerOf f) f (formed-parts w .logins) a n
 
   -- a frame in comes to its turn, which is a refusal or what a frame that passed comes to
   module _ (f : List ℕ) (room : ℕ) where

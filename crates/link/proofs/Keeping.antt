@@ -1,5 +1,5 @@
 -- No link service makes a state ill formed. Assumes nothing.
-use mathlib.Core.Path.{_≡_, refl, ap, _∙_}
+use mathlib.Core.Path.{_≡_, refl, ap}
 use mathlib.Core.Bool.{Bool, true, false, cond, not}
 use mathlib.Core.List.{List}
 use Prim.Native.Nat.{ℕ, _+_}
@@ -29,16 +29,12 @@ use Rattle.state.specs.Changes.{emptyLogin, isUsed, hasAddress, loginAt, withLo
 use Rattle.state.specs.Tables.{findLogin, freeLogin, lookupOf, soughtIn}
 use Rattle.state.proofs.Places.{found-used, open-place}
 use Rattle.formed.specs.Formed.{fullFrame, paramsFine, flagsFine, addressFine, loginFine, wellFormed}
-use Rattle.formed.proofs.Parts.{Used, fine-used, used-fine}
-use Rattle.formed.proofs.Keeping.{none-fine, none-apart, proven-used, paired-used, unpaired-used, end-used, change-kept, store-kept, update-kept, end-kept}
+use Rattle.formed.proofs.Parts.{fine-used, used-fine}
+use Rattle.formed.proofs.Keeping.{none-fine, none-apart, proven-used, paired-used, unpaired-used, end-used, change-kept, store-kept, update-kept}
 use Rattle.calls.specs.declared.Served.{Served}
 use Rattle.calls.specs.Turn.{Decided, servedAt}
+use Rattle.calls.proofs.Keeping.{Keeps, gone, stays, stored-kept}
 use Rattle.link.specs.Link.{sizeOf, newLogin, outcomeAfter, outcomeOf, outcomePort, plogiOf, provenBy, namesDiffer, pdiscOf, adiscOf, logoOf, pairFine, pageFine, prliOf, prloOf, rrqOf, serviceOf, linkOf, abortedAt, abtsOf}
-
--- what a service makes of a login: none, or one of the same address that is fine where the old one was
-pub data Keeps (u : Unit) (own : ℕ) (l : Login) : Login → Type 0 where
-  gone : Keeps u own l emptyLogin
-  stays : {m : Login} → isUsed m ≡ isUsed l → m .address ≡ l .address → (Used u own l → Used u own m) → Keeps u own l m
 
 module _ (u : Unit) (own : ℕ) (l : Login) where
   abbrev Mild : Served → Type 0
@@ -97,13 +93,6 @@ new-fine u own from q valid other pass =
 pub port-cond : (u : Unit) (b : Bool) (d e : Decided) → wellFormed u (d .port) ≡ true → wellFormed u (e .port) ≡ true → wellFormed u (cond b d e .port) ≡ true
 port-cond u true d e x y = x
 port-cond u false d e x y = y
-
--- what stands where the login of an address stood
-module _ (u : Unit) (p : Port) (w : wellFormed u p ≡ true) (from : ℕ) where
-  pub stored-kept : (i : ℕ) (m : Login) → findLogin p from ≡ At i → Keeps u (p .address) (loginAt p i) m → wellFormed u (withLogin p i m) ≡ true
-  stored-kept i m e gone = end-kept u p w i
-  stored-kept i m e (stays used address fine) =
-      update-kept u p w i m used address (λ f. used-fine {l = m} (used ∙ found-used p from i e) (fine (fine-used (found-used p from i e) f)))
 
 module _ (u : Unit) (p : Port) (w : wellFormed u p ≡ true) (from : ℕ) (valid : validAddress from ≡ true) (other : eqb from (p .address) ≡ false) where
   abbrev Kept : Port → Type 0

@@ -23,18 +23,13 @@ use Rattle.formed.specs.Formed.{loginFine}
 use Rattle.calls.specs.declared.View.{View}
 use Rattle.calls.specs.declared.Decision.{Decision}
 use Rattle.calls.specs.View.{placeFor, viewOf}
-use Rattle.calls.specs.Others.{Another}
+use Rattle.calls.specs.Others.{Another, Elsewhere}
 use Rattle.calls.proofs.Views.{view-seat, view-login, view-place}
 use Rattle.calls.proofs.Decisions.{on-cond, on-found}
 use Rattle.calls.proofs.Others.{other-has, seat-another, place-another}
 use Rattle.link.specs.Link.{sizeOf, newLogin, outcomeAfter}
 use Rattle.link.specs.Turn.{outcomeIn, loginDecision, plogiTurn, logoTurn, linkTurn, abortedLogin, abtsTurn}
-use Rattle.link.proofs.Records.{Leaves}
 use Rattle.link.proofs.Services.{new-has, service-other}
-
--- a decision stores nothing of address a and leaves its record
-abbrev pub Elsewhere : Port → ℕ → Decision → Type 0
-Elsewhere p a d = Another p a (d .at) (d .login) × Leaves a (d .change)
 
 -- an exchange that ends leaves the address of its login
 aborted-has : (l : Login) (ox a : ℕ) → hasAddress a (abortedLogin l ox) ≡ hasAddress a l

@@ -25,7 +25,7 @@ use Rattle.state.proofs.Places.{found-has, found-used}
 use Rattle.formed.specs.Formed.{apartAddress}
 use Rattle.calls.specs.declared.Turn.{Turn}
 use Rattle.calls.specs.Turn.{portAfter}
-use Rattle.calls.specs.Others.{Another}
+use Rattle.calls.specs.Others.{Another, Leaves}
 use Rattle.calls.proofs.Others.{empty-has, other-has, apart-has, changed-sees, others-see}
 use Rattle.link.specs.Record.{Record, out, held, recordAt, recordOf, doubted}
 
@@ -123,17 +123,7 @@ module _ (l : Login) where
         by true e = rw (sym own ∙ other-has a b l n e)
         by false e = refl
 
--- the changes that leave the record of an address: exchanges and attention are no part of it, and another's login may end
-abbrev pub Leaves : ℕ → Change → Type 0
-Leaves a Keep = Unit {0}
-Leaves a EndAll = ⊥
-Leaves a (EndLogin b) = a ≡ b → ⊥
-Leaves a Unprove = ⊥
-Leaves a EndUnproven = ⊥
-Leaves a (EndExchangesOf b) = Unit {0}
-Leaves a Reset = Unit {0}
-Leaves a (Clear b) = Unit {0}
-
+-- a change that leaves a login leaves its record: exchanges and attention are no part of it
 left-in : (a : ℕ) (l : Login) → hasAddress a l ≡ isUsed l → (c : Change) → Leaves a c → recordIn (changedOf c l) ≡ recordIn l
 unfolding abortedOf resetOf clearedBy withoutExchanges
 left-in a l own Keep h = refl

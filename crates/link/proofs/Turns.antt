@@ -19,9 +19,8 @@ use Rattle.state.specs.declared.Port.{Port}
 use Rattle.state.specs.declared.Unit.{Unit}
 use Rattle.state.specs.declared.Change.the-variants.{EndLogin}
 use Rattle.state.specs.declared.Standing.{Standing}
-use Rattle.state.specs.declared.Standing.the-variants.{Open, NoExchange}
 use Rattle.state.specs.Changes.{loginAt, withLogin, endedAt, changedAll}
-use Rattle.state.specs.Tables.{findLogin, findExchange, standingIn, placeIn, soughtIn}
+use Rattle.state.specs.Tables.{findLogin, findExchange, standingIn, soughtIn}
 use Rattle.formed.specs.Formed.{loginFine}
 use Rattle.reply.specs.declared.Reply.the-variants as reply
 use Rattle.calls.specs.declared.View.{View}
@@ -29,7 +28,7 @@ use Rattle.calls.specs.declared.Decision.{Decision}
 use Rattle.calls.specs.View.{placeFor, viewOf}
 use Rattle.calls.specs.Turn.{Decided, decidedAs, servedAt, answersOnly, stores, servedIn, decidedBy, AtBelow}
 use Rattle.calls.proofs.Seats.{place-below}
-use Rattle.calls.proofs.Views.{at-below, view-seat, view-login, view-place, lookup-seen}
+use Rattle.calls.proofs.Views.{at-below, view-seat, view-login, view-place, lookup-seen, sought-seen}
 use Rattle.calls.proofs.Decisions.{on-cond, on-found, stays-put, answers-is, stores-is, served-is, either-is, found-is}
 use Rattle.link.specs.declared.Outcome.{Outcome}
 use Rattle.link.specs.declared.Outcome.the-variants.{Place, Rejected}
@@ -60,18 +59,10 @@ module _ (u : Unit) (p : Port) (fine : all (loginFine u (p .address)) (p .logins
     unfolding logoTurn logoOf
     logo-turn named = either-is p (eqb named from) _ _ refl (answers-is p _)
 
-    -- an exchange stands at the sender's login where the one lookup says
-    sought-is : (i : ℕ) → findLogin p from ≡ At i → (x : ℕ) → findExchange (v .login) x ≡ soughtIn p from x
-    sought-is i e x = sym (ap placeIn (lookup-seen u p from fine x) ∙ ap (λ (s : Found). placeIn (standingIn s (findExchange (v .login) x))) (view-seat u p from fine ∙ e) ∙ placed (findExchange (v .login) x))
-      where
-        placed : (f : Found) → placeIn (onFound f (λ j. Open i j) (NoExchange i)) ≡ f
-        placed (At j) = refl
-        placed Nothing = refl
-
     -- a service on the login that is seen is one on that of the table
     service-turn : (code : ℕ) (f : List ℕ) (i : ℕ) → findLogin p from ≡ At i
         → decidedBy p (servedIn i (serviceOf code (v .login) (findExchange (v .login)) from f)) ≡ servedAt p i (serviceOf code (loginAt p i) (soughtIn p from) from f)
-    service-turn code f i e = served-is p i _ ∙ (λ j. servedAt p i (serviceOf code (view-login u p from fine i e j) (λ x. sought-is i e x j) from f))
+    service-turn code f i e = served-is p i _ ∙ (λ j. servedAt p i (serviceOf code (view-login u p from fine i e j) (λ x. sym (sought-seen u p from fine x) j) from f))
 
   pub link-turn : (h : Header) (f : List ℕ) → decidedBy p (linkTurn (viewOf u p (h .«s_id»)) h f) ≡ linkOf p h f
   unfolding linkTurn linkOf

@@ -1,7 +1,7 @@
 // Runs a drive over records from standard input and writes a line for each: its name, what was answered, and what the table of logins then holds.
 // A record is one of recorder's (S, F, N, E), or one of these; numbers are big-endian:
 //   n  the name of the next line, written as it is
-//   k  many next frames out, of which none is shown: the body of N up to the window, and how many (4 bytes); the window has 65,520 bytes
+//   k  many next frames out, of which none is shown: the body of N up to the window, and how many (4 bytes); the window has 65,520 bytes of no meaning
 //   l  shows all that the login at a place (1 byte) keeps, but for its exchanges
 //   e  shows the eight places for exchanges of the login at a place (1 byte)
 // What a call answers is the reply in hexadecimal, - for nothing to send, or refused and the number, which for what is no call is 255.
@@ -48,26 +48,28 @@ fn taken(s: Session, letter: u8, body: &[u8]) -> Session {
             s
         }
         b'k' => passed(s, body),
-        b'l' => {
-            print_login(login_of(s, body));
-            s
-        }
-        b'e' => {
-            print_open(login_of(s, body));
+        b'l' | b'e' => {
+            look(s, letter, body);
             s
         }
         _ => answered(tell(s, letter, body)),
     }
 }
 
-// The login at the place that a record names.
-fn login_of(s: Session, body: &[u8]) -> Login {
+// Shows the login at the place that a record names.
+fn look(s: Session, letter: u8, body: &[u8]) {
     let d = s.drive;
     let p = d.port;
-    login_at(p, byte_at(body, 0) as usize)
+    let l = login_at(p, byte_at(body, 0) as usize);
+    if letter == b'l' {
+        print_login(l);
+    } else {
+        print_place(l, true);
+    }
+    put(b'\n');
 }
 
-// Many next frames.
+// Many next frames, each from a window that goes on to the end of a large buffer.
 fn passed(s: Session, body: &[u8]) -> Session {
     let mut asking = io::large_buffer();
     put_front(&mut asking, body);
@@ -118,11 +120,6 @@ fn print_table(p: Port) {
         print_place(login_at(p, i), false);
         i += 1;
     }
-    put(b'\n');
-}
-
-fn print_open(l: Login) {
-    print_place(l, true);
     put(b'\n');
 }
 
@@ -238,7 +235,6 @@ fn print_login(l: Login) {
     print_16((a % 65536) as u16);
     print_name(port);
     print_name(node);
-    put(b'\n');
 }
 
 fn print_name(name: [u8; 8]) {

@@ -4,25 +4,25 @@ use Rattle.boundary.proofs.is_reached.Statement.{statement}
 use Rattle.boundary.proofs.is_reached.Tie as tie
 
 returns-2 : tie.Need-returns-2
-returns-2 c = rw (c .enum-told2 .given .1)
+returns-2 c = rw (c .before .enum-told2 .given .1)
 
 returns-3 : tie.Need-returns-3
-returns-3 c = rw (c .before .c .given .1)
+returns-3 c = rw (c .before .before .c .given .1)
 
 returns-4 : tie.Need-returns-4
-returns-4 c = rw (c .enum-told3 .given .1)
+returns-4 c = rw (c .before .enum-told3 .given .1)
 
 returns-5 : tie.Need-returns-5
-returns-5 c = rw (c .enum-told4 .given .1)
+returns-5 c = rw (c .before .enum-told4 .given .1)
 
 returns-6 : tie.Need-returns-6
-returns-6 c = rw (c .before .c2 .given .1)
+returns-6 c = rw (c .before .before .c2 .given .1)
 
 returns-7 : tie.Need-returns-7
-returns-7 c = rw (c .enum-told5 .given .1)
+returns-7 c = rw (c .before .enum-told5 .given .1)
 
 returns-8 : tie.Need-returns-8
-returns-8 c = rw (c .enum-told6 .given .1)
+returns-8 c = rw (c .before .enum-told6 .given .1)
 
 pub is-reached-spec : {M : Type 1} → statement M
 is-reached-spec =

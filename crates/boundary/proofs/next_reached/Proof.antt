@@ -1,5 +1,7 @@
 -- `boundary::next_reached` meets its contract: the places before i were passed over. Assumes nothing.
 use Prim.Native.Nat.{_-_}
+use mathlib.Core.Path.{_≡_}
+use lib.ListN.{length}
 use borrow.Author.Needs.{needs}
 use Rattle.boundary.proofs.Reached.{Passed, pass-starts, pass-on, pass-here, pass-out}
 use Rattle.boundary.proofs.next_reached.Statement.{statement}
@@ -11,11 +13,14 @@ Inv-loop c from keys i₀ i = Passed keys c from i
 abbrev μ-loop : tie.MeasureT-loop
 μ-loop c from keys i₀ i = 8 - i
 
+len : (c : tie.Start Inv-loop μ-loop) → length (c .args .t1) ≡ 8
+len c = search needs
+
 returns : tie.Need-returns Inv-loop μ-loop
-returns c = let t = c .before .before in pass-here (t .before .loop .inv) (c .before .is-reached .ensures) (c .if1 .taken)
+returns c = let t = c .before .before .before in pass-here (t .before .loop .inv) (len (t .before .before)) (t .loop-test .taken) (c .before .is-reached .ensures) (c .if1 .taken)
 
 loop-again : tie.Need-loop-again Inv-loop μ-loop
-loop-again c = let t = c .before .before in pass-on (t .before .loop .inv) (t .loop-test .taken) (c .before .is-reached .ensures) (c .if1 .left)
+loop-again c = let t = c .before .before .before in pass-on (t .before .loop .inv) (len (t .before .before)) (t .loop-test .taken) (c .before .is-reached .ensures) (c .if1 .left)
 
 returns-2 : tie.Need-returns-2 Inv-loop μ-loop
 returns-2 c = pass-out (c .before .loop .inv) (c .loop-test .left)
