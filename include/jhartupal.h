@@ -9,8 +9,8 @@
  *
  * Assumed of the caller, and not checked:
  * - no pointer is NULL, also where its length is 0, and each points to as many bytes as its length says;
- * - d is aligned as its type asks, and lent to one call at a time;
- * - what is lent to one call does not overlap: neither the buffers each other, nor any of them *d.
+ * - d and setup are aligned as their types ask, and lent to one call at a time;
+ * - what is lent to one call does not overlap: neither the buffers each other, nor any of them *d, nor *setup *d.
  */
 #ifndef JHARTUPAL_H
 #define JHARTUPAL_H
@@ -133,10 +133,17 @@ struct jhartupal_drive {
     struct jhartupal_port port;
 };
 
+/* What a drive is made from: 152 bytes, aligned to 8, without padding. */
+struct jhartupal_setup {
+    uint64_t capacity;                    /* blocks: 1 to 4,294,967,295 */
+    uint32_t address;                     /* the drive's own address: valid */
+    uint8_t identity[JHARTUPAL_IDENTITY]; /* any bytes */
+    uint8_t accept[JHARTUPAL_ACCEPT];     /* words 1 to 28 of its login accept: they pass the PLOGI rules, with W20/B1 = 01h */
+};
+
 /* Makes a drive with no logins in *d, whatever stood there: well formed, as every call leaves it. Answers 0, or refusal 8 where capacity,
- * address or accept words break a rule, n is not 28 or m is not 112. */
-uint64_t drive_make(struct jhartupal_drive *d, uint64_t capacity, uint32_t address, const uint8_t *identity, size_t n,
-                    const uint8_t *accept, size_t m);
+ * address or accept words break a rule. */
+uint64_t drive_make(struct jhartupal_drive *d, const struct jhartupal_setup *setup);
 
 /* Takes a frame, SOF, EOF and CRC removed, and writes its reply. A command that has bytes to send answers 0 and opens an exchange, whose
  * frames drive_next gives. Refusals 1 to 7. */

@@ -10,20 +10,22 @@ import sys
 
 sys.dont_write_bytecode = True
 from frames import *  # noqa: E402, F403
+from session import LOOP_RESET, POWER_ON, ROOM, TIME_OVER, asking, record, setup  # noqa: E402
 
 # the lines
 
-records, lines = [], []
-
-
-def record(letter, body):
-    records.append(letter.encode() + len(body).to_bytes(2, "big") + body)
+given, records, lines = [], [], []  # all that is read; of it the records that have a line, and these lines
 
 
 def line(name, letter, body, says):
-    record("n", name.encode() + b" ")
-    record(letter, body)
+    records.append(record(letter, body))
+    given.extend((record("n", name.encode() + b" "), records[-1]))
     lines.append(name + " " + says)
+
+
+def framed(f):
+    """The body of a frame in."""
+    return ROOM.to_bytes(2, "big") + f
 
 
 def table(text):
@@ -34,7 +36,7 @@ def table(text):
 
 def answers(name, f, reply, after):
     """A frame, the reply to it, and the table after it."""
-    line(name, "f", f, (reply(f).hex().upper() or "-") + " " + table(after))
+    line(name, "F", framed(f), (reply(f).hex().upper() or "-") + " " + table(after))
 
 
 def refuses(name, number, letter, body, after):
@@ -42,21 +44,17 @@ def refuses(name, number, letter, body, after):
     line(name, letter, body, "refused %d %s" % (number, table(after)))
 
 
-def setup(capacity=CAPACITY, own=OWN, words=WORDS):
-    return capacity.to_bytes(8, "big") + own + IDENTITY + words
-
-
 def fresh(after="", capacity=CAPACITY, **changes):
     """A drive without logins; then each host named logs in."""
-    line("setup", "s", setup(capacity), "- " + table(""))
+    line("setup", "S", setup(capacity), "- " + table(""))
     so_far = ""
     for host in bytes.fromhex(after):
         so_far += " %02Xp29" % host  # "proven, unpaired, attention 29h"
         answers("plogi", login(host, **changes), login_acc, so_far)
 
 
-def event(name, letter, after):
-    line(name, letter, b"", "- " + table(after))
+def event(name, number, after):
+    line(name, "E", bytes([number]), "- " + table(after))
 
 
 def opens(host, ox_id, after):
@@ -211,18 +209,18 @@ def verified():
     opens(0x01, 0x0101, "01P29:0101 02p29")
     for name, f, reply in (("pdisc", pdisc(0x01), login_acc), ("adisc", adisc(0x01), adisc_acc),
                            ("pdisc-other-sizes", pdisc(0x01, w2=b"\x01\x00", w18=b"\x02\x00", w19=b"\x09", w20=b"\x08"), login_acc)):
-        event("reset", "r", "01U29:0101 02u29")
+        event("reset", LOOP_RESET, "01U29:0101 02u29")
         answers("reset-" + name, f, reply, "01P29:0101 02u29")
         keeps("kept-" + name, 0, "01" "01" "01" "29" "FF" "01" "0840" "00000001 2000525400120001 1000525400120001")
-    event("reset", "r", "01U29:0101 02u29")
+    event("reset", LOOP_RESET, "01U29:0101 02u29")
     for name, pair, changes in WORD_TESTS:  # "PDISC then tests as PLOGI, .. changing nothing on reject"
         if not changes.keys() & {"port", "node"}:
             answers("pdisc-" + name, pdisc(0x01, **changes), rjt(pair), "01U29:0101 02u29")
     keeps("kept-rejected", 0, "01" "00" "01" "29" "FF" "01" "0840" "00000001 2000525400120001 1000525400120001")
     answers("reset-logo", logo(0x02), acc, "01U29:0101")
     answers("reset-plogi", login(0x02), login_acc, "01U29:0101 02p29")
-    event("verification-over", "v", ". 02p29")
-    event("power-on", "o", "")
+    event("verification-over", TIME_OVER, ". 02p29")
+    event("power-on", POWER_ON, "")
 
 
 def other_names():
@@ -239,7 +237,7 @@ def other_names():
                     ("adisc-swapped", adisc(0x01, port=node, node=port)), ("adisc-address", adisc(0x01, named=0x02))):
         answers(name, f, logout, "02p29")
         answers("plogi", login(0x01), login_acc, "02p29 01p29")
-        event("reset", "r", "02u29 01u29")
+        event("reset", LOOP_RESET, "02u29 01u29")
         answers(name + "-unproven", f, logout, "02u29")
         answers("plogi", login(0x01), login_acc, "02u29 01p29")
         answers("pdisc", pdisc(0x02), login_acc, "02p29 01p29")
@@ -434,7 +432,7 @@ def target_reset():
     opens(0x02, 0x0102, "01P:0101 02P:0101:0102 04P 08P 0FP 10P")
     opens(0x0F, 0x0103, "01P:0101 02P:0101:0102 04P 08P 0FP:0103 10P")
     answers("prlo", prlo(0x08), prlo_acc, "01P:0101 02P:0101:0102 04P 08p 0FP:0103 10P")
-    event("reset", "r", "01U:0101 02U:0101:0102 04U 08u 0FU:0103 10U")
+    event("reset", LOOP_RESET, "01U:0101 02U:0101:0102 04U 08u 0FU:0103 10U")
     answers("pdisc", pdisc(0x01), login_acc, "01P:0101 02U:0101:0102 04U 08u 0FU:0103 10U")
     answers("adisc", adisc(0x02), adisc_acc, "01P:0101 02P:0101:0102 04U 08u 0FU:0103 10U")
     answers("adisc", adisc(0x10), adisc_acc, "01P:0101 02P:0101:0102 04U 08u 0FU:0103 10P")
@@ -464,7 +462,7 @@ def clear_task_set():
     opens(0x02, 0x0102, "01P:0101 02P:0102 04P 08P 0FP29:0101 10P2F")
     opens(0x02, 0x0103, "01P:0101 02P:0102:0103 04P 08P 0FP29:0101 10P2F")
     opens(0x08, 0x0104, "01P:0101 02P:0102:0103 04P 08P:0104 0FP29:0101 10P2F")
-    event("reset", "r", "01U:0101 02U:0102:0103 04U 08U:0104 0FU29:0101 10U2F")
+    event("reset", LOOP_RESET, "01U:0101 02U:0102:0103 04U 08U:0104 0FU29:0101 10U2F")
     answers("pdisc", pdisc(0x01), login_acc, "01P:0101 02U:0102:0103 04U 08U:0104 0FU29:0101 10U2F")
     answers("pdisc", pdisc(0x02), login_acc, "01P:0101 02P:0102:0103 04U 08U:0104 0FU29:0101 10U2F")
     answers("adisc", adisc(0x04), adisc_acc, "01P:0101 02P:0102:0103 04P 08U:0104 0FU29:0101 10U2F")
@@ -753,28 +751,20 @@ def unnamed_of_commands():
 # the next frames
 
 
-def asking(address, ox_id, start=0, window=b""):
-    return address.to_bytes(4, "big") + ox_id.to_bytes(2, "big") + start.to_bytes(8, "big") + window
-
-
-def asking_many(address, ox_id, count):
-    return address.to_bytes(4, "big") + ox_id.to_bytes(2, "big") + count.to_bytes(4, "big")
-
-
 def gives(name, f, reply, after, start=0, window=b""):
     """The next frame of the exchange that the command f opened, from this window."""
-    line(name, "w", asking(sender(f), ox_of(f), start, window), reply.hex().upper() + " " + table(after))
+    line(name, "N", asking(sender(f), ox_of(f), start, window), reply.hex().upper() + " " + table(after))
 
 
-def gives_last(name, f, count, reply, after):
-    """The last of many next frames, from windows that the program makes: every byte of block b is b modulo 251."""
-    line(name, "k", asking_many(sender(f), ox_of(f), count), reply.hex().upper() + " " + table(after))
+def passes(address, ox_id, count, start=0):
+    """Many next frames, of which none is shown."""
+    given.append(record("k", asking(address, ox_id, start) + count.to_bytes(4, "big")))
 
 
 def ends(name, f, response, after):
     """"FCP_RSP follows and frees the place"; the next call finds no exchange."""
     gives(name + "-rsp", f, response(f), after)
-    refuses(name + "-freed", 9, "w", asking(sender(f), ox_of(f)), after)
+    refuses(name + "-freed", 9, "N", asking(sender(f), ox_of(f)), after)
 
 
 def reads(name, ox_id, address, count, dl, response, size=2048):
@@ -816,7 +806,7 @@ def far():
     f = cmnd(0x01, 0x0102, read(8388608, 1), 512)
     answers("next-far-last", f, nothing, "01P:0102")
     for name, start in (("zero", 0), ("before", 8388607), ("after", 8388609), ("doubled", 16777216)):  # its byte in 32 bits is 0
-        refuses("next-far-last-" + name, 10, "w", asking(0x01, 0x0102, start, bytes(512)), "01P:0102")
+        refuses("next-far-last-" + name, 10, "N", asking(0x01, 0x0102, start, bytes(512)), "01P:0102")
     gives("next-far-last-0", f, data(f, 0, 0, unit(8388608, 512), True), "01P:0102", 8388608, unit(8388608, 512))
     ends("next-far-last", f, good(), "01P")
 
@@ -828,13 +818,17 @@ def going_round():
     answers("next-long", f, nothing, "01P:0101")
     asked = 0
     for number in (1, 2, 65536, 65537, 131069, 131070):  # the frame of this number, counted from 1, from half of its block
+        for passed in range(asked, number - 1, 250):  # these are of 126 blocks at most, and the window has more
+            passes(0x01, 0x0101, min(250, number - 1 - passed), 7 + passed // 2)
         offset = 256 * (number - 1)
-        half = bytes([(7 + offset // 512) % 251]) * 256
-        gives_last("next-long-%d" % number, f, number - asked, data(f, number - 1, offset, half, number == 131070), "01P:0101")
+        start = 7 + offset // 512
+        lent = bytes([start % 251]) * 512
+        gives("next-long-%d" % number, f, data(f, number - 1, offset, lent[:256], number == 131070), "01P:0101", start, lent)
         shows("next-long-%d-sent" % number, 0, "01P", exchange(0x0101, "READ", 33553920, 33553920, 7, 65535, offset + 256, number % 65536))
         asked = number
     ends("next-long", f, good(), "01P")
-    refuses("next-long-over", 9, "k", asking_many(0x01, 0x0101, 2), "01P")
+    passes(0x01, 0x0101, 1)
+    refuses("next-long-over", 9, "N", asking(0x01, 0x0101), "01P")
 
 
 def fetches(name, f, content, response, opened, after):
@@ -879,26 +873,27 @@ def next_refusals():
     both = "01P:0101:0102 02P"
     for name, address, ox_id in (("ox-id", 0x01, 0x0103), ("other-login", 0x02, 0x0101), ("no-login", 0x04, 0x0101), ("ours", 0xEF, 0x0101),
                                  ("zero", 0x00, 0x0101), ("upper", 0x01000001, 0x0101), ("middle", 0x0101, 0x0101)):
-        refuses("next-none-" + name, 9, "w", asking(address, ox_id, 10, unit(10, 2048)), both)
-        refuses("next-none-%s-window" % name, 9, "w", asking(address, ox_id), both)  # before the window
+        refuses("next-none-" + name, 9, "N", asking(address, ox_id, 10, unit(10, 2048)), both)
+        refuses("next-none-%s-window" % name, 9, "N", asking(address, ox_id), both)  # before the window
     for name, start, size in (("before", 9, 2048), ("after", 11, 2048), ("short", 10, 2047), ("none", 10, 0), ("most", 2 ** 64 - 1, 2048),
                               ("wrapped", 2 ** 55 + 10, 2048)):  # 512 times 2 to the 55th is 0 in 64 bits
-        refuses("next-window-" + name, 10, "w", asking(0x01, 0x0101, start, bytes(size)), both)
+        refuses("next-window-" + name, 10, "N", asking(0x01, 0x0101, start, bytes(size)), both)
     gives("next-covered", f, data(f, 0, 0, unit(10, 2048), False), both, 10, unit(10, 2048))
-    refuses("next-window-same", 10, "w", asking(0x01, 0x0101, 10, unit(10, 2048)), both)  # the second frame is in blocks 14 and 15
-    refuses("next-window-second-short", 10, "w", asking(0x01, 0x0101, 14, unit(14, 951)), both)
-    event("reset", "r", "01U:0101:0102 02U")
-    refuses("next-unproven", 7, "w", asking(0x01, 0x0101, 14, unit(14, 952)), "01U:0101:0102 02U")
-    refuses("next-unproven-window", 7, "w", asking(0x01, 0x0101), "01U:0101:0102 02U")  # before the window
-    refuses("next-unproven-made", 7, "w", asking(0x01, 0x0102), "01U:0101:0102 02U")
-    refuses("next-unproven-ox-id", 9, "w", asking(0x01, 0x0103), "01U:0101:0102 02U")  # after the exchange
-    refuses("next-unproven-many", 7, "k", asking_many(0x01, 0x0101, 3), "01U:0101:0102 02U")
+    refuses("next-window-same", 10, "N", asking(0x01, 0x0101, 10, unit(10, 2048)), both)  # the second frame is in blocks 14 and 15
+    refuses("next-window-second-short", 10, "N", asking(0x01, 0x0101, 14, unit(14, 951)), both)
+    event("reset", LOOP_RESET, "01U:0101:0102 02U")
+    refuses("next-unproven", 7, "N", asking(0x01, 0x0101, 14, unit(14, 952)), "01U:0101:0102 02U")
+    refuses("next-unproven-window", 7, "N", asking(0x01, 0x0101), "01U:0101:0102 02U")  # before the window
+    refuses("next-unproven-made", 7, "N", asking(0x01, 0x0102), "01U:0101:0102 02U")
+    refuses("next-unproven-ox-id", 9, "N", asking(0x01, 0x0103), "01U:0101:0102 02U")  # after the exchange
+    passes(0x01, 0x0101, 2, 14)
+    refuses("next-unproven-many", 7, "N", asking(0x01, 0x0101, 14, unit(14, 952)), "01U:0101:0102 02U")
     shows("next-unproven-open", 0, "01U", exchange(0x0101, "READ", 3072, 3000, 10, 6, 2048, 1) + " " + exchange(0x0102, "INQUIRY", 36, 36))
     answers("pdisc", pdisc(0x01), login_acc, "01P:0101:0102 02U")
     gives("next-proven", f, data(f, 1, 2048, unit(14, 952), True), "01P:0101:0102 02U", 14, unit(14, 952))
     ends("next-proven", f, over(72), "01P:0102 02U")
     answers("abts", abts(0x01, 0x0102), ba_acc, "01P 02U")
-    refuses("next-aborted", 9, "w", asking(0x01, 0x0102), "01P 02U")
+    refuses("next-aborted", 9, "N", asking(0x01, 0x0102), "01P 02U")
 
 
 def changed(f, at, value):
@@ -908,36 +903,37 @@ def changed(f, at, value):
 
 def no_drive_yet():
     """"2 | state not well formed": the program starts with a drive that is all zeros."""
-    for name, letter, body in (("frame", "f", login(0x01)), ("frame-size", "f", b""), ("next", "w", asking(0x01, 0x0101)),
-                               ("next-many", "k", asking_many(0x01, 0x0101, 1)), ("reset", "r", b""), ("verification-over", "v", b""),
-                               ("power-on", "o", b"")):
+    passes(0x01, 0x0101, 1)
+    for name, letter, body in (("frame", "F", framed(login(0x01))), ("frame-size", "F", framed(b"")), ("next", "N", asking(0x01, 0x0101)),
+                               ("next-many", "N", asking(0x01, 0x0101)), ("reset", "E", bytes([LOOP_RESET])),
+                               ("verification-over", "E", bytes([TIME_OVER])), ("power-on", "E", bytes([POWER_ON]))):
         refuses("no-drive-" + name, 2, letter, body, "")
-    refuses("no-drive-setup", 8, "s", setup(0), "")
-    refuses("no-drive-still", 2, "f", login(0x01), "")
+    refuses("no-drive-setup", 8, "S", setup(0), "")
+    refuses("no-drive-still", 2, "F", framed(login(0x01)), "")
 
 
 def refusals():
     """"Frame in: 1 to 7 in order"; "Making a drive: 8"."""
     ready("01")
     w20 = WORDS[:77] + b"\x02" + WORDS[78:]  # W20/B1 is byte 81 of the payload; "with W20/B1 = 01h"
-    for name, body in (("capacity-0", setup(0)), ("capacity-33-bits", setup(2 ** 32)), ("address", setup(own=bytes.fromhex("0000F0"))),
+    for name, body in (("capacity-0", setup(0)), ("capacity-33-bits", setup(2 ** 32)), ("address", setup(address=0x0000F0)),
                        ("words", setup(words=w20))):
-        refuses("setup-" + name, 8, "s", body, "01P")
+        refuses("setup-" + name, 8, "S", body, "01P")
     f = test_unit(0x01)
     for size in (0, 20, 23, 25, 26, 2134):  # "frame not 24 to 2,136 bytes, or not a multiple of 4"
-        refuses("frame-of-%d" % size, 3, "f", changed(f, 3, 0xE8).ljust(size, b"\x00")[:size], "01P")
-    refuses("frame-to-another", 4, "f", changed(changed(f, 3, 0xE8), 7, 0x03), "01P")
+        refuses("frame-of-%d" % size, 3, "F", framed(changed(f, 3, 0xE8).ljust(size, b"\x00")[:size]), "01P")
+    refuses("frame-to-another", 4, "F", framed(changed(changed(f, 3, 0xE8), 7, 0x03)), "01P")
     for name, host in (("no-address", 0x03), ("zero", 0x00), ("us", 0xEF)):
-        refuses("frame-from-" + name, 5, "f", changed(changed(f, 7, host), 8, 0x01), "01P")
+        refuses("frame-from-" + name, 5, "F", framed(changed(changed(f, 7, host), 8, 0x01)), "01P")
     for name, at, value in (("r-ctl", 0, 0x07), ("type", 8, 0x01), ("df-ctl", 13, 0x01), ("seq-cnt", 15, 0x01), ("f-ctl", 11, 0x02)):
-        refuses("form-" + name, 6, "f", changed(f, at, value), "01P")
-    refuses("form-no-payload", 6, "f", frame(0x01, 0x0101, b""), "01P")
+        refuses("form-" + name, 6, "F", framed(changed(f, at, value)), "01P")
+    refuses("form-no-payload", 6, "F", framed(frame(0x01, 0x0101, b"")), "01P")
     answers("answer", frame(0x01, 0x0101, bytes.fromhex("02000000"), r_ctl=0x23), nothing, "01P")  # "answered with nothing and changes nothing"
-    event("reset", "r", "01U")
-    refuses("form-unproven", 6, "f", changed(f, 15, 0x01), "01U")
+    event("reset", LOOP_RESET, "01U")
+    refuses("form-unproven", 6, "F", framed(changed(f, 15, 0x01)), "01U")
     for name, g in (("command", f), ("abts", abts(0x01, 0x0101)), ("prli", prli(0x01)), ("prlo", prlo(0x01)), ("rrq", rrq(0x01, 0x0101)),
                     ("answer", frame(0x01, 0x0101, bytes(4), r_ctl=0x23))):  # "spares only PLOGI, PDISC, ADISC, LOGO"
-        refuses("unproven-" + name, 7, "f", g, "01U")
+        refuses("unproven-" + name, 7, "F", framed(g), "01U")
 
 
 for part in (no_drive_yet, a_linux_host, other_codes_and_sizes, no_login, plogi_tests, places, verified, other_names, pairing, logo_and_rrq,
@@ -946,7 +942,7 @@ for part in (no_drive_yet, a_linux_host, other_codes_and_sizes, no_login, plogi_
              refusals, reading, far, going_round, made_data, next_refusals):
     part()
 
-STDIN, STDOUT = b"".join(records), "".join(text + "\n" for text in lines).encode()
+STDIN, STDOUT = b"".join(given), "".join(text + "\n" for text in lines).encode()
 
 if __name__ == "__main__":
     sys.stdout.buffer.write({"stdin": STDIN, "stdout": STDOUT}[sys.argv[1]])

@@ -183,10 +183,9 @@ static uint64_t some_make(struct jhartupal_drive *d) {
     uint8_t words[JHARTUPAL_ACCEPT];
     uint64_t capacity = below(4) == 0 ? chance() : 1 + below(CAPACITY);
     uint32_t address = below(4) == 0 ? below(256) : OWN;
-    size_t n = below(8) == 0 ? below(60) : JHARTUPAL_IDENTITY, m = below(8) == 0 ? below(sizeof words + 1) : sizeof words;
     memcpy(words, accept_words(), sizeof words);
     spoil(words, sizeof words, below(40));
-    return make(d, capacity, address, window, n, words, m);
+    return make(d, capacity, address, window, words);
 }
 
 static int some_function(void) {

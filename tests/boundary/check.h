@@ -72,7 +72,7 @@ bool same(const struct jhartupal_drive *one, const struct jhartupal_drive *other
 void mark(size_t offset, size_t width);
 size_t marked(void);
 void lend_start(void);
-uint64_t make(struct jhartupal_drive *d, uint64_t capacity, uint32_t address, const uint8_t *id, size_t n, const uint8_t *words, size_t m);
+uint64_t make(struct jhartupal_drive *d, uint64_t capacity, uint32_t address, const uint8_t *id, const uint8_t *words);
 uint64_t frame_in(struct jhartupal_drive *d, const uint8_t *bytes, size_t n, size_t room);
 uint64_t next_out(struct jhartupal_drive *d, uint32_t address, uint16_t ox_id, uint64_t start, const uint8_t *bytes, size_t n, size_t room);
 uint64_t event(struct jhartupal_drive *d, int number);

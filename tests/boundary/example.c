@@ -6,9 +6,7 @@ static uint8_t reply[JHARTUPAL_REPLY], window[JHARTUPAL_MOST_DATA + JHARTUPAL_BL
 static void sent(uint64_t said) {
     if (0 < said && said < JHARTUPAL_REFUSED) chip_send(reply, (size_t)said);
 }
-int power_up(uint64_t blocks, const uint8_t *identity, const uint8_t *accept) {
-    return drive_make(&drive, blocks, 0xEF, identity, JHARTUPAL_IDENTITY, accept, JHARTUPAL_ACCEPT) == 0;
-}
+int power_up(const struct jhartupal_setup *setup) { return drive_make(&drive, setup) == 0; }
 void frame_arrived(const uint8_t *frame, size_t n) { sent(drive_frame(&drive, frame, n, reply, sizeof reply)); }
 void may_send(size_t login, size_t place) {
     const struct jhartupal_login *l = &drive.port.logins[login];

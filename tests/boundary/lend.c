@@ -84,7 +84,7 @@ bool same(const struct jhartupal_drive *one, const struct jhartupal_drive *other
 
 /* Each ends where memory begins that nobody may touch. */
 enum { GUARD = 64, GUARD_BYTE = 0xC3, SMALL = PAGE, LARGE = 2 * PAGE };
-static uint8_t *drive_end, *in_end, *words_end, *reply_end;
+static uint8_t *drive_end, *in_end, *reply_end;
 static uint8_t pattern[MOST_ROOM], guards[GUARD];
 const uint8_t *reply;
 
@@ -100,7 +100,6 @@ static uint8_t *area(size_t n) {
 void lend_start(void) {
     drive_end = area(SMALL);
     in_end = area(LARGE);
-    words_end = area(SMALL);
     reply_end = area(SMALL);
     memset(guards, GUARD_BYTE, sizeof guards);
     for (size_t i = 0; i < sizeof pattern; i++) {
@@ -164,10 +163,13 @@ static uint64_t told(const struct call *c, unsigned long long said, struct jhart
     return said;
 }
 
-uint64_t make(struct jhartupal_drive *d, uint64_t capacity, uint32_t address, const uint8_t *id, size_t n, const uint8_t *words, size_t m) {
+uint64_t make(struct jhartupal_drive *d, uint64_t capacity, uint32_t address, const uint8_t *id, const uint8_t *words) {
     struct jhartupal_drive *lent = lend_drive(d);
-    uint64_t said = drive_make(lent, capacity, address, lend(in_end, id, n), n, lend(words_end, words, m), m);
-    promise(untouched(in_end, id, n) && untouched(words_end, words, m), "drive_make: identity or accept words are changed");
+    struct jhartupal_setup setup = {.capacity = capacity, .address = address};
+    memcpy(setup.identity, id, JHARTUPAL_IDENTITY);
+    memcpy(setup.accept, words, JHARTUPAL_ACCEPT);
+    uint64_t said = drive_make(lent, (const struct jhartupal_setup *)(const void *)lend(in_end, &setup, sizeof setup));
+    promise(untouched(in_end, (const uint8_t *)&setup, sizeof setup), "drive_make: the setup is changed");
     return told(&make_call, said, d, 0);
 }
 

@@ -14,28 +14,21 @@ static void setups(void) {
     static const struct { const char *name; size_t at; uint64_t value; size_t n; } broken[] = {
         {"W2 size 252", 10, 0x00FC, 2}, {"W2 size 258", 10, 0x0102, 2}, {"W2 size 2,116", 10, 0x0844, 2}, {"port name", 20, 0, 8}, {"node name", 28, 0, 8},
         {"W17 bit 31", 68, 0x7F, 1}, {"W18 size 252", 74, 0x00FC, 2}, {"W18 size 2,116", 74, 0x0844, 2}, {"W19/B1", 77, 0, 1}, {"W20/B1 0", 81, 0, 1}, {"W20/B1 2", 81, 2, 1}};
-    static const size_t lengths[][2] = {{JHARTUPAL_IDENTITY - 1, JHARTUPAL_ACCEPT}, {JHARTUPAL_IDENTITY + 1, JHARTUPAL_ACCEPT}, {0, JHARTUPAL_ACCEPT},
-                                        {JHARTUPAL_IDENTITY, JHARTUPAL_ACCEPT - 1}, {JHARTUPAL_IDENTITY, JHARTUPAL_ACCEPT + 1}, {JHARTUPAL_IDENTITY, 0},
-                                        {JHARTUPAL_ACCEPT, JHARTUPAL_IDENTITY}};
-    uint8_t words[4 + JHARTUPAL_ACCEPT], long_bytes[JHARTUPAL_ACCEPT + 1] = {0};
+    uint8_t words[4 + JHARTUPAL_ACCEPT];
     struct jhartupal_drive d;
     full(&d);
-    refused("capacity 0", make(&d, JHARTUPAL_LEAST_BLOCKS - 1, OWN, identity, JHARTUPAL_IDENTITY, accept_words(), JHARTUPAL_ACCEPT), JHARTUPAL_BAD_SETUP);
-    refused("capacity 2^32", make(&d, JHARTUPAL_MOST_BLOCKS + 1, OWN, identity, JHARTUPAL_IDENTITY, accept_words(), JHARTUPAL_ACCEPT), JHARTUPAL_BAD_SETUP);
-    refused("capacity 2^64 - 1", make(&d, UINT64_MAX, OWN, identity, JHARTUPAL_IDENTITY, accept_words(), JHARTUPAL_ACCEPT), JHARTUPAL_BAD_SETUP);
+    refused("capacity 0", make(&d, JHARTUPAL_LEAST_BLOCKS - 1, OWN, identity, accept_words()), JHARTUPAL_BAD_SETUP);
+    refused("capacity 2^32", make(&d, JHARTUPAL_MOST_BLOCKS + 1, OWN, identity, accept_words()), JHARTUPAL_BAD_SETUP);
+    refused("capacity 2^64 - 1", make(&d, UINT64_MAX, OWN, identity, accept_words()), JHARTUPAL_BAD_SETUP);
     for (size_t i = 0; i < sizeof addresses / sizeof addresses[0]; i++) {
-        refused("own address", make(&d, 100, addresses[i], identity, JHARTUPAL_IDENTITY, accept_words(), JHARTUPAL_ACCEPT), JHARTUPAL_BAD_SETUP);
+        refused("own address", make(&d, 100, addresses[i], identity, accept_words()), JHARTUPAL_BAD_SETUP);
     }
     for (size_t i = 0; i < sizeof broken / sizeof broken[0]; i++) {
         memcpy(words + 4, accept_words(), JHARTUPAL_ACCEPT);
         put(words + broken[i].at, broken[i].value, broken[i].n);
-        refused(broken[i].name, make(&d, 100, OWN, identity, JHARTUPAL_IDENTITY, words + 4, JHARTUPAL_ACCEPT), JHARTUPAL_BAD_SETUP);
+        refused(broken[i].name, make(&d, 100, OWN, identity, words + 4), JHARTUPAL_BAD_SETUP);
     }
-    memcpy(long_bytes, accept_words(), JHARTUPAL_ACCEPT);
-    for (size_t i = 0; i < sizeof lengths / sizeof lengths[0]; i++) {
-        refused("lengths", make(&d, 100, OWN, long_bytes, lengths[i][0], long_bytes, lengths[i][1]), JHARTUPAL_BAD_SETUP);
-    }
-    check(make(&d, JHARTUPAL_LEAST_BLOCKS, 0x01, long_bytes, JHARTUPAL_IDENTITY, long_bytes, JHARTUPAL_ACCEPT) == 0 && d.unit.capacity == JHARTUPAL_LEAST_BLOCKS
+    check(make(&d, JHARTUPAL_LEAST_BLOCKS, 0x01, identity, accept_words()) == 0 && d.unit.capacity == JHARTUPAL_LEAST_BLOCKS
               && d.port.address == 0x01,
           "a drive of one block is made");
 }

@@ -22,7 +22,7 @@ static void silent(const char *what, uint64_t said) {
 
 void made(struct jhartupal_drive *d, uint64_t capacity) {
     memset(d, 0xEE, sizeof *d);
-    silent("drive_make", make(d, capacity, OWN, identity, sizeof identity, accept_words(), JHARTUPAL_ACCEPT));
+    silent("drive_make", make(d, capacity, OWN, identity, accept_words()));
 }
 
 void paired(struct jhartupal_drive *d, uint8_t host, uint16_t size) {

@@ -3,7 +3,7 @@
 
 void chip_send(const uint8_t *frame, size_t n);
 void store_read(uint64_t block, uint8_t *bytes, size_t n);
-int power_up(uint64_t blocks, const uint8_t *identity_bytes, const uint8_t *accept);
+int power_up(const struct jhartupal_setup *setup);
 void frame_arrived(const uint8_t *frame, size_t n);
 void may_send(size_t login, size_t place);
 
@@ -25,13 +25,23 @@ static void shows(const char *what, unsigned frames, const struct frame *last) {
     check(frames_sent == frames && seen.n == last->n && memcmp(seen.b, last->b, last->n) == 0, "example: %s, %u frames sent and not %u", what, frames_sent, frames);
 }
 
+/* The setup of a drive of so many blocks. */
+static const struct jhartupal_setup *with_blocks(uint64_t blocks) {
+    static struct jhartupal_setup setup;
+    setup.capacity = blocks;
+    setup.address = OWN;
+    memcpy(setup.identity, identity, sizeof identity);
+    memcpy(setup.accept, accept_words(), sizeof setup.accept);
+    return &setup;
+}
+
 static void arrives(struct frame f) {
     frame_arrived(f.b, f.n);
 }
 
 void example(void) {
     struct frame f = plogi(0x04, 300), g = reading(0x04, 0x0D01, 8388606, 4, 2048), wanted = login_acc(&f);
-    check(power_up(8388610, identity, accept_words()) == 1, "example: a drive");
+    check(power_up(with_blocks(8388610)) == 1, "example: a drive");
     arrives(f);
     shows("login", 1, &wanted);
     arrives(prli(0x04));
@@ -49,5 +59,5 @@ void example(void) {
     may_send(0, 0); /* the place is free, and nothing is sent */
     arrives(answer_frame(0x03));
     shows("nothing to send, and refused", 11, &wanted);
-    check(power_up(0, identity, accept_words()) == 0, "example: no drive of no blocks");
+    check(power_up(with_blocks(0)) == 0, "example: no drive of no blocks");
 }

@@ -19,8 +19,17 @@ pub struct State {
     pub port: Port,
 }
 
+/// What a drive is made from, as include/jhartupal.h has it.
+#[repr(C)]
+struct Setup {
+    capacity: u64,
+    address: u32,
+    identity: [u8; 28],
+    accept: [u8; 112],
+}
+
 extern "C" {
-    fn drive_make(d: &mut State, capacity: u64, own: u32, identity: *const u8, n: usize, accept: *const u8, m: usize) -> u64;
+    fn drive_make(d: &mut State, setup: &Setup) -> u64;
     fn drive_frame(d: &mut State, frame: *const u8, n: usize, reply: *mut u8, room: usize) -> u64;
     fn drive_next(
         d: &mut State,
@@ -39,10 +48,11 @@ extern "C" {
 
 impl State {
     pub fn make(capacity: u64, own: u32, identity: &[u8; 28], accept: &[u8; 112]) -> State {
-        // SAFETY: any bytes are a state, zeros too; the slices are as long as is said
+        let setup = Setup { capacity, address: own, identity: *identity, accept: *accept };
+        // SAFETY: any bytes are a state, zeros too
         unsafe {
             let mut d = std::mem::zeroed();
-            assert_eq!(drive_make(&mut d, capacity, own, identity.as_ptr(), 28, accept.as_ptr(), 112), 0);
+            assert_eq!(drive_make(&mut d, &setup), 0);
             d
         }
     }

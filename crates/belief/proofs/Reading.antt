@@ -13,7 +13,7 @@ use Rattle.wire.specs.Bytes.{onto}
 use Rattle.wire.proofs.Fronts.{onto-fits}
 use Rattle.frame.specs.declared.Header.{Header}
 use Rattle.frame.specs.Head.{headerBytes}
-use Rattle.reply.specs.declared.Own.{Own}
+use Rattle.state.specs.declared.Own.{Own}
 use Rattle.reply.specs.declared.Accepted.{Accepted}
 use Rattle.reply.specs.declared.Accepted.the-variants as accepted
 use Rattle.reply.specs.declared.Reply.{Reply}

@@ -1,43 +1,47 @@
 -- A frame of the host: what each kind of request is answered with, and the record after it, from the record before it. Assumes nothing.
-use Prim.Native.Nat.{ℕ, _+_, _≤_}
+use Prim.Native.Nat.{ℕ, _+_}
 use mathlib.Core.Path.{_≡_, refl, sym, ap, _∙_, subst}
 use mathlib.Core.Bool.{Bool, true, false}
 use mathlib.Core.List.{List}
 use native.Mathlib.Omega.{arith}
+use lib.Dec.{eqb}
 use lib.ListN.{length, getD}
 use borrow.Author.Tests.{ltb-false, eq-eqb}
-use Rattle.tables.specs.Lists.{pairs}
+use Rattle.tables.specs.declared.Found.{Found}
+use Rattle.tables.specs.declared.Found.the-variants.{At, Nothing}
+use Rattle.tables.specs.Lists.{onFound, pairs}
+use Rattle.tables.proofs.Bools as bools
 use Rattle.wire.specs.Bytes.{num}
 use Rattle.frame.specs.declared.Header.{Header}
 use Rattle.frame.specs.Head.{headerOf}
 use Rattle.params.specs.declared.Params.{Params}
 use Rattle.params.specs.Words.{paramsOf}
+use Rattle.state.specs.declared.Login.{Login}
 use Rattle.state.specs.declared.Port.{Port}
 use Rattle.state.specs.declared.Change.the-variants.{EndLogin}
-use Rattle.state.specs.Changes.{changedAll}
+use Rattle.state.specs.Changes.{ownOf, loginAt, changedAll}
+use Rattle.state.specs.Tables.{findLogin, loginIn, loginOf}
 use Rattle.formed.specs.Formed.{apartAddress, wellFormed}
 use Rattle.formed.proofs.Parts.{formed-parts}
 use Rattle.reply.specs.declared.Reply.{Reply}
 use Rattle.reply.specs.declared.Reply.the-variants as reply
 use Rattle.reply.specs.declared.Accepted.the-variants as accepted
-use Rattle.serve.specs.Next.{ownOf}
-use Rattle.link.specs.declared.Decided.{Decided}
-use Rattle.link.specs.Link.{decidedAs, sizeOf, logoOf, linkOf, abtsOf}
-use Rattle.link.specs.Record.{Kept, Record, out, held, keptFrom, recordOf}
+use Rattle.calls.specs.Turn.{Decided, decidedAs}
+use Rattle.link.specs.Link.{sizeOf, logoOf, linkOf, abtsOf}
+use Rattle.link.specs.Record.{Kept, Record, out, held, keptFrom, recordAt, recordOf}
 use Rattle.link.proofs.Ways.{is-logo}
-use Rattle.link.proofs.Records.{end-record}
+use Rattle.link.proofs.Records.{recordIn, record-is, end-record}
 use Rattle.link.proofs.Services.{AfterPlogi, AfterService, AfterAbort, effectOf}
-use Rattle.link.proofs.Requests.{link-plogi, link-service, link-out, abts-reply, abts-records}
+use Rattle.link.proofs.Requests.{link-plogi, link-service, link-out, abts-reply, abts-record}
 use Rattle.command.specs.Command.{loggedOut, commandOf}
-use Rattle.command.proofs.Records.{Spoken, silent, responds, isPaired, command-paired, command-spoken, command-unpaired}
-use Rattle.arrival.specs.declared.Refusal.{Refusal}
+use Rattle.command.proofs.Logins.{Alike, alike, Spoken, silent, responds, command-paired, command-spoken, command-unpaired}
 use Rattle.arrival.specs.declared.Kind.{Kind}
-use Rattle.arrival.specs.declared.Judged.{Judged}
-use Rattle.arrival.specs.declared.Judged.the-variants as judged
-use Rattle.arrival.specs.Arrival.{kindOf, judgedOf}
-use Rattle.arrival.proofs.Passes.{passed}
+use Rattle.arrival.specs.Arrival.{kindOf}
+use Rattle.arrival.proofs.Passes.{Passes, passes}
 use Rattle.drive.specs.declared.Drive.{Drive}
-use Rattle.drive.specs.Entry.{decidedIn, replyBytes, frameIn, frameInBuffer}
+use Rattle.drive.specs.Entry.{decidedOf, decidedIn, replyBytes, frameIn, frameInBuffer}
+use Rattle.drive.proofs.Ways.{frame-cases}
+use Rattle.demands.proofs.Refusals.{frame-refuses, frame-answers}
 use Rattle.belief.specs.Host.{Request, plogi, pdisc, logo, adisc, prli, prlo, rrq, command, abts, none}
 use Rattle.belief.specs.Side.{OnPlogi, OnLogo, OnLink, OnCommand, Meets}
 use Rattle.belief.specs.Wire.{Linked, Makes, heardOf}
@@ -94,14 +98,35 @@ after-abort : (o : Record) (x : Reply) (r : Record) → AfterAbort o x → r ≡
 after-abort out x r h e = out-abort x r h e
 after-abort (held p v k) x r h e = held-abort p v k x r h e
 
-paired-command : (v : Bool) (k : Kept) (x : Reply) (r : Record) → Spoken x → r ≡ held true v k → OnCommand (held true v k) (sounds x) r
-paired-command v k x r silent e = e
-paired-command v k x r (responds y) e = (tt, e)
+-- the record is of a paired login
+abbrev isPaired : Record → Bool
+isPaired out = false
+isPaired (held p v k) = p
 
-out-command : (o : Record) (x : Reply) (r : Record) → isPaired o ≡ false → x ≡ reply.Logout → r ≡ out → OnCommand o (sounds x) r
-out-command out x r n e h = subst (λ (y : Reply). OnCommand out (sounds y) r) (sym e) (λ b. b, h)
-out-command (held true v k) x r n e h = let z : true ≡ false = n in let w : _≡_ {A = ℕ} 0 1 = cc in absurd (omega arith)
-out-command (held false v k) x r n e h = subst (λ (y : Reply). OnCommand (held false v k) (sounds y) r) (sym e) (λ b. b, h)
+paired-record : (p : Port) (a : ℕ) → isPaired (recordOf p a) ≡ eqb (loginOf p a .paired) 1
+unfolding recordOf loginOf
+paired-record p a = by (findLogin p a)
+  where
+    by : (f : Found) → isPaired (onFound f (λ i. recordAt (loginAt p i)) out) ≡ eqb (loginIn p f .paired) 1
+    by (At i) = refl
+    by Nothing = refl
+
+-- a login with another attention and other exchanges has the same record
+alike-record : (p q : Port) (a : ℕ) → Alike (loginOf p a) (loginOf q a) → recordOf q a ≡ recordOf p a
+alike-record p q a x = record-is q a ∙ by x ∙ sym (record-is p a)
+  where
+    by : {l m : Login} → Alike l m → recordIn m ≡ recordIn l
+    by (alike n es) = refl
+
+paired-command : (o : Record) (x : Reply) (r : Record) → isPaired o ≡ true → Spoken x → r ≡ o → OnCommand o (sounds x) r
+paired-command out x r n s e = bools.apart n refl
+paired-command (held p v k) x r n silent e = e
+paired-command (held p v k) x r n (responds y) e = (tt, e)
+
+unpaired-command : (o : Record) (r : Record) → isPaired o ≡ false → r ≡ out → OnCommand o (sounds reply.Logout) r
+unpaired-command out r n h = (λ b. b, h)
+unpaired-command (held true v k) r n h = bools.apart refl n
+unpaired-command (held false v k) r n h = (λ b. b, h)
 
 -- a frame that is refused: nothing comes back, and no record changes
 refused-meets : (r : Record) (q : Request) → Meets r q none r
@@ -128,18 +153,13 @@ module _ (d : Drive) (w : wellFormed (d .unit) (d .port) ≡ true) (f l : List �
   apart : pairs apartAddress (d .port .logins) ≡ true
   apart = formed-parts w .addresses
 
-  -- what comes back, and the drive after it
-  refused-hears : (x : Refusal) → judgedOf (d .unit) p h f (length l) ≡ judged.Refused x
-      → (heardOf (frameIn d f (length l) .said) (frameInBuffer d f l) ≡ none) × (frameIn d f (length l) .drive ≡ d)
-  unfolding frameIn frameInBuffer
-  refused-hears x e = rw e (refl, refl)
-
-  passed-hears : (k : Kind) → judgedOf (d .unit) p h f (length l) ≡ judged.Passed k
-      → (heardOf (frameIn d f (length l) .said) (frameInBuffer d f l) ≡ sounds (decidedIn d f k .reply)) × (frameIn d f (length l) .drive .port ≡ decidedIn d f k .port)
-  unfolding frameIn frameInBuffer replyBytes
-  passed-hears k e =
-      let room : 2136 ≤ length l = ltb-false (length l) 2136 (passed (d .unit) p h f (length l) k e .long) in
-      rw e (reads (ownOf p) h (decidedIn d f k .reply) l room, refl)
+  -- what comes back of a frame that passes, and the port after it
+  passed-hears : Passes (d .unit) p h f (length l)
+      → (heardOf (frameIn d f (length l) .said) (frameInBuffer d f l) ≡ sounds (decidedIn d f .reply)) × (frameIn d f (length l) .drive .port ≡ decidedIn d f .port)
+  unfolding replyBytes
+  passed-hears s =
+      let t = frame-answers d f l (passes (d .unit) p h f (length l) s) in
+      rw (t .0, t .1) (reads (ownOf p) h (decidedIn d f .reply) l (ltb-false (length l) 2136 (s .long)), refl)
 
   -- a link request
   module _ (code size : ℕ) (is : Linked from f code size) (right : sizeOf code ≡ size) where
@@ -169,39 +189,37 @@ module _ (d : Drive) (w : wellFormed (d .unit) (d .port) ≡ true) (f l : List �
       rw e (end-record p apart from)
 
   -- a command
-  command-meets : (o : Record) → recordOf p from ≡ o → OnCommand o (sounds (commandOf (d .unit .capacity) p h f .reply)) (recordOf (commandOf (d .unit .capacity) p h f .port) from)
+  abbrev commanded : Decided
+  commanded = commandOf (d .unit) p h f
+
+  command-meets : OnCommand (recordOf p from) (sounds (commanded .reply)) (recordOf (commanded .port) from)
   unfolding loggedOut
-  command-meets out e =
-      let u = command-unpaired (d .unit .capacity) p h f apart (ap isPaired e) in
-      out-command out _ _ refl (ap (λ (x : Decided). x .reply) u) (ap (λ (x : Decided). recordOf (x .port) from) u ∙ end-record p apart from)
-  command-meets (held false v k) e =
-      let u = command-unpaired (d .unit .capacity) p h f apart (ap isPaired e) in
-      out-command (held false v k) _ _ refl (ap (λ (x : Decided). x .reply) u) (ap (λ (x : Decided). recordOf (x .port) from) u ∙ end-record p apart from)
-  command-meets (held true v k) e =
-      paired-command v k _ _ (command-spoken (d .unit .capacity) p h f apart (ap isPaired e)) (command-paired (d .unit .capacity) p h f apart (ap isPaired e) from ∙ e)
+  command-meets = by (eqb (loginOf p from .paired) 1) refl
+    where
+      by : (b : Bool) → eqb (loginOf p from .paired) 1 ≡ b → OnCommand (recordOf p from) (sounds (commanded .reply)) (recordOf (commanded .port) from)
+      by true r =
+          paired-command (recordOf p from) (commanded .reply) _ (paired-record p from ∙ r) (command-spoken (d .unit) p h f r)
+          (alike-record p (commanded .port) from (command-paired (d .unit) p h f apart r from))
+      by false r = rw (command-unpaired (d .unit) p h f r) (unpaired-command (recordOf p from) _ (paired-record p from ∙ r) (end-record p apart from))
 
   -- each request in its own kind of frame
-  decided-meets : (q : Request) (k : Kind) → k ≡ kindOf (headerOf f .«r_ctl») → Makes from f q → Meets (recordOf p from) q (sounds (decidedIn d f k .reply)) (recordOf (decidedIn d f k .port) from)
+  decided-meets : (q : Request) (k : Kind) → k ≡ kindOf (h .«r_ctl») → Makes from f q → Meets (recordOf p from) q (sounds (decidedOf (d .unit) p h k f .reply)) (recordOf (decidedOf (d .unit) p h k f .port) from)
   unfolding kindOf sizeOf effectOf
   decided-meets (plogi m) k e x = rw (e ∙ ap kindOf (x .0 .form .routing)) (plogi-meets m x)
-  decided-meets (pdisc m) k e x =
-      rw (e ∙ ap kindOf (x .0 .form .routing)) (service-meets 0x50 116 (x .0) refl (λ z. absurd (omega arith)) (λ z. absurd (omega arith)) (λ z. absurd (omega arith)))
+  decided-meets (pdisc m) k e x = rw (e ∙ ap kindOf (x .0 .form .routing)) (service-meets 0x50 116 (x .0) refl (λ z. absurd (omega arith)) (λ z. absurd (omega arith)) (λ z. absurd (omega arith)))
   decided-meets logo k e x = rw (e ∙ ap kindOf (x .0 .form .routing)) (logo-meets x)
   decided-meets adisc k e x = rw (e ∙ ap kindOf (x .form .routing)) (service-meets 0x52 28 x refl (λ z. absurd (omega arith)) (λ z. absurd (omega arith)) (λ z. absurd (omega arith)))
   decided-meets prli k e x = rw (e ∙ ap kindOf (x .form .routing)) (service-meets 0x20 20 x refl (λ z. absurd (omega arith)) (λ z. absurd (omega arith)) (λ z. absurd (omega arith)))
   decided-meets prlo k e x = rw (e ∙ ap kindOf (x .form .routing)) (service-meets 0x21 20 x refl (λ z. absurd (omega arith)) (λ z. absurd (omega arith)) (λ z. absurd (omega arith)))
   decided-meets rrq k e x = rw (e ∙ ap kindOf (x .form .routing)) (service-meets 0x12 44 x refl (λ z. absurd (omega arith)) (λ z. absurd (omega arith)) (λ z. absurd (omega arith)))
-  decided-meets command k e x = rw (e ∙ ap kindOf (x .routing)) (command-meets (recordOf p from) refl)
+  decided-meets command k e x = rw (e ∙ ap kindOf (x .routing)) command-meets
   decided-meets abts k e x =
-      rw (e ∙ ap kindOf (x .routing)) (after-abort (recordOf p from) (abtsOf p from (h .«ox_id») (h .«rx_id») .reply) (recordOf (abtsOf p from (h .«ox_id») (h .«rx_id») .port) from) (abts-reply p from (h .«ox_id») (h .«rx_id»)) (abts-records p from (h .«ox_id») (h .«rx_id») from))
+      rw (e ∙ ap kindOf (x .routing)) (after-abort (recordOf p from) (abtsOf p from (h .«ox_id») (h .«rx_id») .reply) (recordOf (abtsOf p from (h .«ox_id») (h .«rx_id») .port) from) (abts-reply p from (h .«ox_id») (h .«rx_id»)) (abts-record p from (h .«ox_id») (h .«rx_id»)))
 
   frame-meets : (q : Request) → Makes from f q → Meets (recordOf p from) q (heardOf (frameIn d f (length l) .said) (frameInBuffer d f l)) (recordOf (frameIn d f (length l) .drive .port) from)
-  frame-meets q x = by (judgedOf (d .unit) p h f (length l)) refl
-    where
-      by : (j : Judged) → judgedOf (d .unit) p h f (length l) ≡ j
-          → Meets (recordOf p from) q (heardOf (frameIn d f (length l) .said) (frameInBuffer d f l)) (recordOf (frameIn d f (length l) .drive .port) from)
-      by (judged.Refused y) e = let t = refused-hears y e in rw (t .0, t .1) (refused-meets (recordOf p from) q)
-      by (judged.Passed k) e = let t = passed-hears k e in rw (t .0, t .1) (decided-meets q k (passed (d .unit) p h f (length l) k e .kind) x)
+  frame-meets q x =
+      frame-cases d f (length l) (λ _. Meets (recordOf p from) q (heardOf (frameIn d f (length l) .said) (frameInBuffer d f l)) (recordOf (frameIn d f (length l) .drive .port) from))
+      (λ y i. rw (frame-refuses d f l y i .0) (refused-meets (recordOf p from) q)) (λ s. let t = passed-hears s in rw (t .0, t .1) (decided-meets q (kindOf (h .«r_ctl»)) refl x))
 
 -- whose frame it is
 source-of : (a : ℕ) (f : List ℕ) (q : Request) → Makes a f q → headerOf f .«s_id» ≡ a

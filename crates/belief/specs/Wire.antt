@@ -11,9 +11,10 @@ use Rattle.frame.specs.Head.{headerOf}
 use Rattle.params.specs.Words.{paramsOf}
 use Rattle.formed.specs.Formed.{wellFormed}
 use Rattle.link.specs.Record.{Record, out, held, keptFrom, recordOf}
+use Rattle.refusal.specs.declared.Said.{Said}
+use Rattle.refusal.specs.declared.Said.the-variants.{Sent, Refused}
+use Rattle.serve.specs.Whole.{isSent}
 use Rattle.drive.specs.declared.Drive.{Drive}
-use Rattle.drive.specs.declared.Said.{Said}
-use Rattle.drive.specs.declared.Said.the-variants.{Sent, Refused}
 use Rattle.drive.specs.declared.Event.the-variants.{LoopReset, TimeOver, PowerOn}
 use Rattle.drive.specs.Drive.{eventAnswer}
 use Rattle.drive.specs.Entry.{frameIn, frameInBuffer, nextFrame}
@@ -66,11 +67,6 @@ pub record ForHost : Type 0 where
   pub start : ℕ
   pub window : List ℕ
   pub buffer : List ℕ
-
--- a frame comes out
-abbrev pub isSent : Said → Bool
-isSent (Sent n) = true
-isSent (Refused x) = false
 
 -- what else happens: "other ports sending what they like" under other addresses, next frames to these, and answers (23h) of any port
 pub data Others (a : ℕ) : Type 0 where

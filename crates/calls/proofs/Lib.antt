@@ -1,1 +1,5 @@
 pub mod Seats
+pub mod Views
+pub mod Decisions
+pub mod Others
+pub mod Keeping

@@ -1,5 +1,5 @@
 -- What a call does, told by what changes, and the port after it.
-use Prim.Native.Nat.{ℕ}
+use Prim.Native.Nat.{ℕ, _<_}
 use Rattle.tables.specs.declared.Found.{Found}
 use Rattle.tables.specs.declared.Found.the-variants.{At, Nothing}
 use Rattle.refusal.specs.declared.Refusal.{Refusal}
@@ -69,3 +69,8 @@ portAfter p t = storedAt (t .at) (t .login) (changedAll (t .change) p)
 -- the reply, and the port after it
 abbrev pub decidedBy : Port → Decision → Decided
 decidedBy p d = decidedAs (d .reply) (decidedPort p d)
+
+-- "8 logins at most": a place that is told is one of the table's eight
+abbrev pub AtBelow : Found → Type 0
+AtBelow (At i) = i < 8
+AtBelow Nothing = Unit {0}

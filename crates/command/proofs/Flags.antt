@@ -29,9 +29,9 @@ pub tasks-are : (t : ℕ) → t < 256 → wrongTask t ≡ not (knownTask t)
 tasks-are = agree wrongTask (λ t. not (knownTask t)) 256 refl
 
 -- and these are answered with 02
-pub wrong-tasks : (t unit from : ℕ) → t < 256 → wrongTask t ≡ true → taskFor t unit from ≡ Code 0x02
+pub wrong-tasks : (t lun from : ℕ) → t < 256 → wrongTask t ≡ true → taskFor t lun from ≡ Code 0x02
 unfolding taskFor
-wrong-tasks t unit from h w =
+wrong-tasks t lun from h w =
     let none = eqb t 0x00 in
     let a = eqb t 0x80 in
     let b = eqb t 0x40 in

@@ -4,4 +4,4 @@ pub mod Flags
 pub mod Moves
 pub mod Opens
 pub mod Keeping
-pub mod Records
+pub mod Logins

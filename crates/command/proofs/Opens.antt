@@ -5,14 +5,17 @@ use Prim.Native.Nat.{ℕ, _+_, _*_, _%_, _≤_, _<_, min}
 use native.Mathlib.Nat.{mod-eq-of-lt, div-eq-of-lt}
 use native.Mathlib.Omega.{arith}
 use lib.Dec.{eqb, leb, ltb}
-use lib.ListN.{getD}
 use borrow.Author.Tests.{le-leb, lt-ltb, leb-false, ltb-false, eq-eqb}
 use Rattle.tables.proofs.Bools.{or-left, or-right}
-use Rattle.wire.specs.Bytes.{num}
 use Rattle.state.specs.declared.Exchange.{Exchange}
+use Rattle.state.specs.declared.Unit.{Unit}
+use Rattle.state.specs.Kinds.{kindFree, kindRead, kindInquiry, kindInquiryOther, kindCapacity, kindSenseNone, kindSenseReset, kindSenseCleared, kindSenseOther}
 use Rattle.formed.specs.Formed.{total, framesOf, readFits, wantedFits, openable, sentFits}
-use Rattle.command.specs.declared.Cmnd.{Cmnd}
-use Rattle.command.specs.Tests.{outside, senseKind, inquiryKind, fresh, exchangeFor}
+use Rattle.command.specs.declared.Range.{Range}
+use Rattle.command.specs.declared.Operation.{Operation}
+use Rattle.command.specs.declared.Operation.the-variants.{TestUnitReady, RequestSense, Inquiry, ReadCapacity, Read, Write, Unknown}
+use Rattle.command.specs.Cdb.{Countable}
+use Rattle.command.specs.Tests.{beyond, outside, senseKind, inquiryKind, fresh, exchangeFor}
 
 -- nothing is sent
 pub sent-none : (full : ℕ) (e : Exchange) → 0 < full → e .sent ≡ 0 → e .count ≡ 0 → sentFits full e ≡ true
@@ -26,61 +29,60 @@ sent-none full e pos s n =
     either true = refl
     either false = refl
 
-module _ (capacity : ℕ) where
+module _ (u : Unit) where
   -- an exchange with bytes to send is one an accepted command could open
   Opens : Exchange → Type 0
-  Opens e = (total e ≡ 0 → ⊥) → openable capacity e ≡ true
-
-  opens-cond : (b : Bool) (d e : Exchange) → (b ≡ true → Opens d) → Opens e → Opens (cond b d e)
-  opens-cond true d e p q = p refl
-  opens-cond false d e p q = q
+  Opens e = (total e ≡ 0 → ⊥) → openable u e ≡ true
 
   module _ (ox expected : ℕ) where
     -- a kind that asks for 1 to `most` bytes
-    small-opens : (kind wanted most : ℕ) → wanted ≤ most → wantedFits capacity (fresh ox expected kind wanted 0 0) ≡ (leb 1 wanted && leb wanted most) → Opens (fresh ox expected kind wanted 0 0)
+    small-opens : (kind wanted most : ℕ) → wanted ≤ most → wantedFits u (fresh ox expected kind wanted 0 0) ≡ (leb 1 wanted && leb wanted most) → Opens (fresh ox expected kind wanted 0 0)
     unfolding Opens
     small-opens kind wanted most h e n = rw (le-leb 1 expected (omega arith), e, le-leb 1 wanted (omega arith), le-leb wanted most h)
 
-    sense-fits : (b a r : Bool) (w : ℕ) → wantedFits capacity (fresh ox expected (cond b 8 (cond a 5 (cond r 6 7))) w 0 0) ≡ (leb 1 w && leb w 18)
+    sense-fits : (b a r : Bool) (w : ℕ) → wantedFits u (fresh ox expected (cond b kindSenseOther (cond a kindSenseNone (cond r kindSenseReset kindSenseCleared))) w 0 0) ≡ (leb 1 w && leb w 18)
     unfolding wantedFits
     sense-fits true a r w = refl
     sense-fits false true r w = refl
     sense-fits false false true w = refl
     sense-fits false false false w = refl
 
-    inquiry-fits : (b : Bool) (w : ℕ) → wantedFits capacity (fresh ox expected (cond b 2 3) w 0 0) ≡ (leb 1 w && leb w 36)
+    inquiry-fits : (b : Bool) (w : ℕ) → wantedFits u (fresh ox expected (cond b kindInquiry kindInquiryOther) w 0 0) ≡ (leb 1 w && leb w 36)
     unfolding wantedFits
     inquiry-fits true w = refl
     inquiry-fits false w = refl
 
-    capacity-opens : Opens (fresh ox expected 4 8 0 0)
+    capacity-opens : Opens (fresh ox expected kindCapacity 8 0 0)
     unfolding Opens wantedFits
     capacity-opens n = rw (le-leb 1 expected (omega arith))
 
-    read-opens : (start blocks : ℕ) → blocks ≤ 65535 → start < capacity → start + blocks ≤ capacity → Opens (fresh ox expected 1 (512 * blocks) start blocks)
-    unfolding Opens wantedFits readFits
-    read-opens start blocks few below within n =
-        rw (le-leb 1 expected (omega arith), le-leb 1 blocks (omega arith), le-leb blocks 65535 few, eq-eqb (512 * blocks) (512 * blocks) refl, lt-ltb start capacity below, le-leb (start + blocks) capacity within)
+    -- test 7 lets only blocks of the unit through
+    read-opens : (r : Range) → r .blocks ≤ 65535 → beyond u r ≡ false → Opens (fresh ox expected kindRead (512 * r .blocks) (r .start) (r .blocks))
+    unfolding Opens wantedFits readFits beyond
+    read-opens r few within n =
+        let a = leb (u .capacity) (r .start) in
+        let b = ltb (u .capacity) (r .start + r .blocks) in
+        let below = leb-false (u .capacity) (r .start) (or-left a b within) in
+        let inside = ltb-false (u .capacity) (r .start + r .blocks) (or-right a b within) in
+        rw (le-leb 1 expected (omega arith), le-leb 1 (r .blocks) (omega arith), le-leb (r .blocks) 65535 few, eq-eqb (512 * r .blocks) (512 * r .blocks) refl, lt-ltb (r .start) (u .capacity) below, le-leb (r .start + r .blocks) (u .capacity) inside)
 
-    nothing-opens : Opens (fresh ox expected 0 0 0 0)
+    nothing-opens : Opens (fresh ox expected kindFree 0 0 0)
     unfolding Opens
     nothing-opens n = absurd (n (omega arith))
 
   -- whatever the command, where test 7 lets it through
-  pub wants-opens : (code attention ox : ℕ) (c : Cmnd) → num 2 (c .cdb) 7 ≤ 65535 → outside capacity code (c .cdb) ≡ false → (total (exchangeFor code attention ox c) ≡ 0 → ⊥) → openable capacity (exchangeFor code attention ox c) ≡ true
-  unfolding Opens exchangeFor senseKind inquiryKind outside
-  wants-opens code attention ox c few within =
-      opens-cond (eqb code 0x03) _ _ (λ _. small-opens ox (c .expected) _ (min 18 (getD (c .cdb) 4 0)) 18 (omega arith) (sense-fits ox (c .expected) (not (eqb (c .unit) 0)) (eqb attention 0) (eqb attention 0x29) _))
-      (opens-cond (eqb code 0x12) _ _ (λ _. small-opens ox (c .expected) _ (min 36 (getD (c .cdb) 4 0)) 36 (omega arith) (inquiry-fits ox (c .expected) (eqb (c .unit) 0) _))
-      (opens-cond (eqb code 0x25) _ _ (λ _. capacity-opens ox (c .expected))
-      (opens-cond (eqb code 0x28) _ _ reads (nothing-opens ox (c .expected)))))
-    where
-      reads : eqb code 0x28 ≡ true → Opens (fresh ox (c .expected) 1 (512 * num 2 (c .cdb) 7) (num 4 (c .cdb) 2) (num 2 (c .cdb) 7))
-      reads is =
-          let tests : (leb capacity (num 4 (c .cdb) 2) || ltb capacity (num 4 (c .cdb) 2 + num 2 (c .cdb) 7)) ≡ false = rw is at within in
-          read-opens ox (c .expected) (num 4 (c .cdb) 2) (num 2 (c .cdb) 7) few
-          (leb-false capacity (num 4 (c .cdb) 2) (or-left (leb capacity (num 4 (c .cdb) 2)) (ltb capacity (num 4 (c .cdb) 2 + num 2 (c .cdb) 7)) tests))
-          (ltb-false capacity (num 4 (c .cdb) 2 + num 2 (c .cdb) 7) (or-right (leb capacity (num 4 (c .cdb) 2)) (ltb capacity (num 4 (c .cdb) 2 + num 2 (c .cdb) 7)) tests))
+  pub wants-opens : (o : Operation) (attention ox lun expected : ℕ) → Countable o → outside u o ≡ false
+      → (total (exchangeFor o attention ox lun expected) ≡ 0 → ⊥) → openable u (exchangeFor o attention ox lun expected) ≡ true
+  unfolding Opens senseKind inquiryKind
+  wants-opens TestUnitReady attention ox lun expected few within = nothing-opens ox expected
+  wants-opens (RequestSense most) attention ox lun expected few within =
+      small-opens ox expected _ (min 18 most) 18 (omega arith) (sense-fits ox expected (not (eqb lun 0)) (eqb attention 0) (eqb attention 0x29) (min 18 most))
+  wants-opens (Inquiry most) attention ox lun expected few within =
+      small-opens ox expected _ (min 36 most) 36 (omega arith) (inquiry-fits ox expected (eqb lun 0) (min 36 most))
+  wants-opens ReadCapacity attention ox lun expected few within = capacity-opens ox expected
+  wants-opens (Read r) attention ox lun expected few within = read-opens ox expected r few within
+  wants-opens Write attention ox lun expected few within = nothing-opens ox expected
+  wants-opens Unknown attention ox lun expected few within = nothing-opens ox expected
 
 -- an exchange of this OX_ID of which nothing is sent
 pub record New (ox : ℕ) (e : Exchange) : Type 0 where
@@ -88,18 +90,14 @@ pub record New (ox : ℕ) (e : Exchange) : Type 0 where
   pub sent : e .sent ≡ 0
   pub count : e .count ≡ 0
 
-new-cond : {ox : ℕ} (b : Bool) {d e : Exchange} → New ox d → New ox e → New ox (cond b d e)
-new-cond true p q = p
-new-cond false p q = q
-
 new-fresh : (ox expected kind wanted start blocks : ℕ) → New ox (fresh ox expected kind wanted start blocks)
 new-fresh ox expected kind wanted start blocks = record { id = refl; sent = refl; count = refl }
 
-pub exchange-new : (code attention ox : ℕ) (c : Cmnd) → New ox (exchangeFor code attention ox c)
-unfolding exchangeFor
-exchange-new code attention ox c =
-    let x = c .expected in
-    new-cond (eqb code 0x03) (new-fresh ox x _ _ 0 0)
-    (new-cond (eqb code 0x12) (new-fresh ox x _ _ 0 0)
-    (new-cond (eqb code 0x25) (new-fresh ox x 4 8 0 0)
-    (new-cond (eqb code 0x28) (new-fresh ox x 1 _ _ _) (new-fresh ox x 0 0 0 0))))
+pub exchange-new : (o : Operation) (attention ox lun expected : ℕ) → New ox (exchangeFor o attention ox lun expected)
+exchange-new TestUnitReady attention ox lun expected = new-fresh ox expected _ _ _ _
+exchange-new (RequestSense most) attention ox lun expected = new-fresh ox expected _ _ _ _
+exchange-new (Inquiry most) attention ox lun expected = new-fresh ox expected _ _ _ _
+exchange-new ReadCapacity attention ox lun expected = new-fresh ox expected _ _ _ _
+exchange-new (Read r) attention ox lun expected = new-fresh ox expected _ _ _ _
+exchange-new Write attention ox lun expected = new-fresh ox expected _ _ _ _
+exchange-new Unknown attention ox lun expected = new-fresh ox expected _ _ _ _

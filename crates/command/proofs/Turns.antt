@@ -1,63 +1,61 @@
--- What an FCP_CMND makes of the logins, told by what changes, is what it makes of the whole port, where the port's logins are fine; and the place that changes is one of eight. Assumes nothing.
+-- What an FCP_CMND does, told by what changes, is what it makes of the whole port, where the port's logins are fine; and the place that changes is one of eight. Assumes nothing.
 use Prim.Native.Nat.{ℕ, _<_}
-use mathlib.Core.Path.{_≡_}
+use mathlib.Core.Path.{_≡_, refl, sym}
 use mathlib.Core.Bool.{true, cond}
-use mathlib.Core.List.{List, map}
+use mathlib.Core.List.{List}
 use lib.Dec.{eqb}
 use lib.ListN.{length}
+use Rattle.tables.specs.declared.Found.{Found}
 use Rattle.tables.specs.Lists.{all}
 use Rattle.frame.specs.declared.Header.{Header}
 use Rattle.state.specs.declared.Login.{Login}
 use Rattle.state.specs.declared.Port.{Port}
-use Rattle.state.specs.declared.Change.the-variants.{EndLogin}
+use Rattle.state.specs.declared.Unit.{Unit}
 use Rattle.state.specs.Changes.{loginAt}
+use Rattle.state.specs.Tables.{soughtIn}
 use Rattle.formed.specs.Formed.{loginFine}
-use Rattle.formed.specs.Keys.{loginKey}
-use Rattle.seat.specs.Seat.{seatOf, seatPlace}
-use Rattle.seat.proofs.Seats.{seat-below}
-use Rattle.reply.specs.declared.Reply.the-variants as reply
-use Rattle.link.specs.declared.Served.{Served}
-use Rattle.link.specs.Link.{servedAt}
-use Rattle.link.specs.Turn.{decidedBy, servedIn}
-use Rattle.link.proofs.Turns.{placed-is, held-is, changed-is, either-is, found-is, within-cond, within-found}
+use Rattle.calls.specs.declared.Served.{Served}
+use Rattle.calls.specs.declared.View.{View}
+use Rattle.calls.specs.declared.Decision.{Decision}
+use Rattle.calls.specs.View.{viewOf}
+use Rattle.calls.specs.Turn.{servedAt, servedIn, decidedBy, AtBelow}
+use Rattle.calls.proofs.Views.{at-below, view-unit, view-login, sought-seen}
+use Rattle.calls.proofs.Decisions.{on-cond, on-found, answers-is, served-is, either-is, found-is}
 use Rattle.command.specs.declared.Cmnd.{Cmnd}
 use Rattle.command.specs.declared.Task.{Task}
 use Rattle.command.specs.declared.Task.the-variants as task
 use Rattle.command.specs.Cmnd.{cmndOf, taskOf}
 use Rattle.command.specs.Command.{executeOf, doneAs, commandedAt, loggedOut, commandOf}
-use Rattle.command.specs.Turn.{donePlaced, commandedTurn, loggedOutIn, commandTurn}
+use Rattle.command.specs.Turn.{taskTurn, commandedTurn, loggedOutTurn, commandTurn}
 
-module _ (p : Port) (i : ℕ) where
-  out-is : (from : ℕ) → decidedBy p (loggedOutIn i (loginAt p i) from) ≡ loggedOut p from
-  unfolding loggedOut
-  out-is from = changed-is p reply.Logout (EndLogin from) i
+done-is : (p : Port) (t : Task) (i : ℕ) (s : Served) → decidedBy p (taskTurn t (servedIn i s)) ≡ doneAs t p (servedAt p i s)
+done-is p (task.Code code) i s = answers-is p _
+done-is p (task.Apply e) i s = refl
+done-is p task.Execute i s = served-is p i s
 
-  done-is : (t : Task) (s : Served) → decidedBy p (donePlaced t i (loginAt p i) (servedIn i s)) ≡ doneAs t p (servedAt p i s)
-  done-is (task.Code code) s = held-is p _ i
-  done-is (task.Apply e) s = changed-is p _ e i
-  done-is task.Execute s = placed-is p (s .reply) i (s .login)
+-- from the login m that is seen, the exchange sought at the place that is seen
+at-is : (u : Unit) (p : Port) (i : ℕ) (h : Header) (c : Cmnd) (n : ℕ) {w : Unit} {m : Login} {place : Found} → w ≡ u → m ≡ loginAt p i → place ≡ soughtIn p (h .«s_id») (h .«ox_id»)
+    → decidedBy p (cond (eqb (m .paired) 1) (taskTurn (taskOf c n (h .«s_id»)) (servedIn i (executeOf w m place (h .«ox_id») c))) (loggedOutTurn (h .«s_id»)))
+    ≡ cond (eqb (loginAt p i .paired) 1) (commandedAt u p i h c n) (loggedOut p (h .«s_id»))
+unfolding commandedAt loggedOut
+at-is u p i h c n eu em ep = rw (eu, em, ep) (either-is p (eqb (loginAt p i .paired) 1) _ _ (done-is p (taskOf c n (h .«s_id»)) i _) refl)
 
-  commanded-is : (capacity : ℕ) (h : Header) (c : Cmnd) (n : ℕ) → decidedBy p (commandedTurn capacity i (loginAt p i) h c n) ≡ commandedAt capacity p i h c n
-  unfolding commandedTurn commandedAt
-  commanded-is capacity h c n = done-is (taskOf c n (h .«s_id»)) (executeOf capacity (loginAt p i) (h .«ox_id») c)
-
-pub command-turn : (capacity own : ℕ) (p : Port) → all (loginFine capacity own) (p .logins) ≡ true → (h : Header) (f : List ℕ)
-    → decidedBy p (commandTurn capacity (map (loginKey capacity own) (p .logins)) (loginAt p (seatPlace (map (loginKey capacity own) (p .logins)) (h .«s_id»))) h f) ≡ commandOf capacity p h f
-unfolding commandTurn commandOf
-command-turn capacity own p fine h f =
+pub command-turn : (u : Unit) (p : Port) → all (loginFine u (p .address)) (p .logins) ≡ true → (h : Header) (f : List ℕ) → decidedBy p (commandTurn (viewOf u p (h .«s_id»)) h f) ≡ commandOf u p h f
+unfolding commandTurn commandedTurn commandOf loggedOut
+command-turn u p fine h f =
     let from = h .«s_id» in
-    let i = seatPlace (map (loginKey capacity own) (p .logins)) from in
-    found-is capacity own p fine from _ _ (λ k. cond (eqb (loginAt p k .paired) 1) (commandedAt capacity p k h (cmndOf f) (length f)) (loggedOut p from))
-    (either-is p (eqb (loginAt p i .paired) 1) _ _ (commanded-is p i capacity h (cmndOf f) (length f)) (out-is p i from)) (out-is p i from)
+    found-is u p from fine _ _ (λ i. cond (eqb (loginAt p i .paired) 1) (commandedAt u p i h (cmndOf f) (length f)) (loggedOut p from))
+    (λ i e. at-is u p i h (cmndOf f) (length f) (view-unit u p from) (view-login u p from fine i e) (sym (sought-seen u p from fine (h .«ox_id»)))) refl
 
-done-within : (t : Task) (i : ℕ) (l : Login) (s : Served) → i < 8 → donePlaced t i l (servedIn i s) .at < 8
-done-within (task.Code code) i l s h = h
-done-within (task.Apply e) i l s h = h
-done-within task.Execute i l s h = h
+abbrev Below : Decision → Type 0
+Below d = AtBelow (d .at)
 
-pub command-within : (capacity : ℕ) (keys : List ℕ) (l : Login) → length keys ≡ 8 → (h : Header) (f : List ℕ) → commandTurn capacity keys l h f .at < 8
+done-within : (t : Task) (i : ℕ) (s : Served) → i < 8 → Below (taskTurn t (servedIn i s))
+done-within (task.Code code) i s b = tt
+done-within (task.Apply e) i s b = tt
+done-within task.Execute i s b = b
+
+pub command-within : (v : View) → AtBelow (v .seat) → (h : Header) (f : List ℕ) → Below (commandTurn v h f)
 unfolding commandTurn commandedTurn
-command-within capacity keys l eight h f =
-    let below = seat-below keys (h .«s_id») eight in
-    within-found (seatOf keys (h .«s_id»)) _ _
-    (within-cond (eqb (l .paired) 1) _ _ (done-within (taskOf (cmndOf f) (length f) (h .«s_id»)) _ l (executeOf capacity l (h .«ox_id») (cmndOf f)) below) below) below
+command-within v seat h f =
+    on-found Below (v .seat) _ _ (λ i e. on-cond Below (eqb (v .login .paired) 1) (done-within (taskOf (cmndOf f) (length f) (h .«s_id»)) i _ (at-below (v .seat) seat e)) tt) (λ _. tt)

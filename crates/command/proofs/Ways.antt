@@ -10,27 +10,29 @@ use Rattle.frame.specs.declared.Header.{Header}
 use Rattle.state.specs.declared.Change.{Change}
 use Rattle.state.specs.declared.Exchange.{Exchange}
 use Rattle.state.specs.declared.Login.{Login}
+use Rattle.state.specs.declared.Unit.{Unit}
 use Rattle.state.specs.Changes.{withAttention, withExchange, endedAt}
 use Rattle.state.specs.Tables.{findExchange, freeExchange}
 use Rattle.formed.specs.Formed.{total}
-use Rattle.seat.specs.Seat.{seatOf, seatPlace}
 use Rattle.reply.specs.declared.Residual.{Residual}
 use Rattle.reply.specs.declared.Reply.the-variants as reply
 use Rattle.reply.specs.declared.Response.the-variants as response
 use Rattle.residual.specs.Residual.{residualOf}
-use Rattle.link.specs.declared.Placed.{Placed}
-use Rattle.link.specs.declared.Served.{Served}
-use Rattle.link.specs.Link.{servedAs}
-use Rattle.link.specs.Turn.{placedAs, changedAs}
+use Rattle.calls.specs.declared.View.{View}
+use Rattle.calls.specs.declared.Served.{Served}
+use Rattle.calls.specs.declared.Decision.{Decision}
+use Rattle.calls.specs.Turn.{servedAs, answersOnly, changes, servedIn}
 use Rattle.command.specs.declared.Cmnd.{Cmnd}
 use Rattle.command.specs.declared.Task.{Task}
 use Rattle.command.specs.declared.Task.the-variants as task
+use Rattle.command.specs.declared.Decoded.{Decoded}
 use Rattle.command.specs.declared.Asked.{Asked}
 use Rattle.command.specs.declared.Asked.the-variants as asked
 use Rattle.command.specs.Cmnd.{cmndOf, readBit, taskOf}
-use Rattle.command.specs.Tests.{askedOf}
+use Rattle.command.specs.Cdb.{decodedOf}
+use Rattle.command.specs.Tests.{askedBy, askedOf}
 use Rattle.command.specs.Command.{refusedWith, toldOf, answerOf, executeOf}
-use Rattle.command.specs.Turn.{commandedTurn, loggedOutIn, commandTurn}
+use Rattle.command.specs.Turn.{commandedTurn, loggedOutTurn, commandTurn}
 
 module _ (l : Login) (bits : ℕ) (e : Exchange) (d : Served) where
   pub answer-good : (x : Residual) → total e ≡ 0 → x ≡ residualOf (e .wanted) (e .expected) → d ≡ servedAs (reply.Respond (response.Status 0 x)) l → d ≡ answerOf l bits e
@@ -51,47 +53,56 @@ module _ (l : Login) (bits : ℕ) (e : Exchange) (d : Served) where
       unfolding answerOf
       answer-opens j m k f em ek ed = rw (ne-eqb (total e) 0 n, b, f) (ed ∙ ap (servedAs reply.Nothing) (ek ∙ ap (λ m. withExchange m j e) em))
 
-module _ (capacity : ℕ) (l : Login) (ox : ℕ) (c : Cmnd) (d : Served) where
-  pub execute-again : (j : ℕ) (m : Login) → findExchange l ox ≡ At j → m ≡ endedAt l j → d ≡ refusedWith m 0x0b 0x4e (c .expected) → d ≡ executeOf capacity l ox c
+-- tests 2 to 7, on the CDB as it was decoded
+pub asked-is : (u : Unit) (attention ox : ℕ) (c : Cmnd) {d : Decoded} {a : Asked} → d ≡ decodedOf (c .cdb) → a ≡ askedBy u attention ox c d → a ≡ askedOf u attention ox c
+unfolding askedOf
+asked-is u attention ox c ed e = e ∙ ap (askedBy u attention ox c) ed
+
+module _ (u : Unit) (l : Login) (ox : ℕ) (c : Cmnd) (d : Served) where
+  -- what it is to be
+  abbrev Executed : Type 0
+  Executed = d ≡ executeOf u l (findExchange l ox) ox c
+
+  pub execute-again : (j : ℕ) (m : Login) → findExchange l ox ≡ At j → m ≡ endedAt l j → d ≡ refusedWith m 0x0b 0x4e (c .expected) → Executed
   unfolding executeOf
   execute-again j m f em ed = rw f (ed ∙ ap (λ m. refusedWith m 0x0b 0x4e (c .expected)) em)
 
-  module _ (f : findExchange l ox ≡ Nothing) (a : Asked) (ea : a ≡ askedOf capacity (l .attention) ox c) where
-    pub execute-refused : (key code : ℕ) → a ≡ asked.Refused key code → d ≡ refusedWith l key code (c .expected) → d ≡ executeOf capacity l ox c
+  module _ (f : findExchange l ox ≡ Nothing) (a : Asked) (ea : a ≡ askedOf u (l .attention) ox c) where
+    pub execute-refused : (key code : ℕ) → a ≡ asked.Refused key code → d ≡ refusedWith l key code (c .expected) → Executed
     unfolding executeOf
     execute-refused key code i ed = rw (f, sym ea, i) ed
 
-    pub execute-attention : (m : Login) → a ≡ asked.Attention → m ≡ withAttention l 0 → d ≡ refusedWith m 0x06 (l .attention) (c .expected) → d ≡ executeOf capacity l ox c
+    pub execute-attention : (m : Login) → a ≡ asked.Attention → m ≡ withAttention l 0 → d ≡ refusedWith m 0x06 (l .attention) (c .expected) → Executed
     unfolding executeOf
     execute-attention m i em ed = rw (f, sym ea, i) (ed ∙ ap (λ m. refusedWith m 0x06 (l .attention) (c .expected)) em)
 
-    pub execute-wants : (e : Exchange) → a ≡ asked.Wants e → d ≡ answerOf l (c .bits) e → d ≡ executeOf capacity l ox c
+    pub execute-wants : (e : Exchange) → a ≡ asked.Wants e → d ≡ answerOf l (c .bits) e → Executed
     unfolding executeOf
     execute-wants e i ed = rw (f, sym ea, i) ed
 
-module _ (capacity i : ℕ) (l : Login) (h : Header) (c : Cmnd) (n : ℕ) (t : Task) (et : t ≡ taskOf c n (h .«s_id»)) (d : Placed) where
-  pub commanded-code : (code : ℕ) → t ≡ task.Code code → d ≡ placedAs (reply.Respond (response.Code code)) i l → d ≡ commandedTurn capacity i l h c n
+module _ (u : Unit) (i : ℕ) (l : Login) (h : Header) (c : Cmnd) (n : ℕ) (t : Task) (et : t ≡ taskOf c n (h .«s_id»)) (d : Decision) where
+  pub commanded-code : (code : ℕ) → t ≡ task.Code code → d ≡ answersOnly (reply.Respond (response.Code code)) → d ≡ commandedTurn u i l h c n
   unfolding commandedTurn
   commanded-code code it ed = rw (sym et, it) ed
 
-  pub commanded-change : (e : Change) → t ≡ task.Apply e → d ≡ changedAs (reply.Respond (response.Code 0)) e i l → d ≡ commandedTurn capacity i l h c n
+  pub commanded-change : (e : Change) → t ≡ task.Apply e → d ≡ changes (reply.Respond (response.Code 0)) e → d ≡ commandedTurn u i l h c n
   unfolding commandedTurn
   commanded-change e it ed = rw (sym et, it) ed
 
-  pub commanded-executes : (s : Served) → t ≡ task.Execute → s ≡ executeOf capacity l (h .«ox_id») c → d ≡ placedAs (s .reply) i (s .login) → d ≡ commandedTurn capacity i l h c n
+  pub commanded-executes : (s : Served) → t ≡ task.Execute → s ≡ executeOf u l (findExchange l (h .«ox_id»)) (h .«ox_id») c → d ≡ servedIn i s → d ≡ commandedTurn u i l h c n
   unfolding commandedTurn
   commanded-executes s it es ed = rw (sym et, it, sym es) ed
 
-module _ (capacity : ℕ) (keys : List ℕ) (l : Login) (h : Header) (f : List ℕ) (i : ℕ) (ei : i ≡ seatPlace keys (h .«s_id»)) (d : Placed) where
-  pub command-no-login : seatOf keys (h .«s_id») ≡ Nothing → d ≡ loggedOutIn i l (h .«s_id») → d ≡ commandTurn capacity keys l h f
+module _ (v : View) (h : Header) (f : List ℕ) (d : Decision) where
+  pub command-no-login : v .seat ≡ Nothing → d ≡ loggedOutTurn (h .«s_id») → d ≡ commandTurn v h f
   unfolding commandTurn
-  command-no-login n ed = rw (sym ei, n) ed
+  command-no-login n ed = rw n ed
 
-  module _ (j : ℕ) (at : seatOf keys (h .«s_id») ≡ At j) where
-    pub command-unpaired : (l .paired ≡ 1 → ⊥) → d ≡ loggedOutIn i l (h .«s_id») → d ≡ commandTurn capacity keys l h f
+  module _ (i : ℕ) (at : v .seat ≡ At i) where
+    pub command-unpaired : (v .login .paired ≡ 1 → ⊥) → d ≡ loggedOutTurn (h .«s_id») → d ≡ commandTurn v h f
     unfolding commandTurn
-    command-unpaired n ed = rw (sym ei, at, ne-eqb (l .paired) 1 n) ed
+    command-unpaired n ed = rw (at, ne-eqb (v .login .paired) 1 n) ed
 
-    pub command-paired : (c : Cmnd) → l .paired ≡ 1 → c ≡ cmndOf f → d ≡ commandedTurn capacity i l h c (length f) → d ≡ commandTurn capacity keys l h f
+    pub command-paired : (c : Cmnd) → v .login .paired ≡ 1 → c ≡ cmndOf f → d ≡ commandedTurn (v .unit) i (v .login) h c (length f) → d ≡ commandTurn v h f
     unfolding commandTurn
-    command-paired c n ec ed = rw (sym ei, at, eq-eqb (l .paired) 1 n, sym ec) ed
+    command-paired c n ec ed = rw (at, eq-eqb (v .login .paired) 1 n, sym ec) ed

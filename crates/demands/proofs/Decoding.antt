@@ -21,10 +21,10 @@ use Rattle.params.specs.Words.{paramsOf, setupPasses}
 use Rattle.state.specs.declared.Port.{Port}
 use Rattle.state.specs.declared.Unit.{Unit}
 use Rattle.state.specs.declared.Standing.the-variants.{Open}
-use Rattle.state.specs.Changes.{emptyLogin, isUsed, hasAddress, loginAt}
+use Rattle.state.specs.Changes.{emptyLogin, isUsed, hasAddress, ownOf, loginAt}
 use Rattle.state.specs.Tables.{lookupOf}
 use Rattle.state.proofs.Places.{open-place, open-used, found-has, login-inside}
-use Rattle.formed.specs.Formed.{setupRules, addressFine, loginFine, wellFormed}
+use Rattle.formed.specs.Formed.{setupRules, setupOf, addressFine, loginFine, wellFormed}
 use Rattle.formed.proofs.Parts.{fine-used, formed-parts}
 use Rattle.formed.proofs.Advance.{sent-within}
 use Rattle.residual.specs.Residual.{residualOf}
@@ -34,7 +34,7 @@ use Rattle.reply.specs.declared.Response.the-variants.{Status}
 use Rattle.reply.specs.declared.Reply.the-variants.{Respond, Data}
 use Rattle.reply.specs.Payload.{residualFlag, residualSize, statusBytes, payloadOf}
 use Rattle.reply.specs.Reply.{answerHead, dataHead, filled, bytesOf}
-use Rattle.serve.specs.Next.{hasMore, frameOf, nextReply, sourceOf, ownOf, askedBy, exchangeOf, fullOf, frameBytes}
+use Rattle.serve.specs.Next.{hasMore, frameOf, nextReply, sourceOf, askedBy, exchangeOf, fullOf, frameBytes}
 use Rattle.serve.specs.Whole.{payloadAt}
 use Rattle.serve.proofs.Frames.{runs, total-small, is-data, next-counted}
 use Rattle.demands.proofs.Judges.{small-address}
@@ -158,7 +158,7 @@ module _ (u : Unit) (p : Port) (a x i j k : ℕ) (W : List ℕ) where
   -- from a well-formed port
   module _ (w : wellFormed u p ≡ true) (o : lookupOf p a x ≡ Open i j) (small : x < 65536) where
     own-small : p .address < 256
-    unfolding setupRules
+    unfolding setupRules setupOf ownOf
     own-small =
         let c = leb 1 (u .capacity) in
         let d = leb (u .capacity) 4294967295 in
@@ -174,7 +174,7 @@ module _ (u : Unit) (p : Port) (a x i j k : ℕ) (W : List ℕ) where
     unfolding loginAt addressFine
     login-small =
         let l = loginAt p i in
-        let f = fine-used (open-used p a x i j o) (all-at (loginFine (u .capacity) (p .address)) emptyLogin (p .logins) i (login-inside p a x i j o) (formed-parts w .logins)) in
+        let f = fine-used (open-used p a x i j o) (all-at (loginFine u (p .address)) emptyLogin (p .logins) i (login-inside p a x i j o) (formed-parts w .logins)) in
         small-address (l .address) (and-left (validAddress (l .address)) (not (eqb (l .address) (p .address))) (f .address))
 
     named-small : a < 256

@@ -7,6 +7,7 @@ use Prim.Native.Nat.{ℕ, _*_, _%_, _≤_, _<_}
 use native.Mathlib.Omega.{arith}
 use lib.ListN.{length, take}
 use borrow.Author.Tests.{not-true}
+use Rattle.tables.specs.Firsts.{IsFirst}
 use Rattle.tables.proofs.Bools.{apart}
 use Rattle.wire.specs.Layout.{AllBytes}
 use Rattle.frame.specs.declared.Header.{Header}
@@ -17,13 +18,14 @@ use Rattle.formed.specs.Formed.{setupRules, wellFormed}
 use Rattle.reply.specs.declared.Reply.the-variants.{Reject}
 use Rattle.link.specs.Link.{linkOf}
 use Rattle.link.specs.Login.{ended}
-use Rattle.arrival.specs.declared.Refusal.{Refusal}
-use Rattle.arrival.specs.declared.Refusal.the-variants.{IllFormed, BadSetup}
-use Rattle.arrival.specs.First.{First}
+use Rattle.refusal.specs.declared.Refusal.{Refusal}
+use Rattle.refusal.specs.declared.Refusal.the-variants.{IllFormed, BadSetup}
+use Rattle.refusal.specs.declared.Said.the-variants.{Sent, Refused}
+use Rattle.refusal.specs.Refusal.{frameOrder, nextOrder}
+use Rattle.arrival.specs.Arrival.{appliesIn}
 use Rattle.drive.specs.declared.Drive.{Drive}
 use Rattle.drive.specs.declared.Event.{Event}
 use Rattle.drive.specs.declared.Answer.{Answer}
-use Rattle.drive.specs.declared.Said.the-variants.{Sent, Refused}
 use Rattle.drive.specs.Drive.{madeFrom, noDrive, silent, refused, newAnswer, afterEvent, eventAnswer}
 use Rattle.drive.specs.Entry.{frameIn, frameInBuffer, nextFrame, nextFrameBuffer}
 use Rattle.drive.proofs.Made.{new-refused, new-made, event-refused, event-answered}
@@ -33,7 +35,7 @@ use Rattle.state.specs.Tables.{lookupOf}
 use Rattle.serve.specs.Next.{exchangeOf, fullOf}
 use Rattle.serve.specs.Whole.{Piece}
 use Rattle.demands.specs.Driven.{Driven}
-use Rattle.demands.specs.Refusals.{FirstOut}
+use Rattle.demands.specs.Refusals.{appliesOut}
 use Rattle.demands.specs.Login.{LoginIn}
 use Rattle.demands.specs.Reading.{Reads, OpenRead, Delivered, freed, Comes}
 use Rattle.demands.specs.Numbers.{KnownNumbers}
@@ -61,17 +63,17 @@ pub one-new : (s : Setup) (r t : Answer) → r ≡ newAnswer s → t ≡ newAnsw
 one-new s r t a b = a ∙ sym b
 
 -- Refusals of a frame in: a number is given exactly when it is the first of 1 to 7 that applies, with the drive unchanged and no byte of the buffer changed.
-pub frame-given : (d : Drive) (f l : List ℕ) (x : Refusal) → frameIn d f (length l) .said ≡ Refused x → First (d .unit) (d .port) (headerOf f) f (length l) x
+pub frame-given : (d : Drive) (f l : List ℕ) (x : Refusal) → frameIn d f (length l) .said ≡ Refused x → IsFirst (appliesIn (d .unit) (d .port) (headerOf f) f (length l)) frameOrder x
 frame-given = frame-first
 
-pub frame-then : (d : Drive) (f l : List ℕ) (x : Refusal) → First (d .unit) (d .port) (headerOf f) f (length l) x → (frameIn d f (length l) ≡ refused x d) × (frameInBuffer d f l ≡ l)
+pub frame-then : (d : Drive) (f l : List ℕ) (x : Refusal) → IsFirst (appliesIn (d .unit) (d .port) (headerOf f) f (length l)) frameOrder x → (frameIn d f (length l) ≡ refused x d) × (frameInBuffer d f l ≡ l)
 frame-then = frame-refuses
 
 -- Refusals of a next frame out: the same, in the order 1, 2, 9, 7, 10.
-pub next-given : (d : Drive) (a x start : ℕ) (W l : List ℕ) (r : Refusal) → nextFrame d a x start W (length l) .said ≡ Refused r → FirstOut d a x start W l r
+pub next-given : (d : Drive) (a x start : ℕ) (W l : List ℕ) (r : Refusal) → nextFrame d a x start W (length l) .said ≡ Refused r → IsFirst (appliesOut d a x start W l) nextOrder r
 next-given = next-first
 
-pub next-then : (d : Drive) (a x start : ℕ) (W l : List ℕ) (r : Refusal) → FirstOut d a x start W l r → nextFrame d a x start W (length l) .said ≡ Refused r
+pub next-then : (d : Drive) (a x start : ℕ) (W l : List ℕ) (r : Refusal) → IsFirst (appliesOut d a x start W l) nextOrder r → nextFrame d a x start W (length l) .said ≡ Refused r
 next-then = next-refuses
 
 pub next-same : (d : Drive) (a x start : ℕ) (W l : List ℕ) (r : Refusal) → nextFrame d a x start W (length l) .said ≡ Refused r
@@ -82,8 +84,8 @@ next-same = next-unchanged
 pub event-given : (d : Drive) (e : Event) → (wellFormed (d .unit) (d .port) ≡ false → eventAnswer d e ≡ refused IllFormed d) × (wellFormed (d .unit) (d .port) ≡ true → eventAnswer d e ≡ silent (afterEvent e d))
 event-given d e = (event-refused d e, event-answered d e)
 
-pub new-given : (s : Setup) → (setupRules (s .capacity) (s .address) (s .accept) ≡ false → newAnswer s ≡ refused BadSetup noDrive)
-    × (setupRules (s .capacity) (s .address) (s .accept) ≡ true → newAnswer s ≡ silent (madeFrom s))
+pub new-given : (s : Setup) → (setupRules s ≡ false → newAnswer s ≡ refused BadSetup noDrive)
+    × (setupRules s ≡ true → newAnswer s ≡ silent (madeFrom s))
 new-given s = (new-refused s, new-made s)
 
 -- Well formed is kept: a drive that was made, and driven only by the entries, is well formed, and no call of it is refused with 2.

@@ -9,6 +9,9 @@ use lib.Dec.{leb}
 use lib.ListN.{length, getD}
 use borrow.Author.Tests.{le-ltb, eq-eqb}
 use Rattle.tables.specs.declared.Found.the-variants.{At}
+use Rattle.tables.specs.Firsts.{firstOf, NoneOf}
+use Rattle.tables.proofs.Firsts.{none-then}
+use Rattle.refusal.specs.Refusal.{frameOrder}
 use Rattle.frame.specs.declared.Header.{Header}
 use Rattle.frame.specs.Head.{Fits, headerOf, headerBytes}
 use Rattle.frame.proofs.Trips.{read-write}
@@ -23,15 +26,13 @@ use Rattle.state.specs.declared.Change.the-variants.{EndLogin}
 use Rattle.state.specs.Changes.{hasAddress, endedOf, changedAll}
 use Rattle.state.specs.Tables.{freeLogin}
 use Rattle.formed.specs.Formed.{setupRules}
-use Rattle.link.specs.declared.Decided.{Decided}
+use Rattle.calls.specs.Turn.{Decided}
 use Rattle.link.specs.Link.{sizeOf, outcomeAfter, outcomeOf, outcomeReply, plogiOf, linkOf}
-use Rattle.arrival.specs.declared.Kind.the-variants.{Link}
-use Rattle.arrival.specs.declared.Judged.the-variants.{Passed}
-use Rattle.arrival.specs.Arrival.{badSize, badSource, knownPair, unknownForm, spared, unprovenCall, kindOf, judgedOf}
+use Rattle.arrival.specs.Arrival.{badSize, badSource, knownPair, unknownForm, spared, unprovenCall, kindOf, appliesIn}
 use Rattle.arrival.proofs.Passes.{passes}
 use Rattle.judging.specs.Judgement.{judged, judgementOf}
 use Rattle.drive.specs.declared.Drive.{Drive}
-use Rattle.drive.specs.Drive.{madeFrom}
+use Rattle.drive.specs.Drive.{madeFrom, refused}
 use Rattle.drive.specs.Entry.{answered, frameIn}
 use Rattle.drive.proofs.Made.{made-formed}
 use Rattle.drive.proofs.Keeping.{source-valid}
@@ -48,7 +49,7 @@ same-reply : (v : Verdict) → outcomeReply (outcomeAfter v (At 0)) ≡ replyFor
 same-reply verdict.Accept = refl
 same-reply (verdict.Reject t) = refl
 
-module _ (t : Setup) (rules : setupRules (t .capacity) (t .address) (t .accept) ≡ true) (from ox : ℕ) (other : badSource (t .address) from ≡ false) (small : ox < 65536) (s : List ℕ) (size : length s ≡ 116)
+module _ (t : Setup) (rules : setupRules t ≡ true) (from ox : ℕ) (other : badSource (t .address) from ≡ false) (small : ox < 65536) (s : List ℕ) (size : length s ≡ 116)
     (plogi : getD s 0 0 ≡ 3) where
   abbrev d : Drive
   d = madeFrom t
@@ -106,11 +107,11 @@ module _ (t : Setup) (rules : setupRules (t .capacity) (t .address) (t .accept) 
   header-is : headerOf f ≡ h
   header-is = read-write h s fits
 
-  -- the frame passes, whatever the buffer of 2,136 bytes or more
-  frame-passes : (room : ℕ) → 2136 ≤ room → judgedOf (d .unit) (d .port) h f room ≡ Passed Link
-  unfolding madeFrom badSize unknownForm knownPair unprovenCall spared kindOf
+  -- no number applies to the frame, whatever the buffer of 2,136 bytes or more
+  frame-passes : (room : ℕ) → 2136 ≤ room → NoneOf (appliesIn (d .unit) (d .port) h f room) frameOrder
+  unfolding madeFrom badSize unknownForm knownPair unprovenCall spared
   frame-passes room enough =
-      passes (d .unit) (d .port) h f room Link
+      passes (d .unit) (d .port) h f room
       record {
         long = le-ltb room 2136 enough;
         fine = made-formed t rules;
@@ -119,10 +120,12 @@ module _ (t : Setup) (rules : setupRules (t .capacity) (t .address) (t .accept) 
         from = other;
         known = rw long;
         proven = rw code;
-        kind = refl;
       }
+
+  answered-first : (room : ℕ) → 2136 ≤ room → firstOf (appliesIn (d .unit) (d .port) h f room) frameOrder (λ x. refused x d) (answered d h (linkOf (d .port) h f)) ≡ answered d h (linkOf (d .port) h f)
+  answered-first room enough = none-then (appliesIn (d .unit) (d .port) h f room) frameOrder (λ x. refused x d) _ (frame-passes room enough)
 
   -- the drive's answer to the record, sent as a PLOGI by any valid address other than its own, is the judgement's
   pub judges-is : (room : ℕ) → 2136 ≤ room → frameIn d f room ≡ answered d h (record { reply = replyFor (judgementOf s); port = linkOf (d .port) h f .port })
-  unfolding frameIn
-  judges-is room enough = rw (header-is, frame-passes room enough, sym reply-is)
+  unfolding frameIn kindOf
+  judges-is room enough = rw (header-is, sym reply-is) (answered-first room enough)

@@ -8,8 +8,10 @@ use lib.ListN.{length, length-append, length-take}
 use Rattle.wire.specs.Bytes.{fillCount}
 use Rattle.frame.specs.declared.Header.{Header}
 use Rattle.frame.specs.Head.{headerOf, headerBytes}
+use Rattle.refusal.specs.declared.Said.the-variants.{Sent}
 use Rattle.state.specs.declared.Exchange.{Exchange}
-use Rattle.reply.specs.declared.Own.{Own}
+use Rattle.state.specs.declared.Own.{Own}
+use Rattle.state.specs.Changes.{ownOf}
 use Rattle.reply.specs.declared.Accepted.{Accepted}
 use Rattle.reply.specs.declared.Accepted.the-variants as accepted
 use Rattle.reply.specs.declared.Response.{Response}
@@ -18,14 +20,11 @@ use Rattle.reply.specs.declared.Reply.{Reply}
 use Rattle.reply.specs.declared.Reply.the-variants as reply
 use Rattle.reply.specs.Payload.{shortBytes, loginBytes, addressBytes, pairBytes, unpairBytes, acceptedBytes, rejectBytes, logoutBytes, abortAcceptBytes, abortRejectBytes, statusBytes, codeBytes, senseBytes, responseBytes, payloadOf}
 use Rattle.reply.specs.Reply.{headOf, filled, silent, bytesOf}
-use Rattle.serve.specs.Next.{hasMore, nextReply, ownOf, askedBy, exchangeOf, fullOf, sourceOf, frameBytes}
-use Rattle.arrival.specs.declared.Judged.{Judged}
-use Rattle.arrival.specs.declared.Judged.the-variants as judged
-use Rattle.arrival.specs.Arrival.{judgedOf}
+use Rattle.serve.specs.Next.{hasMore, nextReply, askedBy, exchangeOf, fullOf, sourceOf, frameBytes}
 use Rattle.drive.specs.declared.Drive.{Drive}
-use Rattle.drive.specs.declared.Said.the-variants.{Sent}
-use Rattle.drive.specs.Drive.{refused}
-use Rattle.drive.specs.Entry.{replyBytes, answered, onJudged, decidedIn, frameIn, nextFrame}
+use Rattle.drive.specs.declared.Answer.{Answer}
+use Rattle.drive.specs.Entry.{replyBytes, decidedIn, frameIn, nextFrame}
+use Rattle.drive.proofs.Ways.{frame-cases}
 use Rattle.demands.proofs.Decoding.{framed-long, few-bytes}
 use Rattle.demands.proofs.Calls.{gave}
 
@@ -88,18 +87,16 @@ same-length m n e = cc
 
 -- a frame in
 pub frame-long : (d : Drive) (f l : List ℕ) (n : ℕ) → length (d .port .accept) ≡ 112 → frameIn d f (length l) .said ≡ Sent n → (n ≤ 140) × (n % 4 ≡ 0)
-unfolding frameIn replyBytes ownOf
-frame-long d f l n words e = by (judgedOf (d .unit) (d .port) (headerOf f) f (length l)) e
-  where
-    by : (j : Judged) → onJudged j (λ x. refused x d) (λ k. answered d (headerOf f) (decidedIn d f k)) .said ≡ Sent n → (n ≤ 140) × (n % 4 ≡ 0)
-    by (judged.Refused x) s = let z : _≡_ {A = ℕ} 0 1 = cc in absurd (omega arith)
-    by (judged.Passed k) s =
-        let o = ownOf (d .port) in
-        let r = decidedIn d f k .reply in
-        let is = same-length (length (bytesOf o (headerOf f) r [])) n s in
-        let few = bytes-few o (headerOf f) r [] (payload-few o (headerOf f) r words) in
-        let four = bytes-four o (headerOf f) r [] in
-        (omega arith, omega arith)
+unfolding replyBytes ownOf
+frame-long d f l n words =
+    frame-cases d f (length l) (λ (a : Answer). a .said ≡ Sent n → (n ≤ 140) × (n % 4 ≡ 0)) (λ x _ e. let z : _≡_ {A = ℕ} 0 1 = cc in absurd (omega arith))
+    (λ _ e.
+      let o = ownOf (d .port) in
+      let r = decidedIn d f .reply in
+      let is = same-length (length (bytesOf o (headerOf f) r [])) n e in
+      let few = bytes-few o (headerOf f) r [] (payload-few o (headerOf f) r words) in
+      let four = bytes-four o (headerOf f) r [] in
+      (omega arith, omega arith))
 
 -- a next frame: data or FCP_RSP, and so never nothing
 either-loud : (b : Bool) (r s : Reply) → silent r ≡ false → silent s ≡ false → silent (cond b r s) ≡ false

@@ -1,5 +1,5 @@
 -- A port login that is not refused is accepted or rejected at the entry exactly as document 01 says, with the stated reason. Assumes nothing.
-use mathlib.Core.Path.{_≡_, refl, ap, _∙_}
+use mathlib.Core.Path.{_≡_, ap, _∙_}
 use mathlib.Core.List.{List}
 use Prim.Native.Nat.{ℕ}
 use lib.ListN.{length}
@@ -10,19 +10,25 @@ use Rattle.params.specs.Words.{paramsOf}
 use Rattle.state.specs.Changes.{withLogin}
 use Rattle.reply.specs.declared.Reply.the-variants as reply
 use Rattle.reply.specs.declared.Accepted.the-variants as accepted
-use Rattle.link.specs.Link.{decidedAs, newLogin, linkOf}
+use Rattle.calls.specs.Turn.{Decided, decidedAs}
+use Rattle.link.specs.Link.{newLogin, linkOf}
 use Rattle.link.specs.Login.{ended, leftBy, Accepts, Rejects}
 use Rattle.link.proofs.Exactly.{accepts, accepts-only, rejects, rejects-only}
+use Rattle.arrival.specs.Arrival.{kindOf}
 use Rattle.drive.specs.declared.Drive.{Drive}
 use Rattle.drive.specs.declared.Answer.{Answer}
-use Rattle.drive.specs.Entry.{answered, replyBytes, frameIn, frameInBuffer}
+use Rattle.drive.specs.Entry.{answered, decidedIn, replyBytes, frameIn, frameInBuffer}
 use Rattle.demands.specs.Login.{LoginIn}
+use Rattle.demands.proofs.Refusals.{frame-answers}
 
 module _ (d : Drive) (f l : List ℕ) (p : LoginIn d f l) where
   -- the answer and the buffer are those of the link services' reply
   pub login-answered : (frameIn d f (length l) ≡ answered d (headerOf f) (linkOf (d .port) (headerOf f) f)) × (frameInBuffer d f l ≡ onto (replyBytes d (headerOf f) (linkOf (d .port) (headerOf f) f)) l)
-  unfolding frameIn frameInBuffer
-  login-answered = rw (p .passed) (refl, refl)
+  unfolding kindOf
+  login-answered =
+      let t = frame-answers d f l (p .passed) in
+      let is : decidedIn d f ≡ linkOf (d .port) (headerOf f) f = rw (p .link) in
+      (t .0 ∙ ap (answered d (headerOf f)) is, t .1 ∙ ap (λ (r : Decided). onto (replyBytes d (headerOf f) r) l) is)
 
   -- accepted, and stored at the lowest free place: where the size is right, every word test passes and a place is free once the sender's own login has ended
   pub login-accepts : (a : Accepts (d .port) (headerOf f) f)

@@ -4,25 +4,26 @@ use Rattle.wire.specs.Bytes.{onto}
 use Rattle.frame.specs.Head.{headerOf, headerBytes}
 use Rattle.address.specs.Address.{validAddress}
 use Rattle.params.specs.Words.{paramsOf, sizeFails, zeroName, verdictOf, setupPasses}
-use Rattle.state.specs.Changes.{loginAt, exchangeAt, withLogin, withExchange, hasAddress, endedOf, changedAll}
-use Rattle.state.specs.Tables.{hasId, findLogin, freeLogin, findExchange, freeExchange, lookupOf}
-use Rattle.formed.specs.Formed.{setupRules, readFits, wantedFits, sentFits, exchangeFine, apartId, paramsFine, flagsFine, addressFine, usedFine, loginFine, apartAddress, wellFormed}
+use Rattle.state.specs.Changes.{ownOf, loginAt, exchangeAt, withLogin, withExchange, hasAddress, endedOf, changedAll}
+use Rattle.state.specs.Tables.{hasId, findLogin, freeLogin, findExchange, freeExchange, loginOf, lookupOf}
+use Rattle.formed.specs.Formed.{setupRules, setupOf, readFits, wantedFits, sentFits, exchangeFine, apartId, paramsFine, flagsFine, addressFine, usedFine, loginFine, apartAddress, wellFormed}
 use Rattle.reply.specs.Payload.{shortBytes, loginBytes, pairBytes, rejectBytes, statusBytes, codeBytes, senseBytes}
 use Rattle.reply.specs.Reply.{answerHead, dataHead, filled, bytesOf}
 use Rattle.residual.specs.Residual.{residualOf}
 use Rattle.link.specs.Link.{sizeOf, newLogin, outcomeOf, plogiOf, pageFine, pairFine, prliOf, serviceOf, linkOf}
 use Rattle.command.specs.Cmnd.{cmndOf, malformed, taskFor, taskOf}
-use Rattle.command.specs.Tests.{skips, otherUnit, attends, unknownCode, inquiryField, capacityField, fieldSet, outside, exchangeFor, askedOf}
+use Rattle.command.specs.Cdb.{inquiryField, capacityField, range10, decodedOf}
+use Rattle.command.specs.Tests.{otherUnit, attends, beyond, askedBy as testedBy, askedOf}
 use Rattle.command.specs.Command.{refusedWith, toldOf, answerOf, executeOf, commandedAt, commandOf}
 use Rattle.cover.specs.Cover.{coverOf}
-use Rattle.serve.specs.Next.{hasMore, readsMore, placeOf, frameOf, nextReply, nextExchange, sourceOf, ownOf, askedBy, openStep, stepOf, frameBytes, portAfter, nextOf, nextBuffer}
-use Rattle.arrival.specs.Arrival.{badSize, badSource, knownPair, unknownForm, spared, unprovenLogin, unprovenCall, kindOf, judgedBy, judgedOf}
+use Rattle.serve.specs.Next.{hasMore, readsMore, placeOf, frameOf, nextReply, nextExchange, sourceOf, windowPlace, askedBy, openStep, stepOf, frameBytes, movedOn, nextOf, nextBuffer}
+use Rattle.arrival.specs.Arrival.{badSize, badSource, knownPair, unknownForm, spared, unprovenLogin, unprovenCall, kindOf}
 use Rattle.drive.specs.Drive.{madeFrom}
 use Rattle.drive.specs.Entry.{replyBytes, frameIn, frameInBuffer, nextFrame, nextFrameBuffer}
 use Rattle.demands.specs.Numbers.{KnownNumbers}
 
 pub known-numbers : KnownNumbers
-unfolding frameIn frameInBuffer replyBytes judgedOf judgedBy headerOf headerBytes badSize badSource knownPair unknownForm spared unprovenLogin unprovenCall kindOf validAddress madeFrom wellFormed setupRules setupPasses paramsOf sizeFails zeroName verdictOf loginFine usedFine flagsFine addressFine paramsFine exchangeFine apartId apartAddress wantedFits readFits sentFits findLogin freeLogin findExchange freeExchange hasAddress hasId loginAt exchangeAt withLogin withExchange endedOf changedAll bytesOf filled onto answerHead dataHead shortBytes loginBytes pairBytes rejectBytes statusBytes codeBytes senseBytes residualOf linkOf sizeOf plogiOf outcomeOf newLogin serviceOf prliOf pairFine pageFine cmndOf malformed taskFor taskOf skips otherUnit attends unknownCode inquiryField capacityField fieldSet outside exchangeFor askedOf refusedWith toldOf answerOf executeOf commandedAt commandOf nextFrame nextFrameBuffer lookupOf hasMore readsMore coverOf placeOf frameOf nextReply nextExchange sourceOf ownOf askedBy openStep stepOf frameBytes portAfter nextOf nextBuffer
+unfolding frameIn frameInBuffer replyBytes headerOf headerBytes badSize badSource knownPair unknownForm spared unprovenLogin unprovenCall kindOf validAddress madeFrom wellFormed setupRules setupOf setupPasses paramsOf sizeFails zeroName verdictOf loginFine usedFine flagsFine addressFine paramsFine exchangeFine apartId apartAddress wantedFits readFits sentFits findLogin freeLogin findExchange freeExchange loginOf hasAddress hasId loginAt exchangeAt withLogin withExchange endedOf changedAll bytesOf filled onto answerHead dataHead shortBytes loginBytes pairBytes rejectBytes statusBytes codeBytes senseBytes residualOf linkOf sizeOf plogiOf outcomeOf newLogin serviceOf prliOf pairFine pageFine cmndOf malformed taskFor taskOf otherUnit attends inquiryField capacityField range10 decodedOf beyond testedBy askedOf refusedWith toldOf answerOf executeOf commandedAt commandOf nextFrame nextFrameBuffer lookupOf hasMore readsMore coverOf placeOf frameOf nextReply nextExchange sourceOf windowPlace ownOf askedBy openStep stepOf frameBytes movedOn nextOf nextBuffer
 known-numbers =
     record {
       frame-20 = refl;

@@ -20,16 +20,16 @@ use Rattle.reply.specs.declared.Residual.the-variants.{Exact, Over, Under}
 use Rattle.reply.specs.declared.Response.{Response}
 use Rattle.reply.specs.declared.Response.the-variants.{Status}
 use Rattle.reply.specs.Payload.{residualFlag, residualSize}
-use Rattle.serve.specs.declared.Step.the-variants.{Frame}
-use Rattle.serve.specs.Next.{hasMore, frameOf, exchangeOf, fullOf, stepOf, frameBytes, nextOf}
+use Rattle.serve.specs.Next.{hasMore, frameOf, exchangeOf, fullOf, Frame, stepOf, frameBytes, nextOf}
 use Rattle.cover.specs.Cover.{cut}
 use Rattle.serve.specs.Whole.{Piece, payloadAt, Run}
 use Rattle.serve.specs.Whole as whole
-use Rattle.serve.proofs.Steps.{passed, given}
-use Rattle.serve.proofs.Frames.{runs, is-data, is-response, port-is}
+use Rattle.serve.proofs.Steps.{passed}
+use Rattle.serve.proofs.Frames.{runs, is-data, is-response}
 use Rattle.serve.proofs.Keeping.{next-kept}
-use Rattle.serve.proofs.Whole.{whole-read}
-use Rattle.serve.proofs.Comes.{whole-comes}
+use Rattle.serve.proofs.Whole.{run-read}
+use Rattle.serve.proofs.Comes.{run-comes}
+use Rattle.arrival.specs.Arrival.{shortBuffer}
 use Rattle.drive.specs.declared.Drive.{Drive}
 use Rattle.drive.specs.Entry.{nextFrameBuffer}
 use Rattle.demands.proofs.Decoding.{more-reply, last-reply, data-kind, response-kind, response-status, response-resid, response-rest, data-offset, data-count, data-payload, frame-addressed}
@@ -72,15 +72,14 @@ module _ (u : Unit) (p : Port) (a x i j k : ℕ) (W : List ℕ) where
 record Stepped (unit : List ℕ) (a x : ℕ) (d : Drive) (f : List ℕ) (e : Drive) : Type 0 where
   start : ℕ
   len : ℕ
-  room : ℕ
   i : ℕ
   j : ℕ
   k : ℕ
   formed : wellFormed (d .unit) (d .port) ≡ true
-  step : stepOf (d .port) a x start (length (cut unit start len)) room ≡ Frame i j k
+  step : stepOf (d .port) a x start (length (cut unit start len)) ≡ Frame i j k
   stands : lookupOf (d .port) a x ≡ Open i j
   frame : f ≡ frameBytes (d .unit) (d .port) a x i j k (cut unit start len)
-  drive : e ≡ record { unit = d .unit; port = nextOf (d .unit) (d .port) a x start (cut unit start len) room .port }
+  drive : e ≡ record { unit = d .unit; port = nextOf (d .unit) (d .port) a x start (cut unit start len) .port }
 
 stepped : {unit : List ℕ} {a x : ℕ} {d : Drive} {f : List ℕ} {e : Drive} → Sends unit a x d f e → Stepped unit a x d f e
 stepped {unit} {a} {x} {d} {f} {e} s =
@@ -90,15 +89,14 @@ stepped {unit} {a} {x} {d} {f} {e} s =
     record {
       start = s .start;
       len = s .len;
-      room = length l;
       i = g .i;
       j = g .j;
       k = g .k;
       formed = g .formed;
       step = g .step;
-      stands = passed (d .port) a x (s .start) (length W) (length l) (g .i) (g .j) (g .k) (g .step) .stands;
-      frame = s .frame ∙ ap (λ (n : ℕ). take n (nextFrameBuffer d a x (s .start) W l)) (sym (g .is)) ∙ front-is d a x (s .start) W l (g .i) (g .j) (g .k) (g .formed) (g .step);
-      drive = s .drive ∙ drive-is d a x (s .start) W l (g .i) (g .j) (g .k) (g .formed) (g .step);
+      stands = passed (d .port) a x (s .start) (length W) (g .i) (g .j) (g .k) (g .step) .stands;
+      frame = s .frame ∙ ap (λ (n : ℕ). take n (nextFrameBuffer d a x (s .start) W l)) (sym (g .is)) ∙ front-is d a x (s .start) W l (g .i) (g .j) (g .k) (g .room) (g .formed) (g .step);
+      drive = s .drive ∙ drive-is d a x (s .start) W l (g .i) (g .j) (g .k) (g .room) (g .formed) (g .step);
     }
 
 -- no call is left out of a run: each frame that is sent shows itself as one of the two, and for whom it is
@@ -133,7 +131,7 @@ ran-response {unit} {a} {x} {d} {e} {f} t shown =
     let seen = response-status u p a x (t .i) (t .j) (t .k) W r reply in
     record {
       residual = r;
-      run = subst (λ (q : Port). Run u unit a x p [] (Status 0x00 r) q) (sym (ap (λ (s : Drive). s .port) (t .drive))) (whole.ends (t .start) (t .len) (t .room) (t .i) (t .j) (t .k) (t .step) reply);
+      run = subst (λ (q : Port). Run u unit a x p [] (Status 0x00 r) q) (sym (ap (λ (s : Drive). s .port) (t .drive))) (whole.ends (t .start) (t .len) (t .i) (t .j) (t .k) (t .step) reply);
       same = ap (λ (s : Drive). s .unit) (t .drive);
       status = ap statusIn (t .frame) ∙ seen .1;
       flags = ap flagsIn (t .frame) ∙ seen .0;
@@ -158,7 +156,7 @@ ran-data {unit} {a} {x} {d} {d₁} {e} {f} {last} {pieces} small t shown rest =
     let on = subst (λ (s : Drive). Run (s .unit) unit a x (s .port) pieces r (e .port)) (t .drive) (rest .run) in
     record {
       residual = rest .residual;
-      run = subst (λ (h : Piece). Run u unit a x p (h ∷ pieces) r (e .port)) (sym is) (whole.piece (t .start) (t .len) (t .room) (t .i) (t .j) (t .k) g (t .step) reply on);
+      run = subst (λ (h : Piece). Run u unit a x p (h ∷ pieces) r (e .port)) (sym is) (whole.piece (t .start) (t .len) (t .i) (t .j) (t .k) g (t .step) reply on);
       same = rest .same ∙ ap (λ (s : Drive). s .unit) (t .drive);
       status = rest .status;
       flags = rest .flags;
@@ -192,9 +190,9 @@ reads-whole d e unit a x i j pieces last w long o reads =
     let p = d .port in
     let r = exchangeOf p i j in
     let t = ran (o .ox) reads in
-    let s = whole-read u unit p (e .port) a x i j pieces (Status 0x00 (t .residual)) w long (o .stands) (o .kind) (o .fresh) (t .run) in
+    let s = run-read u unit p (e .port) a x i j pieces (Status 0x00 (t .residual)) w long (o .stands) (o .kind) (o .fresh) (t .run) in
     let is = same-status (t .residual) (residualOf (r .wanted) (r .expected)) (s .0 .response) in
-    let small = residual-small (r .wanted) (r .expected) (wanted-small (u .capacity) r (runs u p a x i j w (o .stands) .wanted)) (o .expected) in (
+    let small = residual-small (r .wanted) (r .expected) (wanted-small u r (runs u p a x i j w (o .stands) .wanted)) (o .expected) in (
       record {
         bytes = s .0 .bytes;
         order = s .0 .order;
@@ -212,47 +210,44 @@ module _ (u : Unit) (unit : List ℕ) (a x : ℕ) (l : List ℕ) (room : length 
   abbrev driveAt : Port → Drive
   driveAt p = record { unit = u; port = p }
 
-  module _ (p : Port) (start len n i j k : ℕ) (w : wellFormed u p ≡ true) (step : stepOf p a x start (length (cut unit start len)) n ≡ Frame i j k) where
+  roomy : shortBuffer (length l) ≡ false
+  roomy = rw room
+
+  module _ (p : Port) (start len i j k : ℕ) (w : wellFormed u p ≡ true) (step : stepOf p a x start (length (cut unit start len)) ≡ Frame i j k) where
     abbrev W : List ℕ
     W = cut unit start len
 
-    same-step : stepOf p a x start (length W) (length l) ≡ Frame i j k
-    same-step =
-        let t = passed p a x start (length W) n i j k step in
-        given record { roomy = omega arith; stands = t .stands; proven = t .proven; short = t .short; place = t .place }
-
-    call : Sends unit a x (driveAt p) (frameBytes u p a x i j k W) (driveAt (nextOf u p a x start W n .port))
+    call : Sends unit a x (driveAt p) (frameBytes u p a x i j k W) (driveAt (nextOf u p a x start W .port))
     call =
-        let q = same-step in
         record {
           start = start;
           len = len;
           buffer = l;
           n = length (frameBytes u p a x i j k W);
-          said = says (driveAt p) a x start W l i j k w q;
-          frame = sym (front-is (driveAt p) a x start W l i j k w q);
-          drive = ap driveAt (port-is u p a x start W n i j k step ∙ sym (port-is u p a x start W (length l) i j k q)) ∙ sym (drive-is (driveAt p) a x start W l i j k w q);
+          said = says (driveAt p) a x start W l i j k roomy w step;
+          frame = sym (front-is (driveAt p) a x start W l i j k roomy w step);
+          drive = sym (drive-is (driveAt p) a x start W l i j k roomy w step);
         }
 
-  run-comes : {p q : Port} {pieces : List Piece} {r : Response} → wellFormed u p ≡ true → Run u unit a x p pieces r q → Comes unit a x (driveAt p)
+  calls-come : {p q : Port} {pieces : List Piece} {r : Response} → wellFormed u p ≡ true → Run u unit a x p pieces r q → Comes unit a x (driveAt p)
   unfolding call
-  run-comes {p} {q} {pieces} {r} w (whole.ends start len n i j k step reply) =
+  calls-come {p} {q} {pieces} {r} w (whole.ends start len i j k step reply) =
       let none = is-response (fullOf p i) (exchangeOf p i j) r reply .0 in
       record {
         pieces = [];
         last = _;
         after = _;
-        reads = responds (call p start len n i j k w step) (shows-response u p a x i j k (cut unit start len) none .1);
+        reads = responds (call p start len i j k w step) (shows-response u p a x i j k (cut unit start len) none .1);
         rooms = ap (λ (m : ℕ). m ∷ []) room;
       }
-  run-comes {p} {q} {pieces} {r} w (whole.piece start len n i j k f step reply rest) =
+  calls-come {p} {q} {pieces} {r} w (whole.piece start len i j k f step reply rest) =
       let more = is-data (fullOf p i) (exchangeOf p i j) f reply .0 in
-      let on = run-comes (next-kept u p a x start (cut unit start len) n w) rest in
+      let on = calls-come (next-kept u p a x start (cut unit start len) w) rest in
       record {
         pieces = _;
         last = on .last;
         after = on .after;
-        reads = carries (call p start len n i j k w step) (shows-data u p a x i j k (cut unit start len) more .0) (on .reads);
+        reads = carries (call p start len i j k w step) (shows-data u p a x i j k (cut unit start len) more .0) (on .reads);
         rooms = ap (λ (m : ℕ). m ∷ roomsOf (on .reads)) room ∙ ap (λ (ns : List ℕ). 2136 ∷ ns) (on .rooms);
       }
 
@@ -260,4 +255,4 @@ module _ (u : Unit) (unit : List ℕ) (a x : ℕ) (l : List ℕ) (room : length 
 pub reads-come : (d : Drive) (unit : List ℕ) (a x i j : ℕ) → wellFormed (d .unit) (d .port) ≡ true → length unit ≡ 512 * d .unit .capacity → lookupOf (d .port) a x ≡ Open i j
     → loginAt (d .port) i .proven ≡ 1 → Comes unit a x d
 reads-come d unit a x i j w long o proven =
-    run-comes (d .unit) unit a x (replicate 2136 0) (length-replicate {A = ℕ} 2136 0) w (whole-comes (d .unit) unit (d .port) a x i j w long o proven .run)
+    calls-come (d .unit) unit a x (replicate 2136 0) (length-replicate {A = ℕ} 2136 0) w (run-comes (d .unit) unit (d .port) a x i j w long o proven .run)

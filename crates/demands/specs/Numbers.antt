@@ -6,10 +6,11 @@ use lib.ListN.{take, drop, replicate}
 use Rattle.wire.specs.Bytes.{bytes}
 use Rattle.frame.specs.Head.{headerBytes}
 use Rattle.state.specs.Changes.{loginAt, exchangeAt, withLogin, withExchange}
-use Rattle.arrival.specs.declared.Refusal.the-variants.{BadSize, BadWindow}
+use Rattle.state.specs.Kinds.{kindRead}
+use Rattle.refusal.specs.declared.Refusal.the-variants.{BadSize, BadWindow}
 use Rattle.drive.specs.declared.Drive.{Drive}
-use Rattle.drive.specs.declared.Said.{Said}
-use Rattle.drive.specs.declared.Said.the-variants.{Sent, Refused}
+use Rattle.refusal.specs.declared.Said.{Said}
+use Rattle.refusal.specs.declared.Said.the-variants.{Sent, Refused}
 use Rattle.drive.specs.Drive.{madeFrom}
 use Rattle.drive.specs.Entry.{frameIn, frameInBuffer, nextFrame, nextFrameBuffer}
 
@@ -108,7 +109,7 @@ reading bytes frames =
         sent = bytes;
         «ox_id» = 0x0004;
         count = frames;
-        kind = 1;
+        kind = kindRead;
       });
     }
 

@@ -10,6 +10,7 @@ use Rattle.frame.specs.Head.{headerOf}
 use Rattle.state.specs.declared.Exchange.{Exchange}
 use Rattle.state.specs.declared.Standing.the-variants.{Open}
 use Rattle.state.specs.Changes.{loginAt, withLogin, endedAt}
+use Rattle.state.specs.Kinds.{kindRead}
 use Rattle.state.specs.Tables.{lookupOf}
 use Rattle.formed.specs.Formed.{total, framesOf}
 use Rattle.residual.specs.Residual.{residualOf}
@@ -18,7 +19,7 @@ use Rattle.serve.specs.Next.{exchangeOf}
 use Rattle.cover.specs.Cover.{cut}
 use Rattle.serve.specs.Whole.{Piece, joined, InOrder}
 use Rattle.drive.specs.declared.Drive.{Drive}
-use Rattle.drive.specs.declared.Said.the-variants.{Sent}
+use Rattle.refusal.specs.declared.Said.the-variants.{Sent}
 use Rattle.drive.specs.Entry.{nextFrame, nextFrameBuffer}
 
 -- "the reply stands at the front of the buffer, its length .. in the answer": the frame in the buffer l after a call that said `Sent n`
@@ -85,7 +86,7 @@ roomsOf (responds s shown) = length (s .buffer) ∷ []
 -- "the exchange opens silently": a READ of a and x is open at place j of the login at place i, and nothing of it was sent; "OX_ID(2)" and "FCP_DL 4" are numbers of 2 and 4 bytes
 pub record OpenRead (d : Drive) (a x i j : ℕ) : Type 0 where
   pub stands : lookupOf (d .port) a x ≡ Open i j
-  pub kind : exchangeOf (d .port) i j .kind ≡ 1
+  pub kind : exchangeOf (d .port) i j .kind ≡ kindRead
   pub fresh : exchangeOf (d .port) i j .sent ≡ 0
   pub ox : x < 65536
   pub expected : exchangeOf (d .port) i j .expected < 4294967296

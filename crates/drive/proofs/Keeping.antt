@@ -1,10 +1,9 @@
 -- No frame in makes a drive ill formed, so a made drive is never refused with 2. Assumes nothing.
-use mathlib.Core.Path.{_≡_, refl, sym, ap, _∙_}
-use mathlib.Core.Bool.{Bool, true, false, cond, not, _||_}
+use mathlib.Core.Path.{_≡_}
+use mathlib.Core.Bool.{Bool, true, false, not}
 use mathlib.Core.List.{List}
 use Prim.Native.Nat.{ℕ}
 use lib.Dec.{eqb}
-use lib.ListN.{length}
 use borrow.Author.Tests.{not-false}
 use Rattle.tables.proofs.Bools.{or-left, or-right}
 use Rattle.wire.specs.Layout.{AllBytes}
@@ -14,21 +13,20 @@ use Rattle.address.specs.Address.{validAddress}
 use Rattle.state.specs.declared.Port.{Port}
 use Rattle.state.specs.declared.Unit.{Unit}
 use Rattle.formed.specs.Formed.{wellFormed}
+use Rattle.calls.proofs.Decisions.{on-cond}
 use Rattle.link.proofs.Keeping.{link-kept, abts-kept}
 use Rattle.command.proofs.Keeping.{command-kept}
 use Rattle.serve.proofs.Keeping.{next-kept}
 use Rattle.arrival.specs.declared.Kind.{Kind}
 use Rattle.arrival.specs.declared.Kind.the-variants.{Link, Done, Abort, Command}
-use Rattle.arrival.specs.declared.Judged.{Judged}
-use Rattle.arrival.specs.declared.Judged.the-variants as judged
-use Rattle.arrival.specs.Arrival.{shortBuffer, badSource, judgedOf}
-use Rattle.arrival.proofs.Passes.{Passes, passed}
+use Rattle.arrival.specs.Arrival.{shortBuffer, badSource, kindOf}
 use Rattle.drive.specs.declared.Drive.{Drive}
 use Rattle.drive.specs.declared.Answer.{Answer}
 use Rattle.drive.specs.declared.Event.{Event}
-use Rattle.drive.specs.Drive.{refused, eventAnswer}
+use Rattle.drive.specs.Drive.{eventAnswer}
+use Rattle.drive.specs.Entry.{decidedOf, frameIn, nextFrame}
+use Rattle.drive.proofs.Ways.{frame-cases}
 use Rattle.drive.proofs.Made.{event-kept, event-answered}
-use Rattle.drive.specs.Entry.{decidedOf, decidedIn, answered, onJudged, frameIn, nextFrame}
 
 -- a sender that passes is a valid address and not ours
 pub source-valid : (own from : ℕ) → badSource own from ≡ false → validAddress from ≡ true
@@ -40,37 +38,28 @@ unfolding badSource
 source-other own from e = or-right (not (validAddress from)) (eqb from own) e
 
 pub decided-kept : (u : Unit) (p : Port) (h : Header) (k : Kind) (f : List ℕ) → AllBytes f → badSource (p .address) (h .«s_id») ≡ false → wellFormed u p ≡ true
-    → wellFormed u (decidedOf (u .capacity) p h k f .port) ≡ true
+    → wellFormed u (decidedOf u p h k f .port) ≡ true
 decided-kept u p h Link f known from w = link-kept u p h f (source-valid (p .address) (h .«s_id») from) (source-other (p .address) (h .«s_id») from) w
 decided-kept u p h Done f known from w = w
 decided-kept u p h Abort f known from w = abts-kept u p (h .«s_id») (h .«ox_id») (h .«rx_id») w
 decided-kept u p h Command f known from w = command-kept u p h f known w
 
--- every frame of bytes keeps a drive well formed, refused or answered
-pub frame-kept : (d : Drive) (f : List ℕ) (room : ℕ) → AllBytes f → wellFormed (d .unit) (d .port) ≡ true → wellFormed (frameIn d f room .drive .unit) (frameIn d f room .drive .port) ≡ true
-unfolding frameIn
-frame-kept d f room known w = step (judgedOf (d .unit) (d .port) (headerOf f) f room) refl
-  where
-    fine : Answer → Type 0
-    fine a = wellFormed (a .drive .unit) (a .drive .port) ≡ true
-
-    step : (j : Judged) → judgedOf (d .unit) (d .port) (headerOf f) f room ≡ j → fine (onJudged j (λ x. refused x d) (λ k. answered d (headerOf f) (decidedIn d f k)))
-    step (judged.Refused x) e = w
-    step (judged.Passed k) e = decided-kept (d .unit) (d .port) (headerOf f) k f known (passed (d .unit) (d .port) (headerOf f) f room k e .from) w
-
 -- a drive that is well formed
 abbrev pub fine : Drive → Bool
 fine d = wellFormed (d .unit) (d .port)
 
-either-fine : (b : Bool) (x y : Answer) → fine (x .drive) ≡ true → fine (y .drive) ≡ true → fine (cond b x y .drive) ≡ true
-either-fine true x y p q = p
-either-fine false x y p q = q
+abbrev Kept : Answer → Type 0
+Kept a = fine (a .drive) ≡ true
+
+-- every frame of bytes keeps a drive well formed, refused or answered
+pub frame-kept : (d : Drive) (f : List ℕ) (room : ℕ) → AllBytes f → fine d ≡ true → fine (frameIn d f room .drive) ≡ true
+frame-kept d f room known w = frame-cases d f room Kept (λ x _. w) (λ s. decided-kept (d .unit) (d .port) (headerOf f) (kindOf (headerOf f .«r_ctl»)) f known (s .from) w)
 
 -- every next frame out keeps a drive well formed, refused or given
 pub next-frame-kept : (d : Drive) (a x start : ℕ) (W : List ℕ) (room : ℕ) → fine d ≡ true → fine (nextFrame d a x start W room .drive) ≡ true
 unfolding nextFrame
 next-frame-kept d a x start W room w =
-    either-fine (shortBuffer room) _ _ w (either-fine (not (fine d)) _ _ w (next-kept (d .unit) (d .port) a x start W room w))
+    on-cond Kept (shortBuffer room) w (on-cond Kept (not (fine d)) w (next-kept (d .unit) (d .port) a x start W w))
 
 -- and every event
 pub event-fine : (d : Drive) (e : Event) → fine d ≡ true → fine (eventAnswer d e .drive) ≡ true

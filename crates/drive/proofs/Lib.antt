@@ -2,3 +2,4 @@ pub mod Ways
 pub mod Turns
 pub mod Made
 pub mod Keeping
+pub mod Others

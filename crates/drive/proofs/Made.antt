@@ -1,52 +1,47 @@
 -- A made drive is well formed, every event keeps a drive well formed, and a refusal leaves it as it was. Assumes nothing.
 use mathlib.Core.Path.{_≡_, refl, sym, ap, _∙_}
-use mathlib.Core.Bool.{Bool, true, false, cond}
+use mathlib.Core.Bool.{Bool, true, false}
 use Prim.Native.Nat.{ℕ}
 use native.Mathlib.Omega.{arith}
-use Rattle.tables.proofs.Bools.{apart}
 use Rattle.state.specs.declared.Setup.{Setup}
-use Rattle.state.specs.declared.Change.the-variants.{EndAll, Unprove, EndUnproven}
-use Rattle.formed.specs.Formed.{setupRules, wellFormed}
-use Rattle.formed.proofs.Parts.{Formed, formed-parts, formed-whole}
+use Rattle.state.specs.Changes.{ownOf}
+use Rattle.formed.specs.Formed.{setupRules, setupOf, wellFormed}
+use Rattle.formed.proofs.Parts.{formed-whole}
 use Rattle.formed.proofs.Keeping.{empty-fine, empties-apart, change-kept}
 use Rattle.drive.specs.declared.Drive.{Drive}
 use Rattle.drive.specs.declared.Event.{Event}
-use Rattle.drive.specs.declared.Event.the-variants.{LoopReset, TimeOver, PowerOn}
-use Rattle.arrival.specs.declared.Refusal.{Refusal}
-use Rattle.arrival.specs.declared.Refusal.the-variants.{IllFormed, BadSetup}
-use Rattle.drive.specs.declared.Said.{Said}
-use Rattle.drive.specs.declared.Said.the-variants.{Sent, Refused}
+use Rattle.refusal.specs.declared.Refusal.{Refusal}
+use Rattle.refusal.specs.declared.Refusal.the-variants.{IllFormed, BadSetup}
+use Rattle.refusal.specs.declared.Said.the-variants.{Sent, Refused}
 use Rattle.drive.specs.declared.Answer.{Answer}
-use Rattle.drive.specs.Drive.{madeFrom, noDrive, silent, refused, newAnswer, afterEvent, eventAnswer}
+use Rattle.drive.specs.Drive.{madeFrom, noDrive, silent, refused, newAnswer, changeOf, afterEvent, eventAnswer}
 
 abbrev fine : Drive → Bool
 fine d = wellFormed (d .unit) (d .port)
 
 -- a drive made from a setup that keeps its rules is well formed
-pub made-formed : (s : Setup) → setupRules (s .capacity) (s .address) (s .accept) ≡ true → wellFormed (madeFrom s .unit) (madeFrom s .port) ≡ true
-unfolding madeFrom
-made-formed s e = formed-whole record { setup = e; logins = rw (empty-fine (s .capacity) (s .address)); addresses = empties-apart }
+pub made-formed : (s : Setup) → setupRules s ≡ true → wellFormed (madeFrom s .unit) (madeFrom s .port) ≡ true
+unfolding madeFrom setupOf ownOf
+made-formed s e = formed-whole record { setup = e; logins = rw (empty-fine (madeFrom s .unit) (s .address)); addresses = empties-apart }
 
 -- making a drive is refused, with 8, exactly when a setup rule fails
-pub new-refused : (s : Setup) → setupRules (s .capacity) (s .address) (s .accept) ≡ false → newAnswer s ≡ refused BadSetup noDrive
+pub new-refused : (s : Setup) → setupRules s ≡ false → newAnswer s ≡ refused BadSetup noDrive
 unfolding newAnswer
 new-refused s e = rw e
 
-pub new-made : (s : Setup) → setupRules (s .capacity) (s .address) (s .accept) ≡ true → newAnswer s ≡ silent (madeFrom s)
+pub new-made : (s : Setup) → setupRules s ≡ true → newAnswer s ≡ silent (madeFrom s)
 unfolding newAnswer
 new-made s e = rw e
 
 -- what stands beside a refused setup is not well formed, so every call with it is refused
 pub no-drive : wellFormed (noDrive .unit) (noDrive .port) ≡ false
-unfolding noDrive wellFormed setupRules
+unfolding noDrive madeFrom wellFormed setupRules setupOf ownOf
 no-drive = refl
 
 -- every event keeps a drive well formed
 pub event-kept : (e : Event) (d : Drive) → wellFormed (d .unit) (d .port) ≡ true → wellFormed (afterEvent e d .unit) (afterEvent e d .port) ≡ true
 unfolding afterEvent
-event-kept LoopReset d w = change-kept (d .unit) (d .port) w Unprove
-event-kept TimeOver d w = change-kept (d .unit) (d .port) w EndUnproven
-event-kept PowerOn d w = change-kept (d .unit) (d .port) w EndAll
+event-kept e d w = change-kept (d .unit) (d .port) w (changeOf e)
 
 -- an event is refused, with 2, exactly when the state is not well formed, and leaves it unchanged
 pub event-refused : (d : Drive) (e : Event) → wellFormed (d .unit) (d .port) ≡ false → eventAnswer d e ≡ refused IllFormed d

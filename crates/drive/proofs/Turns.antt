@@ -1,222 +1,252 @@
--- Each entry is the answer to its turn, and a turn names a place of the table. Assumes nothing.
-use Prim.Native.Nat.{ℕ, _<_}
+-- Each entry is the answer to its turn, a turn names a place of the table or none, and a drive that is not well formed draws a turn that changes nothing. Assumes nothing.
+use Prim.Native.Nat.{ℕ}
 use mathlib.Core.Path.{_≡_, refl, sym, ap, _∙_}
-use mathlib.Core.Bool.{Bool, true, false, cond, not, _&&_}
-use mathlib.Core.List.{List}
+use mathlib.Core.Bool.{Bool, true, false, cond, not}
+use mathlib.Core.List.{List, [], _∷_}
+use native.Mathlib.Omega.{arith}
 use lib.Dec.{eqb}
 use lib.ListN.{length}
 use Rattle.tables.specs.declared.Found.{Found}
 use Rattle.tables.specs.declared.Found.the-variants.{At, Nothing}
-use Rattle.tables.specs.Lists.{onFound, all, pairs}
+use Rattle.tables.specs.Lists.{onFound, all}
+use Rattle.tables.specs.Firsts.{firstOf}
+use Rattle.tables.proofs.Firsts.{first-over}
+use Rattle.wire.specs.Bytes.{onto}
 use Rattle.frame.specs.declared.Header.{Header}
 use Rattle.frame.specs.Head.{headerOf}
-use Rattle.wire.specs.Bytes.{onto}
+use Rattle.refusal.specs.declared.Refusal.{Refusal}
+use Rattle.refusal.specs.declared.Refusal.the-variants.{IllFormed, BadSize, NotOurs, BadSource, UnknownForm, Unproven}
+use Rattle.refusal.specs.declared.Said.the-variants.{Sent}
+use Rattle.refusal.specs.Refusal.{numberOf, frameOrder}
+use Rattle.refusal.proofs.Numbers.{numbers}
+use Rattle.state.specs.declared.Login.{Login}
+use Rattle.state.specs.declared.Own.{Own}
 use Rattle.state.specs.declared.Port.{Port}
+use Rattle.state.specs.declared.Unit.{Unit}
 use Rattle.state.specs.declared.Change.the-variants.{Keep}
-use Rattle.state.specs.Changes.{loginAt, withLogin, changedOf, changedAll}
+use Rattle.state.specs.Changes.{emptyLogin, ownOf, loginAt}
 use Rattle.state.specs.Tables.{findLogin}
-use Rattle.formed.specs.Formed.{setupRules, loginFine, apartAddress, wellFormed}
-use Rattle.formed.proofs.Keys.{logins-are}
-use Rattle.formed.proofs.Parts.{Formed, formed-parts}
-use Rattle.seat.specs.Seat.{seatOf, seatPlace}
-use Rattle.seat.proofs.Seats.{seat-below}
+use Rattle.formed.specs.Formed.{loginFine, wellFormed}
+use Rattle.formed.proofs.Parts.{formed-parts}
 use Rattle.reply.specs.declared.Reply.the-variants as reply
-use Rattle.link.specs.declared.Decided.{Decided}
-use Rattle.link.specs.Turn.{decidedBy}
-use Rattle.link.proofs.Turns.{keep-is, stays-put, changed-put, held-is, seat-found, link-turn, link-within, abts-turn, abts-within}
+use Rattle.reply.specs.Reply.{bytesOf, sentOf, writtenOf}
+use Rattle.calls.specs.declared.View.{View}
+use Rattle.calls.specs.declared.Turn.{Turn}
+use Rattle.calls.specs.View.{viewOf}
+use Rattle.calls.specs.Turn.{Decided, refusedTurn, decidedBy, AtBelow}
+use Rattle.calls.proofs.Views.{view-own, view-fine, view-seat, view-login}
+use Rattle.calls.proofs.Decisions.{on-cond, answers-is, refused-stays}
+use Rattle.link.proofs.Turns.{link-turn, link-within, abts-turn, abts-within}
 use Rattle.command.proofs.Turns.{command-turn, command-within}
-use Rattle.serve.specs.Next.{ownOf, movedSeat, bufferSeat, nextOf, nextBuffer}
-use Rattle.serve.proofs.Ways.{next-seat, buffer-seat, seat-within}
-use Rattle.arrival.specs.declared.Refusal.{Refusal}
-use Rattle.arrival.specs.declared.Refusal.the-variants.{ShortBuffer, IllFormed}
+use Rattle.serve.specs.Next.{nextOf, nextBuffer}
+use Rattle.serve.specs.Turn.{nextTurn, nextTurnBuffer}
+use Rattle.serve.proofs.Turns.{next-turn, next-buffer, next-within, next-keeps}
 use Rattle.arrival.specs.declared.Kind.{Kind}
 use Rattle.arrival.specs.declared.Kind.the-variants.{Link, Done, Abort, Command}
 use Rattle.arrival.specs.declared.Judged.{Judged}
 use Rattle.arrival.specs.declared.Judged.the-variants as judged
-use Rattle.arrival.specs.Arrival.{shortBuffer, unprovenLogin, judgedBy, judgedOf}
-use Rattle.arrival.proofs.Passes.{passed}
+use Rattle.arrival.specs.Arrival.{shortBuffer, unprovenLogin, kindOf, appliesTo, judgedBy, appliesIn}
+use Rattle.arrival.proofs.Passes.{roomy-first}
 use Rattle.drive.specs.declared.Drive.{Drive}
 use Rattle.drive.specs.declared.Answer.{Answer}
-use Rattle.drive.specs.declared.Said.the-variants.{Sent}
 use Rattle.drive.specs.declared.Event.{Event}
-use Rattle.drive.specs.declared.Event.the-variants.{LoopReset, TimeOver, PowerOn}
-use Rattle.drive.specs.declared.Turn.{Turn}
-use Rattle.drive.specs.declared.View.{View}
-use Rattle.drive.specs.Drive.{refused, silent, portAfter, afterEvent, eventAnswer}
-use Rattle.drive.specs.Entry.{decidedIn, replyBytes, answered, onJudged, frameIn, frameInBuffer, saidOf, served, nextFrame, nextFrameBuffer}
-use Rattle.drive.specs.Turn.{keysOf, viewOf, viewFine, unprovenIn, stays, placedOf, placedBytes, sentTurn, judgedIn, frameTurn, frameTurnBuffer, moved, nextTurn, nextTurnBuffer, changeOf, eventTurn, answerTo}
+use Rattle.drive.specs.Drive.{refused, silent, changeOf, afterEvent, eventAnswer}
+use Rattle.drive.specs.Entry.{decidedOf, decidedIn, replyBytes, answered, frameIn, frameInBuffer, nextAnswer, nextFrame, nextFrameBuffer}
+use Rattle.drive.specs.Turn.{unprovenIn, judgedIn, onJudged, refusalOf, decisionAs, decisionOf, passedTurn, passedBuffer, nextOutTurn, nextOutBuffer, eventTurn, answerTo}
 
--- the drive with another port
-abbrev with-port : Drive → Port → Drive
-with-port d p = record { unit = d .unit; port = p }
-
--- what is seen is well formed exactly when the drive is
-pub fine-is : (d : Drive) (a : ℕ) → viewFine (viewOf d a) ≡ wellFormed (d .unit) (d .port)
-unfolding viewFine viewOf ownOf wellFormed
-fine-is d a =
-    step (setupRules (d .unit .capacity) (d .port .address) (d .port .accept)) (all (loginFine (d .unit .capacity) (d .port .address)) (d .port .logins)) (pairs apartAddress (d .port .logins))
-    (logins-are (d .unit .capacity) (d .port .address) (d .port .logins) refl refl)
-  where
-    step : (s b c : Bool) {k : Bool} → k ≡ (b && c) → (s && k) ≡ (s && b && c)
-    step true b c e = e
-    step false b c e = refl
-
--- a refusal leaves the drive
-stays-is : (d : Drive) (a : ℕ) (x : Refusal) → answerTo d (stays x (viewOf d a) a) ≡ refused x d
-unfolding viewOf
-stays-is d a x = ap (λ (p : Port). refused x (with-port d p)) (ap (λ (p : Port). withLogin p (seatPlace (keysOf d) a) (loginAt (d .port) (seatPlace (keysOf d) a))) (keep-is (d .port)) ∙ stays-put (d .port) (seatPlace (keysOf d) a))
+-- a judgement is a refusal or a pass, not both
+not-both : (x : Refusal) (k : Kind) → judged.Refused x ≡ judged.Passed k → ⊥
+not-both x k e = let z : _≡_ {A = ℕ} 0 1 = cc in omega arith
 
 module _ (d : Drive) where
-  module _ (w : wellFormed (d .unit) (d .port) ≡ true) where
-    fine : all (loginFine (d .unit .capacity) (d .port .address)) (d .port .logins) ≡ true
+  abbrev u : Unit
+  u = d .unit
+
+  abbrev p : Port
+  p = d .port
+
+  -- a refusal leaves the drive
+  pub stays-is : (x : Refusal) → answerTo d (refusedTurn x) ≡ refused x d
+  stays-is x = ap (λ (q : Port). refused x (record { unit = d .unit; port = q })) (refused-stays p x)
+
+  module _ (w : wellFormed u p ≡ true) where
+    fine : all (loginFine u (p .address)) (p .logins) ≡ true
     fine = formed-parts w .logins
 
-    -- the place of an address in the keys is that of its login
-    seated : (a : ℕ) → seatOf (keysOf d) a ≡ findLogin (d .port) a
-    seated a = seat-found (d .unit .capacity) (d .port .address) (d .port) fine a
-
-    unproven-is : (a : ℕ) → unprovenIn (viewOf d a) a ≡ unprovenLogin (d .port) a
-    unfolding unprovenIn unprovenLogin viewOf seatPlace
-    unproven-is a = rw (seated a) (by (findLogin (d .port) a))
+    unproven-is : (a : ℕ) → unprovenIn (viewOf u p a) ≡ unprovenLogin p a
+    unfolding unprovenIn unprovenLogin
+    unproven-is a = rw (view-seat u p a fine) (by (findLogin p a) refl)
       where
-        by : (x : Found) → onFound x (λ _. not (eqb (loginAt (d .port) (onFound x (λ i. i) 0) .proven) 1)) false ≡ onFound x (λ i. not (eqb (loginAt (d .port) i .proven) 1)) false
-        by (At i) = refl
-        by Nothing = refl
+        by : (s : Found) → findLogin p a ≡ s → onFound s (λ _. not (eqb (viewOf u p a .login .proven) 1)) false ≡ onFound s (λ i. not (eqb (loginAt p i .proven) 1)) false
+        by (At i) e = ap (λ (l : Login). not (eqb (l .proven) 1)) (view-login u p a fine i e)
+        by Nothing e = refl
 
-    -- what a frame that passed is answered, and the port after it
-    placed-decided : (f : List ℕ) (k : Kind) → decidedBy (d .port) (placedOf (viewOf d (headerOf f .«s_id»)) (headerOf f) k f) ≡ decidedIn d f k
-    unfolding viewOf
-    placed-decided f Link = link-turn (d .unit .capacity) (d .port .address) (d .port) fine (headerOf f) f
-    placed-decided f Done = held-is (d .port) reply.Nothing (seatPlace (keysOf d) (headerOf f .«s_id»))
-    placed-decided f Abort = abts-turn (d .unit .capacity) (d .port .address) (d .port) fine (headerOf f .«s_id») (headerOf f .«ox_id») (headerOf f .«rx_id»)
-    placed-decided f Command = command-turn (d .unit .capacity) (d .port .address) (d .port) fine (headerOf f) f
+  -- a frame in
+  module _ (f : List ℕ) where
+    abbrev h : Header
+    h = headerOf f
 
-  -- a frame is judged by what its sender sees as it is by the drive
-  pub judged-is : (f : List ℕ) (room : ℕ) → judgedIn (viewOf d (headerOf f .«s_id»)) f room ≡ judgedOf (d .unit) (d .port) (headerOf f) f room
-  unfolding judgedIn judgedOf judgedBy viewOf ownOf
-  judged-is f room = rw (fine-is d (headerOf f .«s_id»)) (by (wellFormed (d .unit) (d .port)) refl)
-    where
-      by : (b : Bool) → wellFormed (d .unit) (d .port) ≡ b
-          → judgedBy b (unprovenIn (viewOf d (headerOf f .«s_id»)) (headerOf f .«s_id»)) (viewOf d (headerOf f .«s_id») .own .address) (headerOf f) f room ≡ judgedBy b (unprovenLogin (d .port) (headerOf f .«s_id»)) (d .port .address) (headerOf f) f room
-      by false w = refl
-      by true w = ap (λ (u : Bool). judgedBy true u (d .port .address) (headerOf f) f room) (unproven-is w (headerOf f .«s_id»))
+    abbrev v : View
+    v = viewOf u p (headerOf f .«s_id»)
 
-  -- a frame in is the answer to its turn
-  pub frame-turn : (f : List ℕ) (room : ℕ) → answerTo d (frameTurn (viewOf d (headerOf f .«s_id»)) f room) ≡ frameIn d f room
-  unfolding frameTurn frameIn replyBytes placedBytes viewOf
-  frame-turn f room = rw (judged-is f room) (by (judgedOf (d .unit) (d .port) (headerOf f) f room) refl)
-    where
-      by : (j : Judged) → judgedOf (d .unit) (d .port) (headerOf f) f room ≡ j
-          → answerTo d (onJudged j (λ x. stays x (viewOf d (headerOf f .«s_id»)) (headerOf f .«s_id»)) (λ k. sentTurn (viewOf d (headerOf f .«s_id»)) (headerOf f) (placedOf (viewOf d (headerOf f .«s_id»)) (headerOf f) k f)))
-          ≡ onJudged j (λ x. refused x d) (λ k. answered d (headerOf f) (decidedIn d f k))
-      by (judged.Refused x) e = stays-is d (headerOf f .«s_id») x
-      by (judged.Passed k) e = ap (answered d (headerOf f)) (placed-decided (passed (d .unit) (d .port) (headerOf f) f room k e .fine) f k)
+    -- it is judged by what its sender sees as it is by the drive
+    judged-is : judgedIn v h f ≡ judgedBy (wellFormed u p) (unprovenLogin p (h .«s_id»)) (p .address) h f
+    unfolding judgedIn judgedBy ownOf
+    judged-is = (λ i. judgedBy (view-fine u p (h .«s_id») i) (unprovenIn v) (view-own u p (h .«s_id») i .address) h f) ∙ by (wellFormed u p) refl
+      where
+        by : (b : Bool) → wellFormed u p ≡ b → judgedBy b (unprovenIn v) (p .address) h f ≡ judgedBy b (unprovenLogin p (h .«s_id»)) (p .address) h f
+        by false w = refl
+        by true w = ap (λ (x : Bool). judgedBy true x (p .address) h f) (unproven-is w (h .«s_id»))
 
-  -- and the lent buffer is what the turn leaves there
-  pub frame-turn-buffer : (f l : List ℕ) → frameTurnBuffer (viewOf d (headerOf f .«s_id»)) f l ≡ frameInBuffer d f l
-  unfolding frameTurnBuffer frameInBuffer replyBytes placedBytes viewOf
-  frame-turn-buffer f l = rw (judged-is f (length l)) (by (judgedOf (d .unit) (d .port) (headerOf f) f (length l)) refl)
-    where
-      by : (j : Judged) → judgedOf (d .unit) (d .port) (headerOf f) f (length l) ≡ j
-          → onJudged j (λ x. l) (λ k. onto (placedBytes (viewOf d (headerOf f .«s_id»)) (headerOf f) (placedOf (viewOf d (headerOf f .«s_id»)) (headerOf f) k f)) l) ≡ onJudged j (λ x. l) (λ k. onto (replyBytes d (headerOf f) (decidedIn d f k)) l)
-      by (judged.Refused x) e = refl
-      by (judged.Passed k) e = ap (λ (r : Decided). onto (replyBytes d (headerOf f) r) l) (placed-decided (passed (d .unit) (d .port) (headerOf f) f (length l) k e .fine) f k)
+    -- so, where there is room, the first number that applies is the one by which it is judged
+    judged-first : {B : Type 0} (g : Refusal → B) (b : B) (room : ℕ) → shortBuffer room ≡ false → firstOf (appliesIn u p h f room) frameOrder g b ≡ onJudged (judgedIn v h f) g (λ _. b)
+    unfolding judgedBy
+    judged-first {B} g b room e =
+        let on : Judged → B = λ j. onJudged j g (λ _. b) in
+        roomy-first u p h f room g b e
+        ∙ sym (first-over on (appliesTo (wellFormed u p) (unprovenLogin p (h .«s_id»)) (p .address) h f) (IllFormed ∷ BadSize ∷ NotOurs ∷ BadSource ∷ UnknownForm ∷ Unproven ∷ []) judged.Refused (judged.Passed (kindOf (h .«r_ctl»))))
+        ∙ sym (ap on judged-is)
 
-  -- a next frame out is the answer to its turn
-  pub next-turn : (a x start room : ℕ) (W : List ℕ) → answerTo d (nextTurn (viewOf d a) a x start W room) ≡ nextFrame d a x start W room
-  unfolding nextTurn nextFrame viewOf
-  next-turn a x start room W = rw (fine-is d a) (by (shortBuffer room) (wellFormed (d .unit) (d .port)) refl)
-    where
-      by : (s b : Bool) → wellFormed (d .unit) (d .port) ≡ b
-          → answerTo d (cond s (stays ShortBuffer (viewOf d a) a) (cond (not b) (stays IllFormed (viewOf d a) a) (moved (movedSeat (viewOf d a .unit) (viewOf d a .own) (viewOf d a .keys) (viewOf d a .login) a x start W room))))
-          ≡ cond s (refused ShortBuffer d) (cond (not b) (refused IllFormed d) (served d (nextOf (d .unit) (d .port) a x start W room)))
-      by true b w = stays-is d a ShortBuffer
-      by false false w = stays-is d a IllFormed
-      by false true w = go
-        where
-          go : answerTo d (moved (movedSeat (viewOf d a .unit) (viewOf d a .own) (viewOf d a .keys) (viewOf d a .login) a x start W room)) ≡ served d (nextOf (d .unit) (d .port) a x start W room)
-          go =
-              let m = movedSeat (d .unit) (ownOf (d .port)) (keysOf d) (loginAt (d .port) (seatPlace (keysOf d) a)) a x start W room in
-              ap (λ (p : Port). record { said = saidOf (m .given); drive = with-port d (withLogin p (m .at) (m .login)) }) (keep-is (d .port))
-              ∙ ap (served d) (next-seat (d .unit) (d .port) (keysOf d) a x start W (seated w a) room)
+    pub frame-judged : (room : ℕ) → shortBuffer room ≡ false → frameIn d f room ≡ onJudged (judgedIn v h f) (λ x. refused x d) (λ _. answered d h (decidedIn d f))
+    unfolding frameIn
+    frame-judged room e = judged-first (λ x. refused x d) (answered d h (decidedIn d f)) room e
 
-  pub next-turn-buffer : (a x start : ℕ) (W l : List ℕ) → nextTurnBuffer (viewOf d a) a x start W l ≡ nextFrameBuffer d a x start W l
-  unfolding nextTurnBuffer nextFrameBuffer viewOf
-  next-turn-buffer a x start W l = rw (fine-is d a) (by (shortBuffer (length l)) (wellFormed (d .unit) (d .port)) refl)
-    where
-      by : (s b : Bool) → wellFormed (d .unit) (d .port) ≡ b
-          → cond s l (cond (not b) l (bufferSeat (viewOf d a .unit) (viewOf d a .own) (viewOf d a .keys) (viewOf d a .login) a x start W l)) ≡ cond s l (cond (not b) l (nextBuffer (d .unit) (d .port) a x start W l))
-      by true b w = refl
-      by false false w = refl
-      by false true w = buffer-seat (d .unit) (d .port) (keysOf d) a x start W (seated w a) l
+    pub buffer-judged : (l : List ℕ) → shortBuffer (length l) ≡ false → frameInBuffer d f l ≡ onJudged (judgedIn v h f) (λ _. l) (λ _. onto (replyBytes d h (decidedIn d f)) l)
+    unfolding frameInBuffer
+    buffer-judged l e = judged-first (λ _. l) (onto (replyBytes d h (decidedIn d f)) l) (length l) e
+
+    -- one that passes is of a drive that is well formed
+    passed-fine : (k : Kind) → judgedIn v h f ≡ judged.Passed k → wellFormed u p ≡ true
+    unfolding judgedBy
+    passed-fine k e = by (wellFormed u p) refl
+      where
+        by : (b : Bool) → wellFormed u p ≡ b → b ≡ true
+        by true w = refl
+        by false w = absurd (not-both IllFormed k (sym (judged-is ∙ ap (λ (b : Bool). judgedBy b (unprovenLogin p (h .«s_id»)) (p .address) h f) w) ∙ e))
+
+    -- what is decided on what its sender sees is what the definitions of record say of the whole port
+    pub decided-is : wellFormed u p ≡ true → decidedBy p (decisionOf v h f) ≡ decidedIn d f
+    unfolding decisionOf
+    decided-is w = by (kindOf (h .«r_ctl»))
+      where
+        by : (k : Kind) → decidedBy p (decisionAs v h k f) ≡ decidedOf u p h k f
+        by Link = link-turn u p (fine w) h f
+        by Done = answers-is p reply.Nothing
+        by Abort = abts-turn u p (fine w) h
+        by Command = command-turn u p (fine w) h f
+
+    -- what a frame that passed comes to is what it is answered
+    pub passed-answer : wellFormed u p ≡ true → (room : ℕ) → shortBuffer room ≡ false → answerTo d (passedTurn v h f room) ≡ answered d h (decidedIn d f)
+    unfolding passedTurn sentOf replyBytes
+    passed-answer w room e = rw e (λ i. written (view-own u p (h .«s_id») i) (decided-is w i))
+      where
+        written : Own → Decided → Answer
+        written o r = record { said = Sent (length (bytesOf o h (r .reply) [])); drive = record { unit = u; port = r .port } }
+
+    pub passed-buffer : wellFormed u p ≡ true → (l : List ℕ) → shortBuffer (length l) ≡ false → passedBuffer v h f l ≡ onto (replyBytes d h (decidedIn d f)) l
+    unfolding passedBuffer writtenOf replyBytes
+    passed-buffer w l e = rw e (λ i. onto (bytesOf (view-own u p (h .«s_id») i) h (decided-is w i .reply) []) l)
+
+    -- judged to pass: a frame in is the answer to its turn, and the buffer is what that leaves
+    module _ (k : Kind) (e : judgedIn v h f ≡ judged.Passed k) where
+      pub judged-turn : (room : ℕ) → shortBuffer room ≡ false → answerTo d (passedTurn v h f room) ≡ frameIn d f room
+      judged-turn room s = passed-answer (passed-fine k e) room s ∙ sym (frame-judged room s ∙ rw e)
+
+      pub judged-turn-buffer : (l : List ℕ) → shortBuffer (length l) ≡ false → passedBuffer v h f l ≡ frameInBuffer d f l
+      judged-turn-buffer l s = passed-buffer (passed-fine k e) l s ∙ sym (buffer-judged l s ∙ rw e)
+
+    -- the number is 0 where it passes, else that of the refusal
+    number-cases : (P : ℕ → Type 0) → ((k : Kind) → judgedIn v h f ≡ judged.Passed k → P 0) → ((x : Refusal) → judgedIn v h f ≡ judged.Refused x → P (numberOf x)) → P (refusalOf v h f)
+    unfolding refusalOf
+    number-cases P passes refuses = by (judgedIn v h f) refl
+      where
+        by : (j : Judged) → judgedIn v h f ≡ j → P (onJudged j numberOf (λ _. 0))
+        by (judged.Refused x) e = refuses x e
+        by (judged.Passed k) e = passes k e
+
+    -- number 0: a frame in is the answer to what it comes to once it passed, and so is the buffer
+    module _ (zero : refusalOf v h f ≡ 0) where
+      pub passed-formed : wellFormed u p ≡ true
+      passed-formed = number-cases (λ n. n ≡ 0 → wellFormed u p ≡ true) (λ k e _. passed-fine k e) (λ x _ z. let some = numbers x .0 in absurd (omega (arith, some, z))) zero
+
+      pub frame-turn : (room : ℕ) → shortBuffer room ≡ false → answerTo d (passedTurn v h f room) ≡ frameIn d f room
+      frame-turn room s =
+          number-cases (λ n. n ≡ 0 → answerTo d (passedTurn v h f room) ≡ frameIn d f room) (λ k e _. judged-turn k e room s) (λ x _ z. let some = numbers x .0 in absurd (omega (arith, some, z))) zero
+
+      pub frame-turn-buffer : (l : List ℕ) → shortBuffer (length l) ≡ false → passedBuffer v h f l ≡ frameInBuffer d f l
+      frame-turn-buffer l s =
+          number-cases (λ n. n ≡ 0 → passedBuffer v h f l ≡ frameInBuffer d f l) (λ k e _. judged-turn-buffer k e l s) (λ x _ z. let some = numbers x .0 in absurd (omega (arith, some, z))) zero
+
+    -- another number: a frame in is refused with it, the drive and the buffer unchanged
+    pub record RefusedBy (n : ℕ) : Type 0 where
+      pub refusal : Refusal
+      pub number : numberOf refusal ≡ n
+      pub answer : (room : ℕ) → shortBuffer room ≡ false → frameIn d f room ≡ refused refusal d
+      pub buffer : (l : List ℕ) → shortBuffer (length l) ≡ false → frameInBuffer d f l ≡ l
+
+    pub frame-refused : (refusalOf v h f ≡ 0 → ⊥) → RefusedBy (refusalOf v h f)
+    frame-refused =
+        number-cases (λ n. (n ≡ 0 → ⊥) → RefusedBy n) (λ k e z. absurd (z refl))
+        (λ x e _. record { refusal = x; number = refl; answer = λ room s. frame-judged room s ∙ rw e; buffer = λ l s. buffer-judged l s ∙ rw e })
+
+  -- a next frame out is the answer to its turn, and the buffer is what that leaves
+  module _ (a x start : ℕ) (W : List ℕ) where
+    pub next-out-turn : (room : ℕ) → shortBuffer room ≡ false → answerTo d (nextOutTurn (viewOf u p a) a x start W room) ≡ nextFrame d a x start W room
+    unfolding nextOutTurn nextFrame
+    next-out-turn room s = rw s (ap (λ (b : Bool). answerTo d (cond b (nextTurn (viewOf u p a) a x start W room) (refusedTurn IllFormed))) (view-fine u p a) ∙ by (wellFormed u p) refl)
+      where
+        by : (b : Bool) → wellFormed u p ≡ b → answerTo d (cond b (nextTurn (viewOf u p a) a x start W room) (refusedTurn IllFormed)) ≡ cond (not b) (refused IllFormed d) (nextAnswer d (nextOf u p a x start W))
+        by true w = ap (nextAnswer d) (next-turn u p a x start W (fine w) room s)
+        by false w = stays-is IllFormed
+
+    pub next-out-buffer : (l : List ℕ) → shortBuffer (length l) ≡ false → nextOutBuffer (viewOf u p a) a x start W l ≡ nextFrameBuffer d a x start W l
+    unfolding nextOutBuffer nextFrameBuffer
+    next-out-buffer l s = rw s (ap (λ (b : Bool). cond b (nextTurnBuffer (viewOf u p a) a x start W l) l) (view-fine u p a) ∙ by (wellFormed u p) refl)
+      where
+        by : (b : Bool) → wellFormed u p ≡ b → cond b (nextTurnBuffer (viewOf u p a) a x start W l) l ≡ cond (not b) l (nextBuffer u p a x start W l)
+        by true w = next-buffer u p a x start W (fine w) l s
+        by false w = refl
 
   -- an event is the answer to its turn
-  pub event-turn : (e : Event) → answerTo d (eventTurn (viewOf d 0) e) ≡ eventAnswer d e
-  unfolding eventTurn eventAnswer viewOf afterEvent
-  event-turn e = rw (fine-is d 0) (by (wellFormed (d .unit) (d .port)))
+  pub event-turn : (e : Event) → answerTo d (eventTurn (viewOf u p 0) e) ≡ eventAnswer d e
+  unfolding eventTurn eventAnswer afterEvent
+  event-turn e = rw (view-fine u p 0) (by (wellFormed u p))
     where
-      after : (e : Event) → changedAll (changeOf e) (d .port) ≡ portAfter e (d .port)
-      after LoopReset = refl
-      after TimeOver = refl
-      after PowerOn = refl
-
-      by : (b : Bool) → answerTo d (cond b (record { said = Sent 0; change = changeOf e; at = seatPlace (viewOf d 0 .keys) 0; login = changedOf (changeOf e) (viewOf d 0 .login) }) (stays IllFormed (viewOf d 0) 0)) ≡ cond b (silent (afterEvent e d)) (refused IllFormed d)
-      by true = ap (λ (p : Port). silent (with-port d p)) (changed-put (d .port) (changeOf e) (seatPlace (keysOf d) 0) ∙ after e)
-      by false = stays-is d 0 IllFormed
-
--- a turn names a place of the table
-module _ (v : View) (keys : length (v .keys) ≡ 8) where
-  placed-within : (h : Header) (k : Kind) (f : List ℕ) → placedOf v h k f .at < 8
-  placed-within h Link f = link-within (v .keys) (v .login) keys h f
-  placed-within h Done f = seat-below (v .keys) (h .«s_id») keys
-  placed-within h Abort f = abts-within (v .keys) (v .login) keys (h .«s_id») (h .«ox_id») (h .«rx_id»)
-  placed-within h Command f = command-within (v .unit .capacity) (v .keys) (v .login) keys h f
-
-  pub frame-within : (f : List ℕ) (room : ℕ) → frameTurn v f room .at < 8
-  unfolding frameTurn
-  frame-within f room = by (judgedIn v f room)
-    where
-      by : (j : Judged) → onJudged j (λ x. stays x v (headerOf f .«s_id»)) (λ k. sentTurn v (headerOf f) (placedOf v (headerOf f) k f)) .at < 8
-      by (judged.Refused x) = seat-below (v .keys) (headerOf f .«s_id») keys
-      by (judged.Passed k) = placed-within (headerOf f) k f
-
-  pub next-within : (a x start : ℕ) (W : List ℕ) (room : ℕ) → nextTurn v a x start W room .at < 8
-  unfolding nextTurn
-  next-within a x start W room = by (shortBuffer room) (viewFine v)
-    where
-      by : (s b : Bool) → cond s (stays ShortBuffer v a) (cond (not b) (stays IllFormed v a) (moved (movedSeat (v .unit) (v .own) (v .keys) (v .login) a x start W room))) .at < 8
-      by true b = seat-below (v .keys) a keys
-      by false false = seat-below (v .keys) a keys
-      by false true = seat-within (v .unit) (v .own) (v .keys) (v .login) a x start W room (seat-below (v .keys) a keys)
-
-  pub event-within : (e : Event) → eventTurn v e .at < 8
-  unfolding eventTurn
-  event-within e = by (viewFine v)
-    where
-      by : (b : Bool) → cond b (record { said = Sent 0; change = changeOf e; at = seatPlace (v .keys) 0; login = changedOf (changeOf e) (v .login) }) (stays IllFormed v 0) .at < 8
-      by true = seat-below (v .keys) 0 keys
-      by false = seat-below (v .keys) 0 keys
-
--- a drive that is not well formed keeps every login
-module _ (v : View) (w : viewFine v ≡ false) where
-  pub frame-keeps : (f : List ℕ) (room : ℕ) → frameTurn v f room .change ≡ Keep
-  unfolding frameTurn judgedIn judgedBy
-  frame-keeps f room = rw w (by (shortBuffer room))
-    where
-      by : (s : Bool) → onJudged (cond s (judged.Refused ShortBuffer) (judged.Refused IllFormed)) (λ x. stays x v (headerOf f .«s_id»)) (λ k. sentTurn v (headerOf f) (placedOf v (headerOf f) k f)) .change ≡ Keep
+      by : (b : Bool) → answerTo d (cond b (record { said = Sent 0; change = changeOf e; at = Nothing; login = emptyLogin }) (refusedTurn IllFormed)) ≡ cond b (silent (afterEvent e d)) (refused IllFormed d)
       by true = refl
-      by false = refl
+      by false = stays-is IllFormed
 
-  pub event-keeps : (e : Event) → eventTurn v e .change ≡ Keep
+-- a turn names a place of the table, or none
+module _ (v : View) (seat : AtBelow (v .seat)) where
+  pub passed-within : length (v .keys) ≡ 8 → (h : Header) (f : List ℕ) (room : ℕ) → AtBelow (passedTurn v h f room .at)
+  unfolding passedTurn decisionOf
+  passed-within eight h f room = by (kindOf (h .«r_ctl»))
+    where
+      by : (k : Kind) → AtBelow (decisionAs v h k f .at)
+      by Link = link-within v eight seat h f
+      by Done = tt
+      by Abort = abts-within v eight seat h
+      by Command = command-within v seat h f
+
+  pub next-out-within : (a x start : ℕ) (W : List ℕ) (room : ℕ) → AtBelow (nextOutTurn v a x start W room .at)
+  unfolding nextOutTurn
+  next-out-within a x start W room = on-cond (λ (t : Turn). AtBelow (t .at)) (v .fine) (next-within v a x start W room seat) tt
+
+pub event-within : (v : View) (e : Event) → AtBelow (eventTurn v e .at)
+unfolding eventTurn
+event-within v e = on-cond (λ (t : Turn). AtBelow (t .at)) (v .fine) tt tt
+
+-- a next frame changes no login but the one it stores
+pub next-out-keeps : (v : View) (a x start : ℕ) (W : List ℕ) (room : ℕ) → nextOutTurn v a x start W room .change ≡ Keep
+unfolding nextOutTurn
+next-out-keeps v a x start W room = on-cond (λ (t : Turn). t .change ≡ Keep) (v .fine) (next-keeps v a x start W room) refl
+
+-- a drive that is not well formed draws a refusal, which changes nothing; no frame in passes there (`passed-formed`)
+module _ (v : View) (ill : v .fine ≡ false) where
+  pub next-out-ill : (a x start : ℕ) (W : List ℕ) (room : ℕ) → nextOutTurn v a x start W room ≡ refusedTurn IllFormed
+  unfolding nextOutTurn
+  next-out-ill a x start W room = rw ill
+
+  pub event-ill : (e : Event) → eventTurn v e ≡ refusedTurn IllFormed
   unfolding eventTurn
-  event-keeps e = rw w
-
--- a next frame keeps every login but its own
-pub next-keeps : (v : View) (a x start : ℕ) (W : List ℕ) (room : ℕ) → nextTurn v a x start W room .change ≡ Keep
-unfolding nextTurn
-next-keeps v a x start W room = by (shortBuffer room) (viewFine v)
-  where
-    by : (s b : Bool) → cond s (stays ShortBuffer v a) (cond (not b) (stays IllFormed v a) (moved (movedSeat (v .unit) (v .own) (v .keys) (v .login) a x start W room))) .change ≡ Keep
-    by true b = refl
-    by false false = refl
-    by false true = refl
+  event-ill e = rw ill

@@ -1,3 +1,4 @@
 pub mod Drive
 pub mod Entry
 pub mod Turn
+pub mod Others

@@ -200,7 +200,7 @@ module _ {u : Unit} {own : ℕ} {l : Login} (used : Used u own l) where
       (pairs-set apartId (l .places) j emptyExchange (all-always (apartId emptyExchange) closed-before (l .places)) (all-always (λ f. apartId f emptyExchange) closed-after (l .places)) (used .ids))
 
 -- a login after a change: of the same address, or gone
-data Like (l : Login) : Login → Type 0 where
+pub data Like (l : Login) : Login → Type 0 where
   same : {m : Login} → isUsed m ≡ isUsed l → m .address ≡ l .address → Like l m
   gone : Like l emptyLogin
 
@@ -212,7 +212,7 @@ module _ {l : Login} where
   itself : Like l l
   itself = same refl refl
 
-like : (c : Change) (l : Login) → Like l (changedOf c l)
+pub like : (c : Change) (l : Login) → Like l (changedOf c l)
 unfolding freedOf endedOf unproven verified abortedOf resetOf clearedBy withoutExchanges
 like Keep l = itself
 like EndAll l = like-cond (isUsed l) gone itself

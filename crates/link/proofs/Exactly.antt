@@ -22,8 +22,8 @@ use Rattle.state.specs.Tables.{freeLogin}
 use Rattle.reply.specs.declared.Reply.{Reply}
 use Rattle.reply.specs.declared.Reply.the-variants as reply
 use Rattle.reply.specs.declared.Accepted.the-variants as accepted
-use Rattle.link.specs.declared.Decided.{Decided}
-use Rattle.link.specs.Link.{decidedAs, sizeOf, outcomeOf, newLogin, plogiOf, linkOf}
+use Rattle.calls.specs.Turn.{Decided, decidedAs}
+use Rattle.link.specs.Link.{sizeOf, outcomeOf, newLogin, plogiOf, linkOf}
 use Rattle.link.specs.Login.{ended, leftBy, Accepts, Rejects, wrong-size, test-fails, no-place}
 
 module _ (p : Port) (h : Header) (f : List ℕ) (plogi : getD f 24 0 ≡ 3) where

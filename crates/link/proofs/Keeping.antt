@@ -1,5 +1,5 @@
 -- No link service makes a state ill formed. Assumes nothing.
-use mathlib.Core.Path.{_≡_, refl, ap, _∙_}
+use mathlib.Core.Path.{_≡_, refl, ap}
 use mathlib.Core.Bool.{Bool, true, false, cond, not}
 use mathlib.Core.List.{List}
 use Prim.Native.Nat.{ℕ, _+_}
@@ -26,48 +26,44 @@ use Rattle.state.specs.declared.Change.the-variants.{EndLogin}
 use Rattle.state.specs.declared.Standing.{Standing}
 use Rattle.state.specs.declared.Standing.the-variants.{Open, NoExchange, NoLogin}
 use Rattle.state.specs.Changes.{emptyLogin, isUsed, hasAddress, loginAt, withLogin, withExchange, withoutExchanges, endedOf, endedAt, changedAll}
-use Rattle.state.specs.Tables.{findLogin, freeLogin, findExchange, lookupOf}
+use Rattle.state.specs.Tables.{findLogin, freeLogin, lookupOf, soughtIn}
 use Rattle.state.proofs.Places.{found-used, open-place}
 use Rattle.formed.specs.Formed.{fullFrame, paramsFine, flagsFine, addressFine, loginFine, wellFormed}
-use Rattle.formed.proofs.Parts.{Used, fine-used, used-fine}
-use Rattle.formed.proofs.Keeping.{none-fine, none-apart, proven-used, paired-used, unpaired-used, end-used, change-kept, store-kept, update-kept, end-kept}
-use Rattle.link.specs.declared.Decided.{Decided}
-use Rattle.link.specs.declared.Served.{Served}
+use Rattle.formed.proofs.Parts.{fine-used, used-fine}
+use Rattle.formed.proofs.Keeping.{none-fine, none-apart, proven-used, paired-used, unpaired-used, end-used, change-kept, store-kept, update-kept}
+use Rattle.calls.specs.declared.Served.{Served}
+use Rattle.calls.specs.Turn.{Decided, servedAt}
+use Rattle.calls.proofs.Keeping.{Keeps, gone, stays, stored-kept}
 use Rattle.link.specs.Link.{sizeOf, newLogin, outcomeAfter, outcomeOf, outcomePort, plogiOf, provenBy, namesDiffer, pdiscOf, adiscOf, logoOf, pairFine, pageFine, prliOf, prloOf, rrqOf, serviceOf, linkOf, abortedAt, abtsOf}
 
--- what a service makes of a login: none, or one of the same address that is fine where the old one was
-pub data Keeps (capacity own : ℕ) (l : Login) : Login → Type 0 where
-  gone : Keeps capacity own l emptyLogin
-  stays : {m : Login} → isUsed m ≡ isUsed l → m .address ≡ l .address → (Used capacity own l → Used capacity own m) → Keeps capacity own l m
-
-module _ (capacity own : ℕ) (l : Login) where
+module _ (u : Unit) (own : ℕ) (l : Login) where
   abbrev Mild : Served → Type 0
-  Mild s = Keeps capacity own l (s .login)
+  Mild s = Keeps u own l (s .login)
 
-  itself : Keeps capacity own l l
-  itself = stays refl refl (λ u. u)
+  itself : Keeps u own l l
+  itself = stays refl refl (λ h. h)
 
   mild-cond : (b : Bool) (s t : Served) → Mild s → Mild t → Mild (cond b s t)
   mild-cond true s t p q = p
   mild-cond false s t p q = q
 
   proven-mild : (v : Verdict) → Mild (provenBy v l)
-  proven-mild verdict.Accept = stays refl refl (λ u. proven-used u 1 refl)
+  proven-mild verdict.Accept = stays refl refl (λ h. proven-used h 1 refl)
   proven-mild (verdict.Reject t) = itself
 
   rrq-mild : (f : Found) (s t : Served) → Mild s → Mild t → Mild (onFound f (λ _. s) t)
   rrq-mild (At j) s t p q = p
   rrq-mild Nothing s t p q = q
 
-  service-mild : (code from : ℕ) (f : List ℕ) → Mild (serviceOf code l from f)
+  service-mild : (code : ℕ) (sought : ℕ → Found) (from : ℕ) (f : List ℕ) → Mild (serviceOf code l sought from f)
   unfolding serviceOf pdiscOf adiscOf prliOf prloOf rrqOf withoutExchanges
-  service-mild code from f =
+  service-mild code sought from f =
       mild-cond (eqb code 0x50) _ _ (mild-cond (namesDiffer l (paramsOf f 28 .port) (paramsOf f 28 .node)) _ _ gone (proven-mild (verdictOf (paramsOf f 28))))
       (mild-cond (eqb code 0x52) _ _
-      (mild-cond (namesDiffer l (part 8 f 32) (part 8 f 40)) _ _ gone (mild-cond (eqb (num 3 f 49) from) _ _ (stays refl refl (λ u. proven-used u 1 refl)) gone))
-      (mild-cond (eqb code 0x20) _ _ (mild-cond (pairFine (num 3 f 25) (getD f 28 0) (getD f 30 0) (getD f 43 0)) _ _ (stays refl refl (λ u. paired-used u)) itself)
-      (mild-cond (eqb code 0x21) _ _ (mild-cond (pageFine (num 3 f 25) (getD f 28 0)) _ _ (stays refl refl (λ u. unpaired-used u)) itself)
-      (mild-cond (eqb (num 3 f 29) from) _ _ (rrq-mild (findExchange l (num 2 f 32)) _ _ itself itself) itself))))
+      (mild-cond (namesDiffer l (part 8 f 32) (part 8 f 40)) _ _ gone (mild-cond (eqb (num 3 f 49) from) _ _ (stays refl refl (λ h. proven-used h 1 refl)) gone))
+      (mild-cond (eqb code 0x20) _ _ (mild-cond (pairFine (num 3 f 25) (getD f 28 0) (getD f 30 0) (getD f 43 0)) _ _ (stays refl refl (λ h. paired-used h)) itself)
+      (mild-cond (eqb code 0x21) _ _ (mild-cond (pageFine (num 3 f 25) (getD f 28 0)) _ _ (stays refl refl (λ h. unpaired-used h)) itself)
+      (mild-cond (eqb (num 3 f 29) from) _ _ (rrq-mild (sought (num 2 f 32)) _ _ itself itself) itself))))
 
 -- once the login of an address has ended, no login has it
 absent-step : (a : ℕ) (l : Login) (b : Bool) → hasAddress a l ≡ b → not (hasAddress a (cond b emptyLogin l)) ≡ true
@@ -81,15 +77,15 @@ ended-absent p a =
     all-map (λ _. true) (λ m. not (hasAddress a m)) (endedOf a) (λ l _. absent-step a l (hasAddress a l) refl) (p .logins) (all-always (λ _. true) (λ _. refl) (p .logins))
 
 -- the login that an accepted PLOGI stores is fine
-pub new-fine : (capacity own from : ℕ) (q : Params) → validAddress from ≡ true → eqb from own ≡ false → ((t : Fault) → fails q t ≡ false) → loginFine capacity own (newLogin from q) ≡ true
+pub new-fine : (u : Unit) (own from : ℕ) (q : Params) → validAddress from ≡ true → eqb from own ≡ false → ((t : Fault) → fails q t ≡ false) → loginFine u own (newLogin from q) ≡ true
 unfolding newLogin flagsFine addressFine paramsFine
-new-fine capacity own from q valid other pass =
+new-fine u own from q valid other pass =
     used-fine {l = newLogin from q} refl
     (record {
       flags = refl;
       address = rw (valid, other);
       params = rw (pass PortName, pass NodeName, pass DataSize, pass ConcurrentSequences, pass OpenSequences);
-      exchanges = none-fine capacity (fullFrame (q .size)) 0;
+      exchanges = none-fine u (fullFrame (q .size)) 0;
       ids = none-apart;
     })
 
@@ -97,13 +93,6 @@ new-fine capacity own from q valid other pass =
 pub port-cond : (u : Unit) (b : Bool) (d e : Decided) → wellFormed u (d .port) ≡ true → wellFormed u (e .port) ≡ true → wellFormed u (cond b d e .port) ≡ true
 port-cond u true d e x y = x
 port-cond u false d e x y = y
-
--- what stands where the login of an address stood
-module _ (u : Unit) (p : Port) (w : wellFormed u p ≡ true) (from : ℕ) where
-  pub stored-kept : (i : ℕ) (m : Login) → findLogin p from ≡ At i → Keeps (u .capacity) (p .address) (loginAt p i) m → wellFormed u (withLogin p i m) ≡ true
-  stored-kept i m e gone = end-kept u p w i
-  stored-kept i m e (stays used address fine) =
-      update-kept u p w i m used address (λ f. used-fine {l = m} (used ∙ found-used p from i e) (fine (fine-used (found-used p from i e) f)))
 
 module _ (u : Unit) (p : Port) (w : wellFormed u p ≡ true) (from : ℕ) (valid : validAddress from ≡ true) (other : eqb from (p .address) ≡ false) where
   abbrev Kept : Port → Type 0
@@ -116,7 +105,7 @@ module _ (u : Unit) (p : Port) (w : wellFormed u p ≡ true) (from : ℕ) (valid
   place-kept : (q : Params) (v : Verdict) → verdictOf q ≡ v → (g : Found) → Kept (outcomePort (outcomeAfter v g) (changedAll (EndLogin from) p) (newLogin from q))
   unfolding changedAll newLogin
   place-kept q verdict.Accept e (At i) =
-      store-kept u (changedAll (EndLogin from) p) out-kept i (newLogin from q) (new-fine (u .capacity) (p .address) from q valid other (accepted q e)) (ended-absent p from)
+      store-kept u (changedAll (EndLogin from) p) out-kept i (newLogin from q) (new-fine u (p .address) from q valid other (accepted q e)) (ended-absent p from)
   place-kept q verdict.Accept e Nothing = out-kept
   place-kept q (verdict.Reject t) e g = out-kept
 
@@ -130,8 +119,8 @@ module _ (u : Unit) (p : Port) (w : wellFormed u p ≡ true) (from : ℕ) (valid
 
   -- a service on the sender's login
   served-kept : (g : Found) → findLogin p from ≡ g → (code : ℕ) (f : List ℕ) (d : Decided) → Kept (d .port)
-      → Kept (onFound g (λ i. record { reply = serviceOf code (loginAt p i) from f .reply; port = withLogin p i (serviceOf code (loginAt p i) from f .login) }) d .port)
-  served-kept (At i) e code f d x = stored-kept u p w from i _ e (service-mild (u .capacity) (p .address) (loginAt p i) code from f)
+      → Kept (onFound g (λ i. servedAt p i (serviceOf code (loginAt p i) (soughtIn p from) from f)) d .port)
+  served-kept (At i) e code f d x = stored-kept u p w from i _ e (service-mild u (p .address) (loginAt p i) code (soughtIn p from) from f)
   served-kept Nothing e code f d x = x
 
 -- no frame to the link services makes a state ill formed, whose sender is a valid address and not ours

@@ -1,26 +1,33 @@
 -- What each change of the table of logins makes of the record of an address. Assumes nothing.
-use Prim.Native.Nat.{ℕ, _<_}
+use Prim.Native.Nat.{ℕ, zero, suc, _+_, _<_}
 use mathlib.Core.Path.{_≡_, refl, sym, ap, _∙_}
 use mathlib.Core.Bool.{Bool, true, false, cond, not}
-use mathlib.Core.List.{List, [], _∷_, map}
+use mathlib.Core.List.{List, [], _∷_}
 use native.Mathlib.Omega.{arith}
+use native.Mathlib.Nat.{add-zero}
 use lib.Dec.{eqb}
-use lib.ListN.{length, getD}
+use lib.ListN.{length, getD, set}
+use lib.Seq.{getD-set-same}
 use borrow.Author.Tests.{not-true}
 use Rattle.tables.specs.declared.Found.{Found}
 use Rattle.tables.specs.declared.Found.the-variants.{At, Nothing}
-use Rattle.tables.specs.Lists.{onFound, pairs}
+use Rattle.tables.specs.Lists.{firstFrom, onFound, all, pairs}
+use Rattle.tables.proofs.Bools.{and-left, and-right}
 use Rattle.tables.proofs.Searches.{found-below, found-passes, found-lowest, missed}
 use Rattle.tables.proofs.Keeping.{all-at}
 use Rattle.state.specs.declared.Login.{Login}
 use Rattle.state.specs.declared.Port.{Port}
 use Rattle.state.specs.declared.Change.{Change}
-use Rattle.state.specs.declared.Change.the-variants.{EndAll, EndLogin, Unprove, EndUnproven, EndExchangesOf, Reset, Clear}
-use Rattle.state.specs.Changes.{emptyLogin, isUsed, hasAddress, loginAt, withLogin, withProven, withAttention, withoutExchanges, freedOf, endedOf, unproven, verified, abortedOf, resetOf, losesTo, clearedBy, changedOf, changedAll}
-use Rattle.state.specs.Tables.{isFree, findLogin, freeLogin}
+use Rattle.state.specs.declared.Change.the-variants.{Keep, EndAll, EndLogin, Unprove, EndUnproven, EndExchangesOf, Reset, Clear}
+use Rattle.state.specs.Changes.{emptyLogin, isUsed, hasAddress, loginAt, withLogin, withProven, withoutExchanges, freedOf, endedOf, unproven, verified, abortedOf, resetOf, losesTo, clearedBy, changedOf, changedAll}
+use Rattle.state.specs.Tables.{isFree, findLogin, freeLogin, loginIn, loginOf}
+use Rattle.state.proofs.Places.{found-has, found-used}
 use Rattle.formed.specs.Formed.{apartAddress}
+use Rattle.calls.specs.declared.Turn.{Turn}
+use Rattle.calls.specs.Turn.{portAfter}
+use Rattle.calls.specs.Others.{Another, Leaves}
+use Rattle.calls.proofs.Others.{empty-has, other-has, apart-has, changed-sees, others-see}
 use Rattle.link.specs.Record.{Record, out, held, recordAt, recordOf, doubted}
-use Rattle.link.proofs.Seen.{seen, shown, is-seen, free-has, empty-has, other-has, map-seen, set-seen, set-gone, set-other}
 
 -- what "verification time over ends the unproven ones" makes of a record
 abbrev pub expired : Record → Record
@@ -28,76 +35,9 @@ expired out = out
 expired (held p true k) = held p true k
 expired (held p false k) = out
 
--- what each change makes of what a place says
-ended-shown : (a : ℕ) (l : Login) → shown a (endedOf a l) ≡ out
-unfolding endedOf
-ended-shown a l = step (hasAddress a l) refl
-  where
-    step : (b : Bool) → hasAddress a l ≡ b → shown a (cond b emptyLogin l) ≡ out
-    step true e = rw (empty-has a)
-    step false e = rw e
-
-ended-other : (a b : ℕ) → (b ≡ a → ⊥) → (l : Login) → shown b (endedOf a l) ≡ shown b l
-unfolding endedOf
-ended-other a b n l = step (hasAddress a l) refl
-  where
-    step : (x : Bool) → hasAddress a l ≡ x → shown b (cond x emptyLogin l) ≡ shown b l
-    step true e = rw (empty-has b, other-has a b l n e)
-    step false e = refl
-
-doubted-cond : (b : Bool) (l : Login) → cond b (recordAt (withProven l 0)) out ≡ doubted (cond b (recordAt l) out)
-doubted-cond true l = refl
-doubted-cond false l = refl
-
-unproven-shown : (a : ℕ) (l : Login) → shown a (unproven l) ≡ doubted (shown a l)
-unfolding unproven hasAddress
-unproven-shown a l = step (isUsed l) refl
-  where
-    step : (b : Bool) → isUsed l ≡ b → shown a (cond b (withProven l 0) l) ≡ doubted (shown a l)
-    step true e = doubted-cond (hasAddress a l) l
-    step false e = rw e
-
-verified-shown : (a : ℕ) (l : Login) → shown a (verified l) ≡ expired (shown a l)
-unfolding verified
-verified-shown a l = step (isUsed l) refl
-  where
-    inner : (b v : Bool) → hasAddress a l ≡ b → eqb (l .proven) 1 ≡ v → shown a (cond v l emptyLogin) ≡ expired (cond b (recordAt l) out)
-    inner true true eb ev = rw (eb, ev)
-    inner true false eb ev = rw (ev, empty-has a)
-    inner false true eb ev = rw eb
-    inner false false eb ev = rw (empty-has a)
-
-    step : (b : Bool) → isUsed l ≡ b → shown a (cond b (cond (eqb (l .proven) 1) l emptyLogin) l) ≡ expired (shown a l)
-    step true e = inner (hasAddress a l) (eqb (l .proven) 1) refl refl
-    step false e = rw (free-has a l e)
-
-without-shown : (a : ℕ) (l : Login) → shown a (withoutExchanges l) ≡ shown a l
-unfolding withoutExchanges hasAddress
-without-shown a l = refl
-
-aborted-shown : (a b : ℕ) (l : Login) → shown a (abortedOf b l) ≡ shown a l
-unfolding abortedOf
-aborted-shown a b l = step (hasAddress b l)
-  where
-    step : (x : Bool) → shown a (cond x (withoutExchanges l) l) ≡ shown a l
-    step true = without-shown a l
-    step false = refl
-
-told-shown : (a n : ℕ) (l : Login) → shown a (withAttention (withoutExchanges l) n) ≡ shown a l
-unfolding withoutExchanges hasAddress
-told-shown a n l = refl
-
-either-shown : (a : ℕ) (b : Bool) (l m k : Login) → shown a m ≡ shown a l → shown a k ≡ shown a l → shown a (cond b m k) ≡ shown a l
-either-shown a true l m k p q = p
-either-shown a false l m k p q = q
-
-reset-shown : (a : ℕ) (l : Login) → shown a (resetOf l) ≡ shown a l
-unfolding resetOf
-reset-shown a l = either-shown a (isUsed l) l _ _ (told-shown a 0x29 l) refl
-
-cleared-shown : (a b : ℕ) (l : Login) → shown a (clearedBy b l) ≡ shown a l
-unfolding clearedBy
-cleared-shown a b l = either-shown a (isUsed l) l _ _ (either-shown a (losesTo b l) l _ _ (told-shown a 0x2f l) (without-shown a l)) refl
+-- the record that a login is, `out` where it is none
+abbrev pub recordIn : Login → Record
+recordIn l = cond (isUsed l) (recordAt l) out
 
 -- no login of an address: exactly when its record is `out`
 pub out-missing : (p : Port) (a : ℕ) → recordOf p a ≡ out → findLogin p a ≡ Nothing
@@ -117,107 +57,171 @@ pub found-record : (p : Port) (a i : ℕ) → findLogin p a ≡ At i → recordO
 unfolding recordOf
 found-record p a i e = rw e
 
--- "power on ends all": every record is `out`
-freed-has : (a : ℕ) (l : Login) → hasAddress a (freedOf l) ≡ false
-unfolding freedOf
-freed-has a l = step (isUsed l) refl
-  where
-    step : (b : Bool) → isUsed l ≡ b → hasAddress a (cond b emptyLogin l) ≡ false
-    step true e = empty-has a
-    step false e = free-has a l e
+-- the record of an address is that of its login, which has the address or is none
+module _ (p : Port) (a : ℕ) where
+  pub record-is : recordOf p a ≡ recordIn (loginOf p a)
+  unfolding recordOf loginOf
+  record-is = by (findLogin p a) refl
+    where
+      by : (f : Found) → findLogin p a ≡ f → onFound f (λ i. recordAt (loginAt p i)) out ≡ recordIn (loginIn p f)
+      by (At i) e = rw (found-used p a i e)
+      by Nothing e = refl
 
-pub power-record : (p : Port) (a : ℕ) → recordOf (changedAll EndAll p) a ≡ out
-unfolding changedAll
-power-record p a = is-seen (changedAll EndAll p) a ∙ none (p .logins)
-  where
-    none : (ls : List Login) → seen a (map (changedOf EndAll) ls) ≡ out
-    none [] = refl
-    none (l ∷ ls) = rw (freed-has a l) (none ls)
+  login-has : hasAddress a (loginOf p a) ≡ isUsed (loginOf p a)
+  unfolding loginOf
+  login-has = by (findLogin p a) refl
+    where
+      by : (f : Found) → findLogin p a ≡ f → hasAddress a (loginIn p f) ≡ isUsed (loginIn p f)
+      by (At i) e = found-has p a i e ∙ sym (found-used p a i e)
+      by Nothing e = empty-has a
+
+-- what each change makes of the record of a login
+module _ (l : Login) where
+  freed-in : recordIn (freedOf l) ≡ out
+  unfolding freedOf
+  freed-in = by (isUsed l) refl
+    where
+      by : (b : Bool) → isUsed l ≡ b → recordIn (cond b emptyLogin l) ≡ out
+      by true e = refl
+      by false e = rw e
+
+  unproven-in : recordIn (unproven l) ≡ doubted (recordIn l)
+  unfolding unproven
+  unproven-in = by (isUsed l) refl
+    where
+      by : (b : Bool) → isUsed l ≡ b → recordIn (cond b (withProven l 0) l) ≡ doubted (recordIn l)
+      by true e = rw e
+      by false e = rw e
+
+  verified-in : recordIn (verified l) ≡ expired (recordIn l)
+  unfolding verified
+  verified-in = by (isUsed l) (eqb (l .proven) 1) refl refl
+    where
+      by : (b v : Bool) → isUsed l ≡ b → eqb (l .proven) 1 ≡ v → recordIn (cond b (cond v l emptyLogin) l) ≡ expired (recordIn l)
+      by true true e h = rw (e, h)
+      by true false e h = rw (e, h)
+      by false v e h = rw e
+
+  either-in : (b : Bool) (m k : Login) → recordIn m ≡ recordIn l → recordIn k ≡ recordIn l → recordIn (cond b m k) ≡ recordIn l
+  either-in true m k x y = x
+  either-in false m k x y = y
+
+  module _ (a : ℕ) (own : hasAddress a l ≡ isUsed l) where
+    ended-in : recordIn (endedOf a l) ≡ out
+    unfolding endedOf
+    ended-in = by (hasAddress a l) refl
+      where
+        by : (b : Bool) → hasAddress a l ≡ b → recordIn (cond b emptyLogin l) ≡ out
+        by true e = refl
+        by false e = rw (sym own ∙ e)
+
+    ended-other : (b : ℕ) → (a ≡ b → ⊥) → recordIn (endedOf b l) ≡ recordIn l
+    unfolding endedOf
+    ended-other b n = by (hasAddress b l) refl
+      where
+        by : (x : Bool) → hasAddress b l ≡ x → recordIn (cond x emptyLogin l) ≡ recordIn l
+        by true e = rw (sym own ∙ other-has a b l n e)
+        by false e = refl
+
+-- a change that leaves a login leaves its record: exchanges and attention are no part of it
+left-in : (a : ℕ) (l : Login) → hasAddress a l ≡ isUsed l → (c : Change) → Leaves a c → recordIn (changedOf c l) ≡ recordIn l
+unfolding abortedOf resetOf clearedBy withoutExchanges
+left-in a l own Keep h = refl
+left-in a l own EndAll h = absurd h
+left-in a l own (EndLogin b) h = ended-other l a own b h
+left-in a l own Unprove h = absurd h
+left-in a l own EndUnproven h = absurd h
+left-in a l own (EndExchangesOf b) h = either-in l (hasAddress b l) _ _ refl refl
+left-in a l own Reset h = either-in l (isUsed l) _ _ refl refl
+left-in a l own (Clear b) h = either-in l (isUsed l) _ _ (either-in l (losesTo b l) _ _ refl refl) refl
 
 -- changes of every login, where the addresses are distinct
 module _ (p : Port) (d : pairs apartAddress (p .logins) ≡ true) where
-  changed-record : (c : Change) (a : ℕ) (g : Record → Record) → g out ≡ out → ((l : Login) → shown a (changedOf c l) ≡ g (shown a l)) → recordOf (changedAll c p) a ≡ g (recordOf p a)
-  unfolding changedAll
-  changed-record c a g o h = is-seen (changedAll c p) a ∙ map-seen a (changedOf c) g o h (p .logins) d ∙ ap g (sym (is-seen p a))
+  changed-record : (c : Change) (a : ℕ) → recordOf (changedAll c p) a ≡ recordIn (changedOf c (loginOf p a))
+  changed-record c a = record-is (changedAll c p) a ∙ ap recordIn (changed-sees p d c a)
+
+  -- "power on ends all": every record is `out`
+  pub power-record : (a : ℕ) → recordOf (changedAll EndAll p) a ≡ out
+  power-record a = changed-record EndAll a ∙ freed-in (loginOf p a)
 
   -- the login of an address ends: its record is `out`
   pub end-record : (a : ℕ) → recordOf (changedAll (EndLogin a) p) a ≡ out
-  end-record a = changed-record (EndLogin a) a (λ _. out) refl (ended-shown a)
-
-  -- and every other address has the record it had
-  pub end-others : (a b : ℕ) → (b ≡ a → ⊥) → recordOf (changedAll (EndLogin a) p) b ≡ recordOf p b
-  end-others a b n = changed-record (EndLogin a) b (λ r. r) refl (ended-other a b n)
+  end-record a = changed-record (EndLogin a) a ∙ ended-in (loginOf p a) a (login-has p a)
 
   -- loop reset: every record is the old one, unproven
   pub reset-record : (a : ℕ) → recordOf (changedAll Unprove p) a ≡ doubted (recordOf p a)
-  reset-record a = changed-record Unprove a doubted refl (unproven-shown a)
+  reset-record a = changed-record Unprove a ∙ unproven-in (loginOf p a) ∙ ap doubted (sym (record-is p a))
 
   -- verification time over: a proven record stays, any other is `out`
   pub over-record : (a : ℕ) → recordOf (changedAll EndUnproven p) a ≡ expired (recordOf p a)
-  over-record a = changed-record EndUnproven a expired refl (verified-shown a)
+  over-record a = changed-record EndUnproven a ∙ verified-in (loginOf p a) ∙ ap expired (sym (record-is p a))
 
-  -- the exchanges of one address end: no record changes
-  pub abort-record : (b a : ℕ) → recordOf (changedAll (EndExchangesOf b) p) a ≡ recordOf p a
-  abort-record b a = changed-record (EndExchangesOf b) a (λ r. r) refl (λ l. aborted-shown a b l)
+  -- after any turn of another sender whose change leaves it: the record is the old one
+  pub others-record : (t : Turn) (a : ℕ) → Another p a (t .at) (t .login) → Leaves a (t .change) → recordOf (portAfter p t) a ≡ recordOf p a
+  others-record t a o h = record-is (portAfter p t) a ∙ ap recordIn (others-see p d t a o) ∙ left-in a (loginOf p a) (login-has p a) (t .change) h ∙ sym (record-is p a)
 
-  -- target reset: no record changes, for attention and exchanges are no part of it
-  pub target-record : (a : ℕ) → recordOf (changedAll Reset p) a ≡ recordOf p a
-  target-record a = changed-record Reset a (λ r. r) refl (reset-shown a)
+-- a login of an address, stored where none before it has the address, is the first that has it
+first-set : (a : ℕ) (ls : List Login) (k i : ℕ) (l : Login) → i < length ls → ((j : ℕ) → j < i → hasAddress a (getD ls j emptyLogin) ≡ false) → hasAddress a l ≡ true
+    → firstFrom (hasAddress a) k (set ls i l) ≡ At (k + i)
+first-set a [] k i l h none t = absurd (omega arith)
+first-set a (m ∷ ls) k zero l h none t = rw t (ap At (sym (add-zero k)))
+first-set a (m ∷ ls) k (suc i) l h none t =
+    rw (none 0 (omega arith)) (first-set a ls (suc k) i l (omega arith) (λ j q. none (suc j) (omega arith)) t ∙ ap At (let e : suc k + i ≡ k + suc i = omega arith in e))
 
-  -- nor where the task set is cleared
-  pub clear-record : (b a : ℕ) → recordOf (changedAll (Clear b) p) a ≡ recordOf p a
-  clear-record b a = changed-record (Clear b) a (λ r. r) refl (cleared-shown a b)
+module _ (p : Port) (a i : ℕ) (l : Login) (below : i < length (p .logins)) (none : (j : ℕ) → j < i → hasAddress a (getD (p .logins) j emptyLogin) ≡ false) (h : hasAddress a l ≡ true) where
+  found-put : findLogin (withLogin p i l) a ≡ At i
+  unfolding findLogin withLogin
+  found-put = first-set a (p .logins) 0 i l below none h ∙ ap At (let e : 0 + i ≡ i = omega arith in e)
 
--- a login stored where the login of address a stood
+  stands-put : loginAt (withLogin p i l) i ≡ l
+  unfolding loginAt withLogin
+  stands-put = getD-set-same (p .logins) i l emptyLogin below
+
+  put-record : recordOf (withLogin p i l) a ≡ recordAt l
+  put-record = found-record (withLogin p i l) a i found-put ∙ ap recordAt stands-put
+
+-- no login behind one of an address has it, where the addresses are distinct; so none has it once that one ends
+none-behind : (a : ℕ) (l : Login) (ls : List Login) (k : ℕ) → hasAddress a l ≡ true → all (apartAddress l) ls ≡ true → firstFrom (hasAddress a) k ls ≡ Nothing
+none-behind a l [] k h d = refl
+none-behind a l (m ∷ ls) k h d =
+    rw (apart-has a l m (and-left (apartAddress l m) (all (apartAddress l) ls) d) h (hasAddress a m) refl)
+    (none-behind a l ls (suc k) h (and-right (apartAddress l m) (all (apartAddress l) ls) d))
+
+first-gone : (a : ℕ) (ls : List Login) (k i : ℕ) → pairs apartAddress ls ≡ true → i < length ls → hasAddress a (getD ls i emptyLogin) ≡ true
+    → firstFrom (hasAddress a) k (set ls i emptyLogin) ≡ Nothing
+first-gone a [] k i d h t = refl
+first-gone a (m ∷ ls) k zero d h t = rw (empty-has a) (none-behind a m ls (suc k) t (and-left (all (apartAddress m) ls) (pairs apartAddress ls) d))
+first-gone a (m ∷ ls) k (suc i) d h t =
+    rw (only (hasAddress a m) refl) (first-gone a ls (suc k) i (and-right (all (apartAddress m) ls) (pairs apartAddress ls) d) (omega arith) t)
+  where
+    only : (b : Bool) → hasAddress a m ≡ b → b ≡ false
+    only true e =
+        sym t
+        ∙ apart-has a m (getD ls i emptyLogin) (all-at (apartAddress m) emptyLogin ls i (omega arith) (and-left (all (apartAddress m) ls) (pairs apartAddress ls) d)) e (hasAddress a (getD ls i emptyLogin)) refl
+    only false e = refl
+
+-- what is stored where the login of address a stood
 module _ (p : Port) (a i : ℕ) (at : findLogin p a ≡ At i) where
+  inside : i < length (p .logins)
+  unfolding findLogin
+  inside = found-below emptyLogin (hasAddress a) (p .logins) at
+
   -- a login of that address: the record of a is what it says
   pub store-record : (l : Login) → hasAddress a l ≡ true → recordOf (withLogin p i l) a ≡ recordAt l
-  unfolding withLogin findLogin
-  store-record l h =
-      is-seen (withLogin p i l) a
-      ∙ set-seen a emptyLogin (p .logins) i l (found-below emptyLogin (hasAddress a) (p .logins) at) (found-lowest emptyLogin (hasAddress a) (p .logins) at) h
+  unfolding findLogin
+  store-record l h = put-record p a i l inside (found-lowest emptyLogin (hasAddress a) (p .logins) at) h
 
   -- none: the record of a is `out`
   pub drop-record : pairs apartAddress (p .logins) ≡ true → recordOf (withLogin p i emptyLogin) a ≡ out
-  unfolding withLogin findLogin
-  drop-record d =
-      is-seen (withLogin p i emptyLogin) a
-      ∙ set-gone a emptyLogin (p .logins) i emptyLogin d (found-below emptyLogin (hasAddress a) (p .logins) at) (found-passes emptyLogin (hasAddress a) (p .logins) at) (empty-has a)
+  unfolding findLogin withLogin
+  drop-record d = missing-out (withLogin p i emptyLogin) a (first-gone a (p .logins) 0 i d inside (found-passes emptyLogin (hasAddress a) (p .logins) at))
 
-  elsewhere : (l : Login) (b : ℕ) → (b ≡ a → ⊥) → hasAddress b l ≡ false → recordOf (withLogin p i l) b ≡ recordOf p b
-  unfolding withLogin findLogin
-  elsewhere l b n h =
-      is-seen (withLogin p i l) b
-      ∙ set-other b emptyLogin (p .logins) i l (other-has a b (getD (p .logins) i emptyLogin) n (found-passes emptyLogin (hasAddress a) (p .logins) at)) h
-      ∙ sym (is-seen p b)
-
-  -- either way every other address has the record it had
-  pub store-others : (l : Login) → hasAddress a l ≡ true → (b : ℕ) → (b ≡ a → ⊥) → recordOf (withLogin p i l) b ≡ recordOf p b
-  store-others l h b n = elsewhere l b n (other-has a b l n h)
-
-  pub drop-others : (b : ℕ) → (b ≡ a → ⊥) → recordOf (withLogin p i emptyLogin) b ≡ recordOf p b
-  drop-others b n = elsewhere emptyLogin b n (empty-has b)
-
--- a login of address a, stored in the lowest free place
-module _ (p : Port) (a i : ℕ) (l : Login) (at : freeLogin p ≡ At i) (h : hasAddress a l ≡ true) where
-  free-at : isUsed (getD (p .logins) i emptyLogin) ≡ false
-  unfolding freeLogin
-  free-at = not-true (isUsed (getD (p .logins) i emptyLogin)) (found-passes emptyLogin isFree (p .logins) at)
-
-  -- where no login has address a: the record of a is what the new one says
-  pub place-record : recordOf p a ≡ out → recordOf (withLogin p i l) a ≡ recordAt l
-  unfolding withLogin findLogin freeLogin
-  place-record none =
-      let below : i < length (p .logins) = found-below emptyLogin isFree (p .logins) at in
-      is-seen (withLogin p i l) a ∙ set-seen a emptyLogin (p .logins) i l below (λ j k. absent j (omega arith)) h
-    where
-      absent : (j : ℕ) → j < length (p .logins) → hasAddress a (getD (p .logins) j emptyLogin) ≡ false
-      absent j k = not-true (hasAddress a (getD (p .logins) j emptyLogin)) (all-at (λ m. not (hasAddress a m)) emptyLogin (p .logins) j k (missed (hasAddress a) (p .logins) (out-missing p a none)))
-
-  -- and every other address has the record it had
-  pub place-others : (b : ℕ) → (b ≡ a → ⊥) → recordOf (withLogin p i l) b ≡ recordOf p b
-  unfolding withLogin
-  place-others b n =
-      is-seen (withLogin p i l) b
-      ∙ set-other b emptyLogin (p .logins) i l (free-has b (getD (p .logins) i emptyLogin) free-at) (other-has a b l n h)
-      ∙ sym (is-seen p b)
+-- a login of address a, stored in the lowest free place where no login has that address: the record of a is what it says
+pub place-record : (p : Port) (a i : ℕ) (l : Login) → freeLogin p ≡ At i → hasAddress a l ≡ true → recordOf p a ≡ out → recordOf (withLogin p i l) a ≡ recordAt l
+unfolding findLogin freeLogin
+place-record p a i l at h none =
+    let below : i < length (p .logins) = found-below emptyLogin isFree (p .logins) at in
+    put-record p a i l below (λ j k. absent j (omega arith)) h
+  where
+    absent : (j : ℕ) → j < length (p .logins) → hasAddress a (getD (p .logins) j emptyLogin) ≡ false
+    absent j k = not-true (hasAddress a (getD (p .logins) j emptyLogin)) (all-at (λ m. not (hasAddress a m)) emptyLogin (p .logins) j k (missed (hasAddress a) (p .logins) (out-missing p a none)))

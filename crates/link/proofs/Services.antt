@@ -1,4 +1,4 @@
--- What each link service makes of the record of its sender, and that it leaves every other record as it was. Assumes nothing.
+-- What each link service makes of the record of its sender. Assumes nothing.
 use Prim.Native.Nat.{ℕ}
 use mathlib.Core.Path.{_≡_, refl, sym, ap, _∙_}
 use mathlib.Core.Bool.{Bool, true, false, cond}
@@ -6,7 +6,7 @@ use mathlib.Core.List.{List}
 use native.Mathlib.Omega.{arith}
 use lib.Dec.{eqb}
 use lib.ListN.{getD}
-use borrow.Author.Tests.{eqb-true, eqb-false}
+use borrow.Author.Tests.{eq-eqb}
 use Rattle.tables.specs.declared.Found.{Found}
 use Rattle.tables.specs.declared.Found.the-variants.{At, Nothing}
 use Rattle.tables.specs.Lists.{onFound, pairs}
@@ -20,19 +20,20 @@ use Rattle.state.specs.declared.Port.{Port}
 use Rattle.state.specs.declared.Change.the-variants.{EndLogin}
 use Rattle.state.specs.Changes.{emptyLogin, hasAddress, loginAt, withLogin, withExchange, withoutExchanges, endedAt, changedAll}
 use Rattle.state.proofs.Places.{found-has}
-use Rattle.state.specs.Tables.{findLogin, freeLogin, findExchange}
+use Rattle.state.specs.Tables.{findLogin, freeLogin}
 use Rattle.formed.specs.Formed.{apartAddress}
 use Rattle.reply.specs.declared.Reply.{Reply}
 use Rattle.reply.specs.declared.Reply.the-variants as reply
 use Rattle.reply.specs.declared.Accepted.{Accepted}
 use Rattle.reply.specs.declared.Accepted.the-variants as accepted
-use Rattle.link.specs.declared.Served.{Served}
+use Rattle.calls.specs.declared.Served.{Served}
+use Rattle.calls.specs.Turn.{decidedAs, servedAs, servedAt}
+use Rattle.calls.proofs.Others.{empty-has}
 use Rattle.link.specs.declared.Outcome.{Outcome}
 use Rattle.link.specs.declared.Outcome.the-variants.{Place, Rejected}
-use Rattle.link.specs.Link.{decidedAs, servedAs, newLogin, outcomeAfter, outcomeOf, outcomeReply, outcomePort, plogiOf, namesDiffer, provenBy, pdiscOf, adiscOf, logoOf, pairFine, pageFine, prliOf, prloOf, rrqOf, serviceOf, servedAt}
+use Rattle.link.specs.Link.{newLogin, outcomeAfter, outcomeOf, outcomeReply, outcomePort, plogiOf, namesDiffer, provenBy, pdiscOf, adiscOf, logoOf, pairFine, pageFine, prliOf, prloOf, rrqOf, serviceOf}
 use Rattle.link.specs.Record.{Record, out, held, keptFrom, recordAt, recordOf, proved, paired, unpaired}
-use Rattle.link.proofs.Seen.{has}
-use Rattle.link.proofs.Records.{found-record, end-record, end-others, store-record, drop-record, store-others, drop-others, place-record, place-others}
+use Rattle.link.proofs.Records.{found-record, end-record, store-record, drop-record, place-record}
 
 -- after PLOGI: ACC, and the record is unpaired, proven and of the parameters sent; LS_RJT, and it is `out`; there is no other reply
 abbrev pub AfterPlogi : Params → Reply → Record → Type 0
@@ -79,9 +80,9 @@ AfterAbort o (reply.Respond x) = ⊥
 AfterAbort o (reply.Data x) = ⊥
 
 -- PLOGI
-new-has : (a : ℕ) (q : Params) → hasAddress a (newLogin a q) ≡ true
-unfolding newLogin
-new-has a q = has a (newLogin a q) refl refl
+pub new-has : (a : ℕ) (q : Params) → hasAddress a (newLogin a q) ≡ true
+unfolding newLogin hasAddress
+new-has a q = eq-eqb a a refl
 
 new-record : (a : ℕ) (q : Params) → recordAt (newLogin a q) ≡ held false true (keptFrom q)
 unfolding newLogin
@@ -100,10 +101,6 @@ outcome-record : (p : Port) (a : ℕ) (q : Params) (o : Outcome) → outcomeOf p
     → AfterPlogi q (outcomeReply o) (recordOf (outcomePort o p (newLogin a q)) a)
 outcome-record p a q (Place i) e n = place-record p a i (newLogin a q) (outcome-free p q i e) (new-has a q) n ∙ new-record a q
 outcome-record p a q (Rejected x y) e n = n
-
-outcome-others : (p : Port) (a : ℕ) (q : Params) (o : Outcome) → outcomeOf p q ≡ o → (b : ℕ) → (b ≡ a → ⊥) → recordOf (outcomePort o p (newLogin a q)) b ≡ recordOf p b
-outcome-others p a q (Place i) e b n = place-others p a i (newLogin a q) (outcome-free p q i e) (new-has a q) b n
-outcome-others p a q (Rejected x y) e b n = refl
 
 -- a service on a login, as the record sees it
 data Does (g : Record → Record) (l : Login) : Served → Type 0 where
@@ -135,9 +132,9 @@ prlo-does : (l : Login) (page kind : ℕ) → Does unpaired l (prloOf l page kin
 unfolding prloOf withoutExchanges hasAddress
 prlo-does l page kind = does-cond (pageFine page kind) (takes _ _ (λ b. refl) refl) (rejects _ _)
 
-rrq-does : (l : Login) (from named ox : ℕ) → Does (λ r. r) l (rrqOf l from named ox)
+rrq-does : (l : Login) (from named : ℕ) (place : Found) → Does (λ r. r) l (rrqOf l from named place)
 unfolding rrqOf
-rrq-does l from named ox = does-cond (eqb named from) (by (findExchange l ox)) (rejects _ _)
+rrq-does l from named place = does-cond (eqb named from) (by place) (rejects _ _)
   where
     by : (x : Found) → Does (λ r. r) l (onFound x (λ j. servedAs (reply.Reject 0x03 0x17) l) (servedAs (reply.Accept accepted.Short) l))
     by (At j) = rejects _ _
@@ -151,13 +148,22 @@ does-code : {l : Login} (b : Bool) {g k : Record → Record} {s t : Served} → 
 does-code true x y = x
 does-code false x y = y
 
-service-does : (code : ℕ) (l : Login) (from : ℕ) (f : List ℕ) → Does (effectOf code) l (serviceOf code l from f)
+service-does : (code : ℕ) (l : Login) (sought : ℕ → Found) (from : ℕ) (f : List ℕ) → Does (effectOf code) l (serviceOf code l sought from f)
 unfolding effectOf serviceOf
-service-does code l from f =
+service-does code l sought from f =
     does-code (eqb code 0x50) (pdisc-does l (paramsOf f 28))
     (does-code (eqb code 0x52) (adisc-does l from (num 3 f 49) (part 8 f 32) (part 8 f 40))
     (does-code (eqb code 0x20) (prli-does l (num 3 f 25) (getD f 28 0) (getD f 30 0) (getD f 43 0))
-    (does-code (eqb code 0x21) (prlo-does l (num 3 f 25) (getD f 28 0)) (rrq-does l from (num 3 f 29) (num 2 f 32)))))
+    (does-code (eqb code 0x21) (prlo-does l (num 3 f 25) (getD f 28 0)) (rrq-does l from (num 3 f 29) (sought (num 2 f 32))))))
+
+-- a service leaves the login that of the same address, or ends it
+pub service-other : (code : ℕ) (l : Login) (sought : ℕ → Found) (from : ℕ) (f : List ℕ) (a : ℕ) → hasAddress a l ≡ false → hasAddress a (serviceOf code l sought from f .login) ≡ false
+service-other code l sought from f a h = by (service-does code l sought from f)
+  where
+    by : {g : Record → Record} {s : Served} → Does g l s → hasAddress a (s .login) ≡ false
+    by (takes x m k e) = k a ∙ h
+    by (rejects x y) = h
+    by ends = empty-has a
 
 -- the sender's login is at place i
 module _ (p : Port) (a i : ℕ) (at : findLogin p a ≡ At i) where
@@ -167,43 +173,26 @@ module _ (p : Port) (a i : ℕ) (at : findLogin p a ≡ At i) where
   does-record d (rejects x y) = store-record p a i at (loginAt p i) (found-has p a i at) ∙ sym (found-record p a i at)
   does-record d ends = drop-record p a i at d
 
-  does-others : {g : Record → Record} {s : Served} → Does g (loginAt p i) s → (b : ℕ) → (b ≡ a → ⊥) → recordOf (servedAt p i s .port) b ≡ recordOf p b
-  does-others (takes x m h e) b n = store-others p a i at m (h a ∙ found-has p a i at) b n
-  does-others (rejects x y) b n = store-others p a i at (loginAt p i) (found-has p a i at) b n
-  does-others ends b n = drop-others p a i at b n
+  -- a login of the same address that says the same leaves the record as it was
+  pub same-kept : (m : Login) → hasAddress a m ≡ true → recordAt m ≡ recordAt (loginAt p i) → recordOf (withLogin p i m) a ≡ recordOf p a
+  same-kept m h e = store-record p a i at m h ∙ e ∙ sym (found-record p a i at)
 
-  -- a service leaves the record of every other address as it was
-  pub service-others : (code : ℕ) (f : List ℕ) (b : ℕ) → (b ≡ a → ⊥) → recordOf (servedAt p i (serviceOf code (loginAt p i) a f) .port) b ≡ recordOf p b
-  service-others code f b n = does-others (service-does code (loginAt p i) a f) b n
-
-  -- a login of the same address that says the same leaves every record as it was
-  pub same-kept : (m : Login) → hasAddress a m ≡ true → recordAt m ≡ recordAt (loginAt p i) → (b : ℕ) → recordOf (withLogin p i m) b ≡ recordOf p b
-  same-kept m h e b = step (eqb b a) refl
-    where
-      step : (x : Bool) → eqb b a ≡ x → recordOf (withLogin p i m) b ≡ recordOf p b
-      step true k = ap (recordOf (withLogin p i m)) (eqb-true b a k) ∙ store-record p a i at m h ∙ e ∙ sym (found-record p a i at) ∙ ap (recordOf p) (sym (eqb-true b a k))
-      step false k = store-others p a i at m h b (eqb-false b a k)
-
-  -- an exchange that ends leaves every record as it was
-  pub exchange-kept : (j b : ℕ) → recordOf (withLogin p i (endedAt (loginAt p i) j)) b ≡ recordOf p b
+  -- and so does an exchange that ends
+  pub exchange-kept : (j : ℕ) → recordOf (withLogin p i (endedAt (loginAt p i) j)) a ≡ recordOf p a
   unfolding withExchange hasAddress
-  exchange-kept j b = same-kept (endedAt (loginAt p i) j) (found-has p a i at) refl b
+  exchange-kept j = same-kept (endedAt (loginAt p i) j) (found-has p a i at) refl
 
   module _ (d : pairs apartAddress (p .logins) ≡ true) where
     -- the service of any code
-    pub service-record : (code : ℕ) (f : List ℕ)
-        → AfterService (effectOf code) (recordOf p a) (servedAt p i (serviceOf code (loginAt p i) a f) .reply) (recordOf (servedAt p i (serviceOf code (loginAt p i) a f) .port) a)
-    service-record code f = does-record d (service-does code (loginAt p i) a f)
+    pub service-record : (code : ℕ) (sought : ℕ → Found) (f : List ℕ)
+        → AfterService (effectOf code) (recordOf p a) (servedAt p i (serviceOf code (loginAt p i) sought a f) .reply) (recordOf (servedAt p i (serviceOf code (loginAt p i) sought a f) .port) a)
+    service-record code sought f = does-record d (service-does code (loginAt p i) sought a f)
 
 module _ (p : Port) (d : pairs apartAddress (p .logins) ≡ true) where
   -- PLOGI
   pub plogi-record : (a : ℕ) (q : Params) → AfterPlogi q (plogiOf p a q .reply) (recordOf (plogiOf p a q .port) a)
   unfolding plogiOf
   plogi-record a q = outcome-record (changedAll (EndLogin a) p) a q (outcomeOf (changedAll (EndLogin a) p) q) refl (end-record p d a)
-
-  pub plogi-others : (a : ℕ) (q : Params) (b : ℕ) → (b ≡ a → ⊥) → recordOf (plogiOf p a q .port) b ≡ recordOf p b
-  unfolding plogiOf
-  plogi-others a q b n = outcome-others (changedAll (EndLogin a) p) a q (outcomeOf (changedAll (EndLogin a) p) q) refl b n ∙ end-others p d a b n
 
   -- LOGO
   pub logo-record : (a named : ℕ) → AfterLogo (recordOf p a) (logoOf p a named .reply) (recordOf (logoOf p a named .port) a)
@@ -213,12 +202,4 @@ module _ (p : Port) (d : pairs apartAddress (p .logins) ≡ true) where
       step : (b : Bool) → AfterLogo (recordOf p a) (cond b (decidedAs (reply.Accept accepted.Short) (changedAll (EndLogin a) p)) (decidedAs (reply.Reject 0x03 0x1f) p) .reply)
           (recordOf (cond b (decidedAs (reply.Accept accepted.Short) (changedAll (EndLogin a) p)) (decidedAs (reply.Reject 0x03 0x1f) p) .port) a)
       step true = end-record p d a
-      step false = refl
-
-  pub logo-others : (a named b : ℕ) → (b ≡ a → ⊥) → recordOf (logoOf p a named .port) b ≡ recordOf p b
-  unfolding logoOf
-  logo-others a named b n = step (eqb named a)
-    where
-      step : (x : Bool) → recordOf (cond x (decidedAs (reply.Accept accepted.Short) (changedAll (EndLogin a) p)) (decidedAs (reply.Reject 0x03 0x1f) p) .port) b ≡ recordOf p b
-      step true = end-others p d a b n
       step false = refl

@@ -14,57 +14,57 @@ use Rattle.state.specs.declared.Login.{Login}
 use Rattle.state.specs.declared.Port.{Port}
 use Rattle.state.specs.declared.Change.the-variants.{EndLogin}
 use Rattle.state.specs.Changes.{loginAt}
-use Rattle.state.specs.Tables.{findLogin}
-use Rattle.seat.specs.Seat.{seatOf, seatPlace}
+use Rattle.state.specs.Tables.{findLogin, findExchange, soughtIn}
+use Rattle.formed.specs.declared.Key.{Key}
 use Rattle.reply.specs.declared.Reply.{Reply}
 use Rattle.reply.specs.declared.Reply.the-variants as reply
-use Rattle.link.specs.declared.Decided.{Decided}
-use Rattle.link.specs.declared.Placed.{Placed}
-use Rattle.link.specs.declared.Served.{Served}
+use Rattle.calls.specs.declared.View.{View}
+use Rattle.calls.specs.declared.Served.{Served}
+use Rattle.calls.specs.declared.Decision.{Decision}
+use Rattle.calls.specs.Turn.{Decided, decidedAs, servedAt, changes, answersOnly, servedIn}
 use Rattle.link.specs.declared.Outcome.{Outcome}
 use Rattle.link.specs.declared.Outcome.the-variants.{Place, Rejected}
-use Rattle.link.specs.Link.{decidedAs, sizeOf, outcomeReply, newLogin, plogiOf, logoOf, serviceOf, servedAt, linkOf}
-use Rattle.link.specs.Turn.{placedAs, changedAs, outcomeIn, plogiTurn, logoTurn, linkTurn}
+use Rattle.link.specs.Link.{sizeOf, outcomeReply, newLogin, plogiOf, logoOf, serviceOf, linkOf}
+use Rattle.link.specs.Turn.{outcomeIn, plogiTurn, logoTurn, linkTurn}
 
-module _ (keys : List ℕ) (l : Login) (from : ℕ) (q : Params) (o : Outcome) (r : Reply) (eo : o ≡ outcomeIn keys from q) (er : r ≡ outcomeReply o) where
-  pub plogi-rejected : (a b i : ℕ) → o ≡ Rejected a b → i ≡ seatPlace keys from → changedAs r (EndLogin from) i l ≡ plogiTurn keys l from q
+module _ (keys : List Key) (from : ℕ) (q : Params) (o : Outcome) (r : Reply) (eo : o ≡ outcomeIn keys from q) (er : r ≡ outcomeReply o) where
+  pub plogi-rejected : (a b : ℕ) → o ≡ Rejected a b → changes r (EndLogin from) ≡ plogiTurn keys from q
   unfolding plogiTurn
-  plogi-rejected a b i e ei = rw (er, sym eo, e, ei)
+  plogi-rejected a b e = rw (er, sym eo, e)
 
   pub plogi-placed : (j : ℕ) (m : Login) → o ≡ Place j → m ≡ newLogin from q
-      → _≡_ {A = Placed} record { reply = r; change = EndLogin from; at = j; login = m } (plogiTurn keys l from q)
+      → _≡_ {A = Decision} record { reply = r; change = EndLogin from; at = At j; login = m } (plogiTurn keys from q)
   unfolding plogiTurn
   plogi-placed j m e em = rw (er, sym eo, e, em)
 
-module _ (keys : List ℕ) (l : Login) (h : Header) (f : List ℕ) (code size i : ℕ) (ec : code ≡ getD f 24 0) (es : size ≡ sizeOf code) (ei : i ≡ seatPlace keys (h .«s_id»)) (d : Placed) where
-  pub other-code : size ≡ 0 → d ≡ placedAs (reply.Reject 0x0b 0x00) i l → d ≡ linkTurn keys l h f
+module _ (v : View) (h : Header) (f : List ℕ) (code size : ℕ) (ec : code ≡ getD f 24 0) (es : size ≡ sizeOf code) (d : Decision) where
+  pub other-code : size ≡ 0 → d ≡ answersOnly (reply.Reject 0x0b 0x00) → d ≡ linkTurn v h f
   unfolding linkTurn
-  other-code z e = rw (sym ec, sym es, sym ei, eq-eqb size 0 z) e
+  other-code z e = rw (sym ec, sym es, eq-eqb size 0 z) e
 
   module _ (nz : size ≡ 0 → ⊥) where
-    pub wrong-size : (length f ≡ 24 + size → ⊥) → d ≡ placedAs (reply.Reject 0x03 0x00) i l → d ≡ linkTurn keys l h f
+    pub wrong-size : (length f ≡ 24 + size → ⊥) → d ≡ answersOnly (reply.Reject 0x03 0x00) → d ≡ linkTurn v h f
     unfolding linkTurn
-    wrong-size w e = rw (sym ec, sym es, sym ei, ne-eqb size 0 nz, ne-eqb (length f) (24 + size) w) e
+    wrong-size w e = rw (sym ec, sym es, ne-eqb size 0 nz, ne-eqb (length f) (24 + size) w) e
 
     module _ (fits : length f ≡ 24 + size) where
-      pub plogi-way : code ≡ 3 → d ≡ plogiTurn keys l (h .«s_id») (paramsOf f 28) → d ≡ linkTurn keys l h f
+      pub plogi-way : code ≡ 3 → d ≡ plogiTurn (v .keys) (h .«s_id») (paramsOf f 28) → d ≡ linkTurn v h f
       unfolding linkTurn
       plogi-way c e = rw (sym ec, sym es, ne-eqb size 0 nz, eq-eqb (length f) (24 + size) fits, eq-eqb code 3 c) e
 
       module _ (np : code ≡ 3 → ⊥) where
-        pub logo-way : code ≡ 5 → d ≡ logoTurn i l (h .«s_id») (num 3 f 29) → d ≡ linkTurn keys l h f
+        pub logo-way : code ≡ 5 → d ≡ logoTurn (h .«s_id») (num 3 f 29) → d ≡ linkTurn v h f
         unfolding linkTurn
-        logo-way c e = rw (sym ec, sym es, sym ei, ne-eqb size 0 nz, eq-eqb (length f) (24 + size) fits, ne-eqb code 3 np, eq-eqb code 5 c) e
+        logo-way c e = rw (sym ec, sym es, ne-eqb size 0 nz, eq-eqb (length f) (24 + size) fits, ne-eqb code 3 np, eq-eqb code 5 c) e
 
         module _ (nl : code ≡ 5 → ⊥) where
-          pub no-seat : seatOf keys (h .«s_id») ≡ Nothing → d ≡ placedAs reply.Logout i l → d ≡ linkTurn keys l h f
+          pub no-seat : v .seat ≡ Nothing → d ≡ answersOnly reply.Logout → d ≡ linkTurn v h f
           unfolding linkTurn
-          no-seat n e = rw (sym ec, sym es, sym ei, ne-eqb size 0 nz, eq-eqb (length f) (24 + size) fits, ne-eqb code 3 np, ne-eqb code 5 nl, n) e
+          no-seat n e = rw (sym ec, sym es, ne-eqb size 0 nz, eq-eqb (length f) (24 + size) fits, ne-eqb code 3 np, ne-eqb code 5 nl, n) e
 
-          pub at-seat : (j : ℕ) (s : Served) → seatOf keys (h .«s_id») ≡ At j → s ≡ serviceOf code l (h .«s_id») f → d ≡ placedAs (s .reply) i (s .login) → d ≡ linkTurn keys l h f
+          pub at-seat : (i : ℕ) (s : Served) → v .seat ≡ At i → s ≡ serviceOf code (v .login) (findExchange (v .login)) (h .«s_id») f → d ≡ servedIn i s → d ≡ linkTurn v h f
           unfolding linkTurn
-          at-seat j s n ev e =
-              rw (sym ec, sym es, sym ei, ne-eqb size 0 nz, eq-eqb (length f) (24 + size) fits, ne-eqb code 3 np, ne-eqb code 5 nl, n, sym ev) e
+          at-seat i s n ev e = rw (sym ec, sym es, ne-eqb size 0 nz, eq-eqb (length f) (24 + size) fits, ne-eqb code 3 np, ne-eqb code 5 nl, n, sym ev) e
 
 -- the same of the whole port
 module _ (p : Port) (h : Header) (f : List ℕ) (code size : ℕ) (ec : code ≡ getD f 24 0) (es : size ≡ sizeOf code) (d : Decided) (nz : size ≡ 0 → ⊥) (fits : length f ≡ 24 + size) where
@@ -78,6 +78,6 @@ module _ (p : Port) (h : Header) (f : List ℕ) (code size : ℕ) (ec : code ≡
     is-logo c e = rw (sym ec, sym es, ne-eqb size 0 nz, eq-eqb (length f) (24 + size) fits, ne-eqb code 3 np, eq-eqb code 5 c) e
 
     module _ (nl : code ≡ 5 → ⊥) where
-      pub is-service : d ≡ onFound (findLogin p (h .«s_id»)) (λ i. servedAt p i (serviceOf code (loginAt p i) (h .«s_id») f)) (decidedAs reply.Logout p) → d ≡ linkOf p h f
+      pub is-service : d ≡ onFound (findLogin p (h .«s_id»)) (λ i. servedAt p i (serviceOf code (loginAt p i) (soughtIn p (h .«s_id»)) (h .«s_id») f)) (decidedAs reply.Logout p) → d ≡ linkOf p h f
       unfolding linkOf
       is-service e = rw (sym ec, sym es, ne-eqb size 0 nz, eq-eqb (length f) (24 + size) fits, ne-eqb code 3 np, ne-eqb code 5 nl) e

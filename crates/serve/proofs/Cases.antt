@@ -6,23 +6,24 @@ use lib.ListN.{replicate, take}
 use Rattle.wire.specs.Bytes.{onto}
 use Rattle.frame.specs.Head.{headerBytes}
 use Rattle.cover.specs.Cover.{coverOf}
+use Rattle.refusal.specs.declared.Refusal.the-variants.{BadWindow}
+use Rattle.refusal.specs.declared.Said.{Said}
+use Rattle.refusal.specs.declared.Said.the-variants.{Sent, Refused}
 use Rattle.state.specs.declared.Exchange.{Exchange}
 use Rattle.state.specs.declared.Port.{Port}
-use Rattle.state.specs.Changes.{emptyExchange, emptyLogin, hasAddress, loginAt, exchangeAt}
-use Rattle.state.specs.Tables.{hasId, findLogin, findExchange, lookupOf}
+use Rattle.state.specs.Changes.{emptyExchange, emptyLogin, hasAddress, ownOf, loginAt, exchangeAt}
+use Rattle.state.specs.Tables.{hasId, findLogin, findExchange, loginOf, lookupOf}
 use Rattle.formed.proofs.Clauses.{unitOf, portOf, words, name, login, reading}
 use Rattle.reply.specs.Reply.{answerHead, dataHead, filled, bytesOf}
-use Rattle.serve.specs.declared.Given.{Given}
-use Rattle.serve.specs.declared.Given.the-variants.{Sent, WrongWindow}
-use Rattle.serve.specs.Next.{hasMore, readsMore, placeOf, frameOf, nextReply, sourceOf, ownOf, askedBy, openStep, stepOf, frameBytes, nextOf, nextBuffer}
+use Rattle.serve.specs.Next.{hasMore, readsMore, placeOf, windowPlace, frameOf, nextReply, sourceOf, askedBy, openStep, stepOf, frameBytes, nextOf, nextBuffer}
 
 -- a port of address EFh whose one login, of address 01h and this size, has this exchange alone
 abbrev pub with : (size : ℕ) → Exchange → Port
 with size e = portOf 0xef (words 1 1) (login 1 1 1 0 0x01 name name size 1 1 (e ∷ replicate 7 emptyExchange)) emptyLogin
 
 -- what becomes of its next frame, with a window of so many bytes A5h from a block on, on the largest unit
-abbrev pub given : (size : ℕ) → Exchange → (start len : ℕ) → Given
-given size e start len = nextOf (unitOf 4294967295) (with size e) 0x01 0x1234 start (replicate len 0xa5) 2136 .given
+abbrev pub said : (size : ℕ) → Exchange → (start len : ℕ) → Said
+said size e start len = nextOf (unitOf 4294967295) (with size e) 0x01 0x1234 start (replicate len 0xa5) .said
 
 -- the first 24 bytes of the buffer after it
 abbrev pub header : (size : ℕ) → Exchange → (start len : ℕ) → List ℕ
@@ -30,19 +31,19 @@ header size e start len = take 24 (nextBuffer (unitOf 4294967295) (with size e) 
 
 -- "block 8,388,608 is byte 4,294,967,296": a READ of it is served from a window that starts there, and not from one that starts at block 0; so is a READ of two blocks, once that before it was sent
 pub served-64 :
-    (given 2048 (reading 8388608 1 512 512 0 0) 8388608 512 ≡ Sent 536)
-    × (given 2048 (reading 8388608 1 512 512 0 0) 0 512 ≡ WrongWindow)
-    × (given 512 (reading 8388607 2 1024 1024 512 1) 8388608 512 ≡ Sent 536)
-    × (given 512 (reading 8388607 2 1024 1024 512 1) 0 512 ≡ WrongWindow)
-unfolding lookupOf findLogin findExchange hasAddress hasId loginAt exchangeAt stepOf openStep placeOf readsMore hasMore coverOf nextReply frameOf sourceOf ownOf askedBy frameBytes bytesOf filled headerBytes dataHead answerHead nextOf
+    (said 2048 (reading 8388608 1 512 512 0 0) 8388608 512 ≡ Sent 536)
+    × (said 2048 (reading 8388608 1 512 512 0 0) 0 512 ≡ Refused BadWindow)
+    × (said 512 (reading 8388607 2 1024 1024 512 1) 8388608 512 ≡ Sent 536)
+    × (said 512 (reading 8388607 2 1024 1024 512 1) 0 512 ≡ Refused BadWindow)
+unfolding lookupOf loginOf findLogin findExchange hasAddress hasId loginAt exchangeAt stepOf openStep windowPlace placeOf readsMore hasMore coverOf nextReply frameOf sourceOf ownOf askedBy frameBytes bytesOf filled headerBytes dataHead answerHead nextOf
 served-64 = (refl, refl, refl, refl)
 
 -- "size 256, frame 65,537 has SEQ_CNT 0": 01 08, 800008, 01, SEQ_CNT 0000, OFFSET 01000000h; "FCP_DL 1,001: 3 fill bytes, F_CTL 88000B", 1,028 bytes in all
 pub frame-numbers :
     (header 256 (reading 0 65535 33553920 33553920 16777216 0) 32768 512
     ≡ 0x01 ∷ 0x00 ∷ 0x00 ∷ 0x01 ∷ 0x00 ∷ 0x00 ∷ 0x00 ∷ 0xef ∷ 0x08 ∷ 0x80 ∷ 0x00 ∷ 0x08 ∷ 0x01 ∷ 0x00 ∷ 0x00 ∷ 0x00 ∷ 0x12 ∷ 0x34 ∷ 0xff ∷ 0xff ∷ 0x01 ∷ 0x00 ∷ 0x00 ∷ 0x00 ∷ [])
-    × (given 2048 (reading 0 2 1024 1001 0 0) 0 1024 ≡ Sent 1028)
+    × (said 2048 (reading 0 2 1024 1001 0 0) 0 1024 ≡ Sent 1028)
     × (header 2048 (reading 0 2 1024 1001 0 0) 0 1024
     ≡ 0x01 ∷ 0x00 ∷ 0x00 ∷ 0x01 ∷ 0x00 ∷ 0x00 ∷ 0x00 ∷ 0xef ∷ 0x08 ∷ 0x88 ∷ 0x00 ∷ 0x0b ∷ 0x01 ∷ 0x00 ∷ 0x00 ∷ 0x00 ∷ 0x12 ∷ 0x34 ∷ 0xff ∷ 0xff ∷ 0x00 ∷ 0x00 ∷ 0x00 ∷ 0x00 ∷ [])
-unfolding lookupOf findLogin findExchange hasAddress hasId loginAt exchangeAt stepOf openStep placeOf readsMore hasMore coverOf nextReply frameOf sourceOf ownOf askedBy frameBytes bytesOf filled headerBytes dataHead answerHead nextOf nextBuffer onto
+unfolding lookupOf loginOf findLogin findExchange hasAddress hasId loginAt exchangeAt stepOf openStep windowPlace placeOf readsMore hasMore coverOf nextReply frameOf sourceOf ownOf askedBy frameBytes bytesOf filled headerBytes dataHead answerHead nextOf nextBuffer onto
 frame-numbers = (refl, refl, refl)

@@ -16,15 +16,15 @@ use Rattle.state.specs.declared.Port.{Port}
 use Rattle.state.specs.declared.Unit.{Unit}
 use Rattle.state.specs.declared.Standing.the-variants.{Open}
 use Rattle.state.specs.Changes.{loginAt, advanced}
+use Rattle.state.specs.Kinds.{kindRead}
 use Rattle.state.specs.Tables.{lookupOf}
 use Rattle.formed.specs.Formed.{total, nextBytes, wellFormed}
 use Rattle.formed.proofs.Advance.{Reads, is-read, then-sent}
 use Rattle.residual.specs.Residual.{residualOf}
 use Rattle.reply.specs.declared.Response.the-variants.{Status}
 use Rattle.reply.specs.declared.Reply.the-variants.{Respond, Data}
-use Rattle.serve.specs.declared.Step.the-variants.{Frame}
-use Rattle.serve.specs.Next.{hasMore, readsMore, position, placeOf, frameOf, nextReply, exchangeOf, fullOf, stepOf, nextOf}
-use Rattle.serve.specs.Whole.{piece, ends, Comes}
+use Rattle.serve.specs.Next.{hasMore, readsMore, position, placeOf, frameOf, nextReply, exchangeOf, fullOf, Frame, stepOf, nextOf}
+use Rattle.serve.specs.Whole.{piece, ends, Ends}
 use Rattle.serve.proofs.Steps.{Passed, given}
 use Rattle.serve.proofs.Keeping.{next-kept}
 use Rattle.serve.proofs.Frames.{runs, full-pos, total-small, more-left, port-is}
@@ -39,8 +39,8 @@ abbrev windowAt : List ℕ → ℕ → Exchange → List ℕ
 windowAt unit len e = cut unit (block e) len
 
 -- the next READ data are on the unit
-on-unit : (full : ℕ) (e : Exchange) (capacity : ℕ) → e .sent < total e → Reads capacity e → position e + nextBytes full e ≤ 512 * capacity
-on-unit full e capacity short reads = let w = reads .wanted in let c = reads .inside in omega arith
+on-unit : (full : ℕ) (e : Exchange) (u : Unit) → e .sent < total e → Reads u e → position e + nextBytes full e ≤ 512 * u .capacity
+on-unit full e u short reads = let w = reads .wanted in let c = reads .inside in omega arith
 
 -- where the frame's bytes begin in that window
 record Placed (unit : List ℕ) (len full : ℕ) (e : Exchange) : Type 0 where
@@ -48,10 +48,10 @@ record Placed (unit : List ℕ) (len full : ℕ) (e : Exchange) : Type 0 where
   is : placeOf full e (block e) (length (windowAt unit len e)) ≡ At k
 
 module _ (u : Unit) (unit : List ℕ) (long : length unit ≡ 512 * u .capacity) (len : ℕ) (least : 2560 ≤ len) (full : ℕ) (e : Exchange) (most : nextBytes full e ≤ 2048) (more : hasMore e ≡ true) where
-  placed-case : (b : Bool) → eqb (e .kind) 1 ≡ b → (b ≡ true → Reads (u .capacity) e) → Placed unit len full e
+  placed-case : (b : Bool) → eqb (e .kind) kindRead ≡ b → (b ≡ true → Reads u e) → Placed unit len full e
   unfolding placeOf readsMore
   placed-case true h reads =
-      let inside = on-unit full e (u .capacity) (more-left full e more) (reads refl) in
+      let inside = on-unit full e u (more-left full e more) (reads refl) in
       record {
         k = e .sent % 512;
         is = rw (h, more) (cut-covers unit (e .start) (e .sent) (nextBytes full e) len (omega arith) (rw long inside));
@@ -61,7 +61,7 @@ module _ (u : Unit) (unit : List ℕ) (long : length unit ≡ 512 * u .capacity)
 -- with nothing left, any window will do
 none-placed : (full : ℕ) (e : Exchange) → hasMore e ≡ false → placeOf full e 0 0 ≡ At (e .sent)
 unfolding placeOf readsMore
-none-placed full e h = rw (h, and-false (eqb (e .kind) 1))
+none-placed full e h = rw (h, and-false (eqb (e .kind) kindRead))
 
 more-reply : (full : ℕ) (e : Exchange) → hasMore e ≡ true → nextReply full e ≡ Data (frameOf full e)
 unfolding nextReply
@@ -87,38 +87,38 @@ module _ (u : Unit) (unit : List ℕ) (long : length unit ≡ 512 * u .capacity)
     proven : loginAt p i .proven ≡ 1
 
   -- nothing is left but the response
-  ends-here : (p : Port) → hasMore (exchangeOf p i j) ≡ false → Ready p → Comes u unit a x p
+  ends-here : (p : Port) → hasMore (exchangeOf p i j) ≡ false → Ready p → Ends u unit a x p
   ends-here p more ready =
       let e = exchangeOf p i j in
-      let step : Passed p a x 0 0 2136 i j (e .sent) = record { roomy = omega arith; stands = ready .stands; proven = ready .proven; short = omega arith; place = none-placed (fullOf p i) e more } in
-      record { pieces = []; response = _; after = _; run = ends 0 0 2136 i j (e .sent) (given step) (last-reply (fullOf p i) e more) }
+      let step : Passed p a x 0 0 i j (e .sent) = record { stands = ready .stands; proven = ready .proven; short = omega arith; place = none-placed (fullOf p i) e more } in
+      record { pieces = []; response = _; after = _; run = ends 0 0 i j (e .sent) (given step) (last-reply (fullOf p i) e more) }
 
   -- the window of the next data frame
   placed : (p : Port) → hasMore (exchangeOf p i j) ≡ true → Ready p → Placed unit len (fullOf p i) (exchangeOf p i j)
   placed p more ready =
       let e = exchangeOf p i j in
-      placed-case u unit long len least (fullOf p i) e (few (loginAt p i .size) (left e)) more (eqb (e .kind) 1) refl
-      (λ k. is-read (u .capacity) e (eqb-true (e .kind) 1 k) (runs u p a x i j (ready .formed) (ready .stands) .wanted))
+      placed-case u unit long len least (fullOf p i) e (few (loginAt p i .size) (left e)) more (eqb (e .kind) kindRead) refl
+      (λ k. is-read u e (eqb-true (e .kind) kindRead k) (runs u p a x i j (ready .formed) (ready .stands) .wanted))
     where
       few : (size m : ℕ) → min (min size 2048) m ≤ 2048
       few size m = omega arith
 
-  step-given : (p : Port) (at : Placed unit len (fullOf p i) (exchangeOf p i j)) → Ready p → stepOf p a x (block (exchangeOf p i j)) (length (windowAt unit len (exchangeOf p i j))) 2136 ≡ Frame i j (at .k)
-  step-given p at ready = given record { roomy = omega arith; stands = ready .stands; proven = ready .proven; short = short-window (512 * block (exchangeOf p i j)); place = at .is }
+  step-given : (p : Port) (at : Placed unit len (fullOf p i) (exchangeOf p i j)) → Ready p → stepOf p a x (block (exchangeOf p i j)) (length (windowAt unit len (exchangeOf p i j))) ≡ Frame i j (at .k)
+  step-given p at ready = given record { stands = ready .stands; proven = ready .proven; short = short-window (512 * block (exchangeOf p i j)); place = at .is }
     where
       short-window : (n : ℕ) → length (take len (drop n unit)) ≤ 65536
       short-window n = let t = length-take len (drop n unit) in omega arith
 
   -- a data frame, and what comes after it
-  module _ (p : Port) (start k : ℕ) (more : hasMore (exchangeOf p i j) ≡ true) (step : stepOf p a x start (length (cut unit start len)) 2136 ≡ Frame i j k) where
+  module _ (p : Port) (start k : ℕ) (more : hasMore (exchangeOf p i j) ≡ true) (step : stepOf p a x start (length (cut unit start len)) ≡ Frame i j k) where
     abbrev then : Port
-    then = nextOf u p a x start (cut unit start len) 2136 .port
+    then = nextOf u p a x start (cut unit start len) .port
 
     then-ready : Ready p → Ready then
     then-ready ready =
-        let is = port-is u p a x start (cut unit start len) 2136 i j k step in
+        let is = port-is u p a x start (cut unit start len) i j k step in
         record {
-          formed = next-kept u p a x start (cut unit start len) 2136 (ready .formed);
+          formed = next-kept u p a x start (cut unit start len) (ready .formed);
           stands = next-open u p a x i j (ready .stands) then more is;
           proven = next-proven u p a x i j (ready .stands) then more is ∙ ready .proven;
         }
@@ -131,28 +131,28 @@ module _ (u : Unit) (unit : List ℕ) (long : length unit ≡ 512 * u .capacity)
         let pos = full-pos u p a x i j w o in
         let short = more-left (fullOf p i) e more in
         let wrap = then-sent (fullOf p i) e pos (runs u p a x i j w o .fits) short (total-small u p a x i j w o) in
-        rw (next-exchange u p a x i j o then more (port-is u p a x start (cut unit start len) 2136 i j k step)) (fewer (fullOf p i) e pos short wrap)
+        rw (next-exchange u p a x i j o then more (port-is u p a x start (cut unit start len) i j k step)) (fewer (fullOf p i) e pos short wrap)
 
-    then-runs : Comes u unit a x then → Comes u unit a x p
+    then-runs : Ends u unit a x then → Ends u unit a x p
     then-runs rest =
         record {
           pieces = _;
           response = rest .response;
           after = rest .after;
-          run = piece start len 2136 i j k (frameOf (fullOf p i) (exchangeOf p i j)) step (more-reply (fullOf p i) (exchangeOf p i j) more) (rest .run);
+          run = piece start len i j k (frameOf (fullOf p i) (exchangeOf p i j)) step (more-reply (fullOf p i) (exchangeOf p i j) more) (rest .run);
         }
 
-  comes-next : (p : Port) (b : Bool) → hasMore (exchangeOf p i j) ≡ b → Ready p → ((q : Port) → Ready q → left (exchangeOf q i j) < left (exchangeOf p i j) → Comes u unit a x q) → Comes u unit a x p
+  comes-next : (p : Port) (b : Bool) → hasMore (exchangeOf p i j) ≡ b → Ready p → ((q : Port) → Ready q → left (exchangeOf q i j) < left (exchangeOf p i j) → Ends u unit a x q) → Ends u unit a x p
   comes-next p false more ready rest = ends-here p more ready
   comes-next p true more ready rest = with-place (placed p more ready)
     where
-      with-place : Placed unit len (fullOf p i) (exchangeOf p i j) → Comes u unit a x p
+      with-place : Placed unit len (fullOf p i) (exchangeOf p i j) → Ends u unit a x p
       with-place at =
           let start = block (exchangeOf p i j) in
           let step = step-given p at ready in
           then-runs p start (at .k) more step (rest (then p start (at .k) more step) (then-ready p start (at .k) more step ready) (then-fewer p start (at .k) more step ready))
 
-  comes : (fuel : ℕ) (p : Port) → left (exchangeOf p i j) ≤ fuel → Ready p → Comes u unit a x p
+  comes : (fuel : ℕ) (p : Port) → left (exchangeOf p i j) ≤ fuel → Ready p → Ends u unit a x p
   comes zero p h ready = comes-next p (hasMore (exchangeOf p i j)) refl ready (λ q on l. absurd (no-fewer (left (exchangeOf q i j)) (left (exchangeOf p i j)) h l))
     where
       no-fewer : (m n : ℕ) → n ≤ 0 → m < n → ⊥
@@ -163,6 +163,6 @@ module _ (u : Unit) (unit : List ℕ) (long : length unit ≡ 512 * u .capacity)
       one-fewer m n h l = omega arith
 
 -- every open exchange of a proven login can be served to its end, of whatever kind it is and whatever was sent of it
-pub whole-comes : (u : Unit) (unit : List ℕ) (p : Port) (a x i j : ℕ) → wellFormed u p ≡ true → length unit ≡ 512 * u .capacity → lookupOf p a x ≡ Open i j → loginAt p i .proven ≡ 1 → Comes u unit a x p
-whole-comes u unit p a x i j w long o proven =
+pub run-comes : (u : Unit) (unit : List ℕ) (p : Port) (a x i j : ℕ) → wellFormed u p ≡ true → length unit ≡ 512 * u .capacity → lookupOf p a x ≡ Open i j → loginAt p i .proven ≡ 1 → Ends u unit a x p
+run-comes u unit p a x i j w long o proven =
     comes u unit long 65536 (omega arith) (omega arith) a x i j (left (exchangeOf p i j)) p (le-refl (left (exchangeOf p i j))) (record { formed = w; stands = o; proven = proven })

@@ -16,7 +16,8 @@ use Rattle.state.specs.declared.Exchange.{Exchange}
 use Rattle.state.specs.declared.Port.{Port}
 use Rattle.state.specs.declared.Unit.{Unit}
 use Rattle.state.specs.declared.Standing.the-variants.{Open}
-use Rattle.state.specs.Changes.{emptyExchange, emptyLogin, loginAt, exchangeAt}
+use Rattle.state.specs.Changes.{emptyExchange, emptyLogin, ownOf, loginAt, exchangeAt}
+use Rattle.state.specs.Kinds.{kindRead}
 use Rattle.state.specs.Tables.{lookupOf}
 use Rattle.state.proofs.Places.{open-used, open-open, login-inside, exchange-inside}
 use Rattle.formed.specs.Formed.{total, nextBytes, framesOf, exchangeFine, loginFine, wellFormed}
@@ -28,29 +29,28 @@ use Rattle.reply.specs.declared.Response.{Response}
 use Rattle.reply.specs.declared.Response.the-variants.{Status}
 use Rattle.reply.specs.declared.Reply.the-variants.{Respond, Data}
 use Rattle.reply.specs.Payload.{payloadOf}
-use Rattle.serve.specs.declared.Step.the-variants.{Frame}
 use Rattle.serve.specs.Made.{madeBytes}
-use Rattle.serve.specs.Next.{hasMore, readsMore, position, placeOf, frameOf, nextReply, sourceOf, ownOf, askedBy, exchangeOf, fullOf, stepOf, portAfter, nextAt, nextOf}
+use Rattle.serve.specs.Next.{hasMore, readsMore, position, placeOf, frameOf, nextReply, sourceOf, askedBy, exchangeOf, fullOf, Frame, stepOf, movedOn, nextAt, nextOf}
 use Rattle.serve.specs.Whole.{dataOf, payloadAt}
 use Rattle.serve.proofs.Keeping.{full-some}
 
 -- what a well-formed port asks of an open exchange and its login
 module _ (u : Unit) (p : Port) (a x i j : ℕ) (w : wellFormed u p ≡ true) (o : lookupOf p a x ≡ Open i j) where
-  used : Used (u .capacity) (p .address) (loginAt p i)
+  used : Used u (p .address) (loginAt p i)
   unfolding loginAt
-  used = fine-used (open-used p a x i j o) (all-at (loginFine (u .capacity) (p .address)) emptyLogin (p .logins) i (login-inside p a x i j o) (formed-parts w .logins))
+  used = fine-used (open-used p a x i j o) (all-at (loginFine u (p .address)) emptyLogin (p .logins) i (login-inside p a x i j o) (formed-parts w .logins))
 
-  pub runs : Running (u .capacity) (fullOf p i) (loginAt p i .paired) (exchangeOf p i j)
+  pub runs : Running u (fullOf p i) (loginAt p i .paired) (exchangeOf p i j)
   unfolding exchangeAt
   runs =
-      running (u .capacity) (fullOf p i) (loginAt p i .paired) (exchangeOf p i j) (open-open p a x i j o)
-      (all-at (exchangeFine (u .capacity) (fullOf p i) (loginAt p i .paired)) emptyExchange (loginAt p i .places) j (exchange-inside p a x i j o) (used .exchanges))
+      running u (fullOf p i) (loginAt p i .paired) (exchangeOf p i j) (open-open p a x i j o)
+      (all-at (exchangeFine u (fullOf p i) (loginAt p i .paired)) emptyExchange (loginAt p i .places) j (exchange-inside p a x i j o) (used .exchanges))
 
   pub full-pos : 0 < fullOf p i
   full-pos = full-some used
 
   pub total-small : total (exchangeOf p i j) < 4294967296
-  total-small = let s = wanted-small (u .capacity) (exchangeOf p i j) (runs .wanted) in omega arith
+  total-small = let s = wanted-small u (exchangeOf p i j) (runs .wanted) in omega arith
 
 -- a data frame is sent while there are data
 data-case : (b : Bool) (f d : DataFrame) (r : Response) → cond b (Data f) (Respond r) ≡ Data d → (b ≡ true) × (d ≡ f)
@@ -87,7 +87,7 @@ next-counted u p a x i j d w o h =
 
 -- the bytes of the frame are those of the exchange's data from what was sent on
 module _ (u : Unit) (unit : List ℕ) (full : ℕ) (e : Exchange) (start len k : ℕ) (more : hasMore e ≡ true) (place : placeOf full e start (length (cut unit start len)) ≡ At k) where
-  source-case : (b : Bool) → eqb (e .kind) 1 ≡ b
+  source-case : (b : Bool) → eqb (e .kind) kindRead ≡ b
       → take (nextBytes full e) (drop k (cond b (cut unit start len) (madeBytes u (e .kind)))) ≡ take (nextBytes full e) (drop (e .sent) (cond b (drop (512 * e .start) unit) (madeBytes u (e .kind))))
   unfolding placeOf readsMore
   source-case true r =
@@ -101,7 +101,7 @@ module _ (u : Unit) (unit : List ℕ) (full : ℕ) (e : Exchange) (start len k :
 
   pub source-is : take (nextBytes full e) (sourceOf u e k (cut unit start len)) ≡ take (nextBytes full e) (drop (e .sent) (dataOf u unit e))
   unfolding sourceOf
-  source-is = source-case (eqb (e .kind) 1) refl
+  source-is = source-case (eqb (e .kind) kindRead) refl
 
 pub payload-is : (u : Unit) (p : Port) (a x i j k : ℕ) (W : List ℕ) (d : DataFrame) → nextReply (fullOf p i) (exchangeOf p i j) ≡ Data d
     → payloadAt u p a x i j k W ≡ take (nextBytes (fullOf p i) (exchangeOf p i j)) (sourceOf u (exchangeOf p i j) k W)
@@ -114,6 +114,6 @@ payload-is u p a x i j k W d h =
     ∙ ap (λ (m : ℕ). take m (sourceOf u (exchangeOf p i j) k W)) least
 
 -- the port after a frame that is given
-pub port-is : (u : Unit) (p : Port) (a x start : ℕ) (W : List ℕ) (room i j k : ℕ) → stepOf p a x start (length W) room ≡ Frame i j k → nextOf u p a x start W room .port ≡ portAfter p i j
+pub port-is : (u : Unit) (p : Port) (a x start : ℕ) (W : List ℕ) (i j k : ℕ) → stepOf p a x start (length W) ≡ Frame i j k → nextOf u p a x start W .port ≡ movedOn p i j
 unfolding nextOf
-port-is u p a x start W room i j k e = ap (λ s. nextAt s u p a x W .port) e
+port-is u p a x start W i j k e = ap (λ s. nextAt s u p a x W .port) e

@@ -18,38 +18,36 @@ use Rattle.formed.proofs.Parts.{Used, fine-used, used-fine}
 use Rattle.formed.proofs.Sizes.{stored-size}
 use Rattle.formed.proofs.Keeping.{change-used, end-used, update-kept}
 use Rattle.formed.proofs.Advance.{advance-fine}
-use Rattle.serve.specs.declared.Step.{Step}
-use Rattle.serve.specs.declared.Step.the-variants.{Refused, Frame}
-use Rattle.serve.specs.Next.{hasMore, nextExchange, stepOf, portAfter, nextAt, nextOf}
+use Rattle.serve.specs.Next.{hasMore, nextExchange, Step, Refused, Frame, stepOf, movedOn, nextAt, nextOf}
 use Rattle.serve.proofs.Steps.{passed}
 
 -- a full frame to a login that is fine has bytes
-pub full-some : {capacity own : ℕ} {l : Login} → Used capacity own l → 0 < fullFrame (l .size)
-full-some {l = l} u = let s = stored-size l (u .params) in omega arith
+pub full-some : {u : Unit} {own : ℕ} {l : Login} → Used u own l → 0 < fullFrame (l .size)
+full-some {l = l} used = let s = stored-size l (used .params) in omega arith
 
 -- the exchange one data frame on, or ended, at its place
-next-used : {capacity own : ℕ} {l : Login} (j : ℕ) (b : Bool) → hasMore (exchangeAt l j) ≡ b → isClosed (exchangeAt l j) ≡ false → Used capacity own l
-    → Used capacity own (withExchange l j (cond b (advanced (exchangeAt l j) (nextBytes (fullFrame (l .size)) (exchangeAt l j))) emptyExchange))
+next-used : {u : Unit} {own : ℕ} {l : Login} (j : ℕ) (b : Bool) → hasMore (exchangeAt l j) ≡ b → isClosed (exchangeAt l j) ≡ false → Used u own l
+    → Used u own (withExchange l j (cond b (advanced (exchangeAt l j) (nextBytes (fullFrame (l .size)) (exchangeAt l j))) emptyExchange))
 unfolding hasMore
-next-used {capacity} {own} {l} j true more op u =
+next-used {u} {own} {l} j true more op used =
     let e = exchangeAt l j in
-    change-used u j (advanced e (nextBytes (fullFrame (l .size)) e)) refl refl (advance-fine capacity (fullFrame (l .size)) (l .paired) e (full-some u) op (ltb-true (e .sent) (total e) more))
-next-used j false more op u = end-used u j
+    change-used used j (advanced e (nextBytes (fullFrame (l .size)) e)) refl refl (advance-fine u (fullFrame (l .size)) (l .paired) e (full-some used) op (ltb-true (e .sent) (total e) more))
+next-used j false more op used = end-used used j
 
 -- the port after a frame
-pub after-kept : (u : Unit) (p : Port) (a x i j : ℕ) → lookupOf p a x ≡ Open i j → wellFormed u p ≡ true → wellFormed u (portAfter p i j) ≡ true
-unfolding portAfter nextExchange withExchange
+pub after-kept : (u : Unit) (p : Port) (a x i j : ℕ) → lookupOf p a x ≡ Open i j → wellFormed u p ≡ true → wellFormed u (movedOn p i j) ≡ true
+unfolding movedOn nextExchange withExchange
 after-kept u p a x i j o w =
     let l = loginAt p i in
     let used = open-used p a x i j o in
     let m = withExchange l j (nextExchange (fullFrame (l .size)) (exchangeAt l j)) in
     update-kept u p w i m refl refl (λ f. used-fine {l = m} used (next-used j (hasMore (exchangeAt l j)) refl (open-open p a x i j o) (fine-used used f)))
 
-next-at : (u : Unit) (p : Port) (a x start : ℕ) (W : List ℕ) (room : ℕ) (s : Step) → stepOf p a x start (length W) room ≡ s → wellFormed u p ≡ true → wellFormed u (nextAt s u p a x W .port) ≡ true
-next-at u p a x start W room (Refused g) e w = w
-next-at u p a x start W room (Frame i j k) e w = after-kept u p a x i j (passed p a x start (length W) room i j k e .stands) w
+next-at : (u : Unit) (p : Port) (a x start : ℕ) (W : List ℕ) (s : Step) → stepOf p a x start (length W) ≡ s → wellFormed u p ≡ true → wellFormed u (nextAt s u p a x W .port) ≡ true
+next-at u p a x start W (Refused y) e w = w
+next-at u p a x start W (Frame i j k) e w = after-kept u p a x i j (passed p a x start (length W) i j k e .stands) w
 
 -- no call, refused or not, makes a state ill formed
-pub next-kept : (u : Unit) (p : Port) (a x start : ℕ) (W : List ℕ) (room : ℕ) → wellFormed u p ≡ true → wellFormed u (nextOf u p a x start W room .port) ≡ true
+pub next-kept : (u : Unit) (p : Port) (a x start : ℕ) (W : List ℕ) → wellFormed u p ≡ true → wellFormed u (nextOf u p a x start W .port) ≡ true
 unfolding nextOf
-next-kept u p a x start W room w = next-at u p a x start W room (stepOf p a x start (length W) room) refl w
+next-kept u p a x start W w = next-at u p a x start W (stepOf p a x start (length W)) refl w

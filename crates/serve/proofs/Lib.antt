@@ -1,5 +1,7 @@
 pub mod Steps
 pub mod Ways
+pub mod Turns
+pub mod Refusals
 pub mod Keeping
 pub mod Moving
 pub mod Frames

@@ -16,6 +16,7 @@ use Rattle.state.specs.declared.Port.{Port}
 use Rattle.state.specs.declared.Unit.{Unit}
 use Rattle.state.specs.declared.Standing.the-variants.{Open}
 use Rattle.state.specs.Changes.{emptyExchange, loginAt, withLogin, withExchange, endedAt, advanced}
+use Rattle.state.specs.Kinds.{kindRead, kindInquiryOther, kindCapacity, kindSenseOther}
 use Rattle.state.specs.Tables.{hasId, lookupOf}
 use Rattle.state.proofs.Places.{open-has, exchange-stored, login-stored, lookup-same, login-twice, exchange-twice}
 use Rattle.formed.specs.Formed.{fullFrame, total, nextBytes, framesOf, wantedFits, wellFormed}
@@ -26,17 +27,16 @@ use Rattle.reply.specs.declared.Response.{Response}
 use Rattle.reply.specs.declared.Response.the-variants.{Status}
 use Rattle.reply.specs.declared.Reply.the-variants.{Respond, Data}
 use Rattle.reply.specs.Payload.{senseBytes}
-use Rattle.serve.specs.declared.Step.the-variants.{Frame}
 use Rattle.serve.specs.Made.{inquiryBytes, capacityBytes, senseOf, madeBytes}
-use Rattle.serve.specs.Next.{hasMore, frameOf, nextReply, nextExchange, exchangeOf, fullOf, stepOf, portAfter, nextOf}
-use Rattle.serve.specs.Whole.{Piece, payloadAt, Run, piece, ends, joined, InOrder, none, one, dataOf, Served, AllFrames}
+use Rattle.serve.specs.Next.{hasMore, frameOf, nextReply, nextExchange, exchangeOf, fullOf, Frame, stepOf, movedOn, nextOf}
+use Rattle.serve.specs.Whole.{Piece, payloadAt, Run, piece, ends, joined, InOrder, none, one, dataOf, Rest, AllFrames}
 use Rattle.serve.proofs.Steps.{passed}
 use Rattle.serve.proofs.Keeping.{next-kept}
 use Rattle.serve.proofs.Frames.{runs, full-pos, total-small, is-data, is-response, more-left, none-left, next-counted, source-is, payload-is, port-is}
 
 -- nothing is left but the response
-served-none : (u : Unit) (unit : List ℕ) (full : ℕ) (e : Exchange) (r : Response) → e .sent ≡ total e → r ≡ Status 0x00 (residualOf (e .wanted) (e .expected)) → Served u unit full e [] r
-served-none u unit full e r s h =
+rest-none : (u : Unit) (unit : List ℕ) (full : ℕ) (e : Exchange) (r : Response) → e .sent ≡ total e → r ≡ Status 0x00 (residualOf (e .wanted) (e .expected)) → Rest u unit full e [] r
+rest-none u unit full e r s h =
     let z : total e - e .sent ≡ 0 = omega arith in
     record { bytes = rw z; order = none; frames = ap (λ (n : ℕ). framesOf n full + 0) s ∙ plus-none (framesOf (total e) full); response = h }
   where
@@ -44,11 +44,11 @@ served-none u unit full e r s h =
     plus-none n = omega arith
 
 -- a data frame, and what is left after it
-served-one : (u : Unit) (unit : List ℕ) (full : ℕ) (e : Exchange) (f : Piece) (fs : List Piece) (r : Response) → 0 < full → e .sent < total e → total e ≤ length (dataOf u unit e)
+rest-one : (u : Unit) (unit : List ℕ) (full : ℕ) (e : Exchange) (f : Piece) (fs : List Piece) (r : Response) → 0 < full → e .sent < total e → total e ≤ length (dataOf u unit e)
     → (e .sent + nextBytes full e) % 4294967296 ≡ e .sent + nextBytes full e → framesOf (e .sent + nextBytes full e) full ≡ framesOf (e .sent) full + 1
     → f .offset ≡ e .sent → f .count ≡ framesOf (e .sent) full % 65536 → f .payload ≡ take (nextBytes full e) (drop (e .sent) (dataOf u unit e))
-    → Served u unit full (advanced e (nextBytes full e)) fs r → Served u unit full e (f ∷ fs) r
-served-one u unit full e f fs r pos short enough wrap number at count payload rest =
+    → Rest u unit full (advanced e (nextBytes full e)) fs r → Rest u unit full e (f ∷ fs) r
+rest-one u unit full e f fs r pos short enough wrap number at count payload rest =
     let n = nextBytes full e in
     let all = dataOf u unit e in
     let left : n + (total e - (e .sent + n)) ≡ total e - e .sent = omega arith in
@@ -73,33 +73,33 @@ offset-is full e d h = ap (λ f. f .offset) h
 
 -- the port after one frame of an open exchange
 module _ (u : Unit) (p : Port) (a x i j : ℕ) (o : lookupOf p a x ≡ Open i j) where
-  advanced-port : hasMore (exchangeOf p i j) ≡ true → portAfter p i j ≡ withLogin p i (withExchange (loginAt p i) j (advanced (exchangeOf p i j) (nextBytes (fullOf p i) (exchangeOf p i j))))
-  unfolding portAfter nextExchange
+  advanced-port : hasMore (exchangeOf p i j) ≡ true → movedOn p i j ≡ withLogin p i (withExchange (loginAt p i) j (advanced (exchangeOf p i j) (nextBytes (fullOf p i) (exchangeOf p i j))))
+  unfolding movedOn nextExchange
   advanced-port more = rw more
 
-  pub ended-port : hasMore (exchangeOf p i j) ≡ false → portAfter p i j ≡ withLogin p i (endedAt (loginAt p i) j)
-  unfolding portAfter nextExchange
+  pub ended-port : hasMore (exchangeOf p i j) ≡ false → movedOn p i j ≡ withLogin p i (endedAt (loginAt p i) j)
+  unfolding movedOn nextExchange
   ended-port more = rw more
 
   -- the exchange, one data frame on
-  module _ (q : Port) (more : hasMore (exchangeOf p i j) ≡ true) (is : q ≡ portAfter p i j) where
+  module _ (q : Port) (more : hasMore (exchangeOf p i j) ≡ true) (is : q ≡ movedOn p i j) where
     next : Exchange
     next = advanced (exchangeOf p i j) (nextBytes (fullOf p i) (exchangeOf p i j))
 
-    moved-on : q ≡ withLogin p i (withExchange (loginAt p i) j next)
+    is-on : q ≡ withLogin p i (withExchange (loginAt p i) j next)
     unfolding next
-    moved-on = is ∙ advanced-port more
+    is-on = is ∙ advanced-port more
 
     pub next-open : lookupOf q a x ≡ Open i j
     unfolding hasId next
-    next-open = ap (λ s. lookupOf s a x) moved-on ∙ lookup-same p a x i j o next (open-has p a x i j o)
+    next-open = ap (λ s. lookupOf s a x) is-on ∙ lookup-same p a x i j o next (open-has p a x i j o)
 
     pub next-exchange : exchangeOf q i j ≡ advanced (exchangeOf p i j) (nextBytes (fullOf p i) (exchangeOf p i j))
     unfolding next
-    next-exchange = ap (λ s. exchangeOf s i j) moved-on ∙ exchange-stored p a x i j o next
+    next-exchange = ap (λ s. exchangeOf s i j) is-on ∙ exchange-stored p a x i j o next
 
     next-login : loginAt q i ≡ withExchange (loginAt p i) j next
-    next-login = ap (λ s. loginAt s i) moved-on ∙ login-stored p a x i j o (withExchange (loginAt p i) j next)
+    next-login = ap (λ s. loginAt s i) is-on ∙ login-stored p a x i j o (withExchange (loginAt p i) j next)
 
     pub next-full : fullOf q i ≡ fullOf p i
     unfolding withExchange
@@ -113,48 +113,48 @@ module _ (u : Unit) (p : Port) (a x i j : ℕ) (o : lookupOf p a x ≡ Open i j)
     pub next-ended : withLogin q i (endedAt (loginAt q i) j) ≡ withLogin p i (endedAt (loginAt p i) j)
     next-ended =
         ap (λ l. withLogin q i (endedAt l j)) next-login
-        ∙ ap (λ s. withLogin s i (endedAt (withExchange (loginAt p i) j next) j)) moved-on
+        ∙ ap (λ s. withLogin s i (endedAt (withExchange (loginAt p i) j next) j)) is-on
         ∙ login-twice p i (withExchange (loginAt p i) j next) (endedAt (withExchange (loginAt p i) j next) j)
         ∙ ap (withLogin p i) (exchange-twice (loginAt p i) j next emptyExchange)
 
 module _ (u : Unit) (unit : List ℕ) (a x i j : ℕ) where
   -- whatever windows: from a well-formed port on, the frames of an exchange are what is left of it, and the port after them is the one in which it has ended
   pub run-serves : {p q : Port} {pieces : List Piece} {r : Response} → wellFormed u p ≡ true → lookupOf p a x ≡ Open i j → total (exchangeOf p i j) ≤ length (dataOf u unit (exchangeOf p i j))
-      → Run u unit a x p pieces r q → (Served u unit (fullOf p i) (exchangeOf p i j) pieces r) × (q ≡ withLogin p i (endedAt (loginAt p i) j))
-  run-serves {p} {q} {pieces} {r} w o enough (ends start len room m n k step reply) =
-      let stands = passed p a x start (length (cut unit start len)) room m n k step .stands in
+      → Run u unit a x p pieces r q → (Rest u unit (fullOf p i) (exchangeOf p i j) pieces r) × (q ≡ withLogin p i (endedAt (loginAt p i) j))
+  run-serves {p} {q} {pieces} {r} w o enough (ends start len m n k step reply) =
+      let stands = passed p a x start (length (cut unit start len)) m n k step .stands in
       let is-i : m ≡ i = cc in
       let is-j : n ≡ j = cc in
       let e = exchangeOf p i j in
       let said : nextReply (fullOf p i) e ≡ Respond r = cc in
-      let is-step : stepOf p a x start (length (cut unit start len)) room ≡ Frame i j k = cc in
+      let is-step : stepOf p a x start (length (cut unit start len)) ≡ Frame i j k = cc in
       let t = is-response (fullOf p i) e r said in
       let within = sent-within (fullOf p i) e (runs u p a x i j w o .fits) in
       let done = none-left (fullOf p i) e (t .0) in
-      (served-none u unit (fullOf p i) e r (omega arith) (t .1), port-is u p a x start (cut unit start len) room i j k is-step ∙ ended-port u p a x i j o (t .0))
-  run-serves {p} {q} {pieces} {r} w o enough (piece {pieces = fs} start len room m n k d step reply rest) =
+      (rest-none u unit (fullOf p i) e r (omega arith) (t .1), port-is u p a x start (cut unit start len) i j k is-step ∙ ended-port u p a x i j o (t .0))
+  run-serves {p} {q} {pieces} {r} w o enough (piece {pieces = fs} start len m n k d step reply rest) =
       let W = cut unit start len in
-      let stands = passed p a x start (length W) room m n k step .stands in
+      let stands = passed p a x start (length W) m n k step .stands in
       let is-i : m ≡ i = cc in
       let is-j : n ≡ j = cc in
       let e = exchangeOf p i j in
       let full = fullOf p i in
       let said : nextReply full e ≡ Data d = cc in
-      let is-step : stepOf p a x start (length W) room ≡ Frame i j k = cc in
+      let is-step : stepOf p a x start (length W) ≡ Frame i j k = cc in
       let t = is-data full e d said in
-      let p₁ = nextOf u p a x start W room .port in
-      let is = port-is u p a x start W room i j k is-step in
+      let p₁ = nextOf u p a x start W .port in
+      let is = port-is u p a x start W i j k is-step in
       let e-is = next-exchange u p a x i j o p₁ (t .0) is in
       let enough₁ : total (exchangeOf p₁ i j) ≤ length (dataOf u unit (exchangeOf p₁ i j)) = rw e-is enough in
-      let more = run-serves (next-kept u p a x start W room w) (next-open u p a x i j o p₁ (t .0) is) enough₁ rest in
-      let left : Served u unit full (advanced e (nextBytes full e)) fs r = rw (next-full u p a x i j o p₁ (t .0) is, e-is) at (more .0) in
+      let more = run-serves (next-kept u p a x start W w) (next-open u p a x i j o p₁ (t .0) is) enough₁ rest in
+      let left : Rest u unit full (advanced e (nextBytes full e)) fs r = rw (next-full u p a x i j o p₁ (t .0) is, e-is) at (more .0) in
       let fits = runs u p a x i j w o .fits in
       let pos = full-pos u p a x i j w o in
       let small = total-small u p a x i j w o in
       let short = more-left full e (t .0) in
       let here : payloadAt u p a x m n k W ≡ payloadAt u p a x i j k W = ap (λ (s : ℕ). payloadAt u p a x s n k W) is-i ∙ ap (λ (s : ℕ). payloadAt u p a x i s k W) is-j in
-      let payload = here ∙ payload-is u p a x i j k W d said ∙ source-is u unit full e start len k (t .0) (passed p a x start (length W) room i j k is-step .place) in (
-        served-one u unit full e _ fs r pos short enough (then-sent full e pos fits short small) (frames-then full e pos fits short small) (offset-is full e d (t .1)) (next-counted u p a x i j d w o said) payload left,
+      let payload = here ∙ payload-is u p a x i j k W d said ∙ source-is u unit full e start len k (t .0) (passed p a x start (length W) i j k is-step .place) in (
+        rest-one u unit full e _ fs r pos short enough (then-sent full e pos fits short small) (frames-then full e pos fits short small) (offset-is full e d (t .1)) (next-counted u p a x i j d w o said) payload left,
         more .1 ∙ next-ended u p a x i j o p₁ (t .0) is,
       )
 
@@ -178,40 +178,40 @@ all-frames u unit p q a x i j pieces r from w o is enough fresh run =
     )
 
 -- all data of a READ are on the unit
-read-enough : (capacity : ℕ) (unit : List ℕ) (e : Exchange) → length unit ≡ 512 * capacity → Reads capacity e → total e ≤ length (drop (512 * e .start) unit)
-read-enough capacity unit e long reads =
+read-enough : (u : Unit) (unit : List ℕ) (e : Exchange) → length unit ≡ 512 * u .capacity → Reads u e → total e ≤ length (drop (512 * e .start) unit)
+read-enough u unit e long reads =
     let d = length-drop (512 * e .start) unit in
     let w = reads .wanted in
     let n = reads .inside in
     omega arith
 
 -- a READ of which nothing was sent yet, whatever windows of the unit are lent: its frames are the bytes of its blocks, to its total, each once and in order; then comes its response, and its place is free
-pub whole-read : (u : Unit) (unit : List ℕ) (p q : Port) (a x i j : ℕ) (pieces : List Piece) (r : Response) → wellFormed u p ≡ true → length unit ≡ 512 * u .capacity
-    → lookupOf p a x ≡ Open i j → exchangeOf p i j .kind ≡ 1 → exchangeOf p i j .sent ≡ 0 → Run u unit a x p pieces r q
+pub run-read : (u : Unit) (unit : List ℕ) (p q : Port) (a x i j : ℕ) (pieces : List Piece) (r : Response) → wellFormed u p ≡ true → length unit ≡ 512 * u .capacity
+    → lookupOf p a x ≡ Open i j → exchangeOf p i j .kind ≡ kindRead → exchangeOf p i j .sent ≡ 0 → Run u unit a x p pieces r q
     → (AllFrames (drop (512 * exchangeOf p i j .start) unit) (fullOf p i) (exchangeOf p i j) pieces r) × (q ≡ withLogin p i (endedAt (loginAt p i) j))
-whole-read u unit p q a x i j pieces r w long o kind fresh run =
+run-read u unit p q a x i j pieces r w long o kind fresh run =
     let e = exchangeOf p i j in
-    all-frames u unit p q a x i j pieces r (drop (512 * e .start) unit) w o (rw (eq-eqb (e .kind) 1 kind))
-    (read-enough (u .capacity) unit e long (is-read (u .capacity) e kind (runs u p a x i j w o .wanted))) fresh run
+    all-frames u unit p q a x i j pieces r (drop (512 * e .start) unit) w o (rw (eq-eqb (e .kind) kindRead kind))
+    (read-enough u unit e long (is-read u e kind (runs u p a x i j w o .wanted))) fresh run
 
 -- made data are as many as any command wants of them
 made-case : (b c : Bool) (kind n : ℕ) (x y z : List ℕ) → length x ≡ 36 → length y ≡ 8 → length z ≡ 18
-    → cond b (leb 1 n && leb n 36) (cond c (eqb n 8) (leb kind 8 && leb 1 n && leb n 18)) ≡ true → n ≤ length (cond b x (cond c y z))
+    → cond b (leb 1 n && leb n 36) (cond c (eqb n 8) (leb kind kindSenseOther && leb 1 n && leb n 18)) ≡ true → n ≤ length (cond b x (cond c y z))
 made-case true c kind n x y z lx ly lz h = let m : n ≤ 36 = leb-true n 36 (and-right (leb 1 n) (leb n 36) h) in omega arith
 made-case false true kind n x y z lx ly lz h = let m : n ≡ 8 = eqb-true n 8 h in omega arith
-made-case false false kind n x y z lx ly lz h = let m : n ≤ 18 = leb-true n 18 (and-right (leb kind 8 && leb 1 n) (leb n 18) h) in omega arith
+made-case false false kind n x y z lx ly lz h = let m : n ≤ 18 = leb-true n 18 (and-right (leb kind kindSenseOther && leb 1 n) (leb n 18) h) in omega arith
 
-made-enough : (u : Unit) (e : Exchange) → length (u .identity) ≡ 28 → eqb (e .kind) 1 ≡ false → wantedFits (u .capacity) e ≡ true → total e ≤ length (madeBytes u (e .kind))
+made-enough : (u : Unit) (e : Exchange) → length (u .identity) ≡ 28 → eqb (e .kind) kindRead ≡ false → wantedFits u e ≡ true → total e ≤ length (madeBytes u (e .kind))
 unfolding wantedFits madeBytes inquiryBytes capacityBytes senseBytes
 made-enough u e long other h =
-    let m = made-case (leb (e .kind) 3) (eqb (e .kind) 4) (e .kind) (e .wanted) (inquiryBytes (u .identity) (e .kind)) (capacityBytes (u .capacity)) (senseBytes (senseOf (e .kind))) (rw long) refl refl (rw other at h) in
+    let m = made-case (leb (e .kind) kindInquiryOther) (eqb (e .kind) kindCapacity) (e .kind) (e .wanted) (inquiryBytes (u .identity) (e .kind)) (capacityBytes (u .capacity)) (senseBytes (senseOf (e .kind))) (rw long) refl refl (rw other at h) in
     omega arith
 
 -- the same of made data: all frames of an INQUIRY, a READ CAPACITY or a REQUEST SENSE
-pub whole-made : (u : Unit) (unit : List ℕ) (p q : Port) (a x i j : ℕ) (pieces : List Piece) (r : Response) → wellFormed u p ≡ true → length (u .identity) ≡ 28
-    → lookupOf p a x ≡ Open i j → (exchangeOf p i j .kind ≡ 1 → ⊥) → exchangeOf p i j .sent ≡ 0 → Run u unit a x p pieces r q
+pub run-made : (u : Unit) (unit : List ℕ) (p q : Port) (a x i j : ℕ) (pieces : List Piece) (r : Response) → wellFormed u p ≡ true → length (u .identity) ≡ 28
+    → lookupOf p a x ≡ Open i j → (exchangeOf p i j .kind ≡ kindRead → ⊥) → exchangeOf p i j .sent ≡ 0 → Run u unit a x p pieces r q
     → (AllFrames (madeBytes u (exchangeOf p i j .kind)) (fullOf p i) (exchangeOf p i j) pieces r) × (q ≡ withLogin p i (endedAt (loginAt p i) j))
-whole-made u unit p q a x i j pieces r w long o kind fresh run =
+run-made u unit p q a x i j pieces r w long o kind fresh run =
     let e = exchangeOf p i j in
-    let other = ne-eqb (e .kind) 1 kind in
+    let other = ne-eqb (e .kind) kindRead kind in
     all-frames u unit p q a x i j pieces r (madeBytes u (e .kind)) w o (rw other) (made-enough u e long other (runs u p a x i j w o .wanted)) fresh run

@@ -4,7 +4,6 @@ use mathlib.Core.Bool.{cond, not}
 use mathlib.Core.List.{List}
 use lib.Dec.{eqb}
 use lib.ListN.{length}
-use Rattle.tables.specs.declared.Found.{Found}
 use Rattle.tables.specs.declared.Found.the-variants.{At}
 use Rattle.tables.specs.Lists.{onFound}
 use Rattle.frame.specs.declared.Header.{Header}
@@ -12,6 +11,7 @@ use Rattle.refusal.specs.declared.Refusal.the-variants.{NoExchange, Unproven, B
 use Rattle.refusal.specs.declared.Said.the-variants.{Sent}
 use Rattle.state.specs.declared.Exchange.{Exchange}
 use Rattle.state.specs.declared.Login.{Login}
+use Rattle.state.specs.declared.Port.{Port}
 use Rattle.state.specs.declared.Change.the-variants.{Keep}
 use Rattle.state.specs.Changes.{exchangeAt, withExchange}
 use Rattle.state.specs.Tables.{findExchange}
@@ -20,8 +20,8 @@ use Rattle.reply.specs.declared.Reply.{Reply}
 use Rattle.reply.specs.Reply.{sentOf, writtenOf}
 use Rattle.calls.specs.declared.View.{View}
 use Rattle.calls.specs.declared.Turn.{Turn}
-use Rattle.calls.specs.Turn.{refusedTurn}
-use Rattle.serve.specs.Next.{windowPlace, nextReply, nextExchange, sourceOf, askedBy}
+use Rattle.calls.specs.Turn.{refusedTurn, portAfter}
+use Rattle.serve.specs.Next.{windowPlace, nextReply, nextExchange, sourceOf, askedBy, Next}
 
 -- the bytes of a full frame to the login that is seen, and its exchange at a place
 abbrev pub fullIn : View → ℕ
@@ -60,3 +60,7 @@ nextTurn v a x start W room =
 unfoldable pub nextTurnBuffer : View → ℕ → ℕ → ℕ → List ℕ → List ℕ → List ℕ
 nextTurnBuffer v a x start W l =
     onOpen v x start (length W) (λ i j k. writtenOf (v .own) (askedIn v a x) (replyIn v j) (sourceOf (v .unit) (exchangeIn v j) k W) l) l l l
+
+-- what is said by a turn, and the port after it
+abbrev pub nextBy : Port → Turn → Next
+nextBy p t = record { said = t .said; port = portAfter p t }

@@ -64,3 +64,12 @@ module _ {A B : Type 0} (p : A → Bool) (xs : List A) (f : A → B) (b : B) whe
         by : FirstSays p xs f b (f x) → IsFirst p xs x
         by (at-first y i q) = subst (IsFirst p xs) (sym (same x y q)) i
         by (at-none n q) = absurd (other x q)
+
+-- what is made of the answer is made of each
+pub first-over : {A B C : Type 0} (k : B → C) (p : A → Bool) (xs : List A) (f : A → B) (b : B) → k (firstOf p xs f b) ≡ firstOf p xs (λ x. k (f x)) (k b)
+first-over k p [] f b = refl
+first-over {A} {B} {C} k p (x ∷ xs) f b = step (p x) (first-over k p xs f b)
+  where
+    step : (t : Bool) {y : B} {z : C} → k y ≡ z → k (cond t (f x) y) ≡ cond t (k (f x)) z
+    step true e = refl
+    step false e = e

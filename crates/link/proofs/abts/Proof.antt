@@ -1,5 +1,4 @@
 -- `link::abts` meets its contract. Assumes nothing.
-use mathlib.Core.Path.{sym, _∙_}
 use borrow.Author.Tests.{eq-eqb, ne-eqb}
 use Rattle.link.specs.Turn.{abtsTurn}
 use borrow.Author.Needs.{needs}
@@ -8,22 +7,20 @@ use Rattle.link.proofs.abts.Tie as tie
 
 returns : tie.Need-returns
 unfolding abtsTurn
-returns c = rw (sym (c .before .before .before .before .seat-place .ensures .0), sym (c .before .before .before .seat-of .ensures .is) ∙ c .before .enum-told2 .given .1) (c .place-as .ensures)
+returns c = rw (c .before .enum-told .given .1) (c .answer-only .ensures)
 
 returns-2 : tie.Need-returns-2
 unfolding abtsTurn
-returns-2 c = rw (sym (c .before .before .before .before .before .before .seat-place .ensures .0), sym (c .before .before .before .before .before .seat-of .ensures .is) ∙ c .before .before .before .enum-told .given .1, eq-eqb _ _ (c .before .before .if1 .taken)) (rw (c .before .end-named .ensures) at (c .place-as2 .ensures))
+returns-2 c = rw (c .before .before .before .before .before .before .seat .given .1, eq-eqb _ _ (c .before .before .before .if1 .taken)) (rw (c .before .end-named .ensures) at (c .store-login .ensures))
 
 returns-3 : tie.Need-returns-3
 unfolding abtsTurn
-returns-3 c = rw (sym (c .before .before .before .before .before .seat-place .ensures .0), sym (c .before .before .before .before .seat-of .ensures .is) ∙ c .before .before .enum-told .given .1, ne-eqb _ _ (c .before .if1 .left)) (c .place-as3 .ensures)
+returns-3 c = rw (c .before .before .before .before .seat .given .1, ne-eqb _ _ (c .before .if1 .left)) (c .answer-only2 .ensures)
 
 pub abts-spec : {M : Type 1} → statement M
 abts-spec =
     tie.close
     (tie.spec
-    (λ c κs. search needs)
-    (λ c κs. search needs)
     (λ c. search needs)
     (λ c. search needs)
     (λ c κs. search needs)

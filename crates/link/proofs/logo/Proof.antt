@@ -7,11 +7,11 @@ use Rattle.link.proofs.logo.Tie as tie
 
 returns : tie.Need-returns
 unfolding logoTurn
-returns c = rw (eq-eqb _ _ (c .before .if1 .taken)) (c .change-as .ensures)
+returns c = rw (eq-eqb _ _ (c .before .if1 .taken)) (c .change-logins .ensures)
 
 returns-2 : tie.Need-returns-2
 unfolding logoTurn
-returns-2 c = rw (ne-eqb _ _ (c .before .if1 .left)) (c .place-as .ensures)
+returns-2 c = rw (ne-eqb _ _ (c .before .if1 .left)) (c .answer-only .ensures)
 
 pub logo-spec : {M : Type 1} → statement M
 logo-spec =

@@ -7,17 +7,17 @@ use Rattle.link.proofs.plogi.Tie as tie
 
 returns : tie.Need-returns
 returns c =
-    let r = c .before .before .before .before in
+    let r = c .before .before .before in
     let o = r .before in
     let a = o .before .args in
-    c .change-as .ensures ∙ plogi-rejected (a .keys) (a .l) _ (a .q) _ _ (o .judged .ensures) (r .outcome-reply .ensures) _ _ _ (c .before .before .enum-told .given .1) (c .before .seat-place .ensures .0)
+    c .change-logins .ensures ∙ plogi-rejected (a .keys) _ (a .q) _ _ (o .judged .ensures) (r .outcome-reply .ensures) _ _ (c .before .enum-told .given .1)
 
 returns-2 : tie.Need-returns-2
 returns-2 c =
     let r = c .before .before .before .before in
     let o = r .before in
     let a = o .before .args in
-    plogi-placed (a .keys) (a .l) _ (a .q) _ _ (o .judged .ensures) (r .outcome-reply .ensures) _ _ (c .before .before .o .given .1) (c .new-login .ensures)
+    plogi-placed (a .keys) _ (a .q) _ _ (o .judged .ensures) (r .outcome-reply .ensures) _ _ (c .before .before .o .given .1) (c .new-login .ensures)
 
 pub plogi-spec : {M : Type 1} → statement M
 plogi-spec =
@@ -27,7 +27,6 @@ plogi-spec =
     (λ c κs. search needs)
     (λ c. search needs)
     (λ c. search needs)
-    (λ c κs. search needs)
     (λ c κs. search needs)
     returns
     (λ c κs. search needs)

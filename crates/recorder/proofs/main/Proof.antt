@@ -1,6 +1,7 @@
 -- `recorder::main` is safe and ends. The measure is how many records it may still count. Assumes nothing.
 use Prim.Native.Nat.{_-_}
 use native.Mathlib.Omega.{arith}
+use borrow.Author.Needs.{needs}
 use Rattle.recorder.proofs.main.Statement.{statement}
 use Rattle.recorder.proofs.main.Tie as tie
 
@@ -19,9 +20,14 @@ main-spec =
     (λ c κs. tt)
     (λ c. tt)
     (λ c. omega arith)
+    (λ c. search needs)
     (λ c κs. tt)
     (λ c. tt)
+    (λ c. search needs)
+    (λ c. search needs)
     (λ c κs. tt)
+    (λ c κs. search needs)
+    (λ c. tt)
     (λ c. omega arith)
     (λ c. tt)
     (λ c. tt))

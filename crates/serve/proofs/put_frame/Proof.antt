@@ -7,17 +7,16 @@ use Rattle.serve.proofs.put_frame.Tie as tie
 
 returns : tie.Need-returns
 unfolding sourceOf
-returns c = rw (eq-eqb _ _ (c .before .before .before .before .if1 .taken)) (rw (c .before .before .before .before .before .before .before .asked-by .ensures, c .before .before .before .before .before .before .next-reply .ensures) at (c .before .before .put-from .ensures))
+returns c = rw (eq-eqb _ _ (c .before .before .before .before .if1 .taken)) (rw (c .before .before .before .before .before .before .next-reply .ensures) at (c .before .before .put-from .ensures))
 
 returns-2 : tie.Need-returns-2
 unfolding sourceOf
-returns-2 c = rw (ne-eqb _ _ (c .before .before .before .before .if1 .left)) (rw (c .before .before .before .before .before .before .before .asked-by .ensures, c .before .before .before .before .before .before .next-reply .ensures) at (c .before .before .put-made .ensures))
+returns-2 c = rw (ne-eqb _ _ (c .before .before .before .before .if1 .left)) (rw (c .before .before .before .before .before .before .next-reply .ensures) at (c .before .before .put-made .ensures))
 
 pub put-frame-spec : {M : Type 1} → statement M
 put-frame-spec =
     tie.close
     (tie.spec
-    (λ c κs. search needs)
     (λ c κs. search needs)
     (λ c κs. search needs)
     (λ c. search needs)

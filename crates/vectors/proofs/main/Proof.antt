@@ -6,10 +6,10 @@ use Rattle.vectors.proofs.main.Statement.{statement}
 use Rattle.vectors.proofs.main.Tie as tie
 
 abbrev Inv-loop : tie.InvT-loop
-Inv-loop d₀ number₀ d number = Unit {0}
+Inv-loop s₀ number₀ s number = Unit {0}
 
 abbrev μ-loop : tie.MeasureT-loop
-μ-loop d₀ number₀ d number = 18446744073709551615 - number
+μ-loop s₀ number₀ s number = 18446744073709551615 - number
 
 pub main-spec : {M : Type 1} → statement M
 main-spec =
@@ -20,6 +20,7 @@ main-spec =
     (λ c κs. tt)
     (λ c. tt)
     (λ c. omega arith)
+    (λ c κs. tt)
     (λ c. search needs)
     (λ c κs. tt)
     (λ c. tt)

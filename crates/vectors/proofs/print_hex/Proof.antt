@@ -5,10 +5,10 @@ use Rattle.vectors.proofs.print_hex.Statement.{statement}
 use Rattle.vectors.proofs.print_hex.Tie as tie
 
 abbrev Inv-loop : tie.InvT-loop
-Inv-loop s n i₀ i = Unit {0}
+Inv-loop s from to i₀ i = Unit {0}
 
 abbrev μ-loop : tie.MeasureT-loop
-μ-loop s n i₀ i = n - i
+μ-loop s from to i₀ i = to - i
 
 pub print-hex-spec : {M : Type 1} → statement M
 print-hex-spec =

@@ -1,30 +1,39 @@
--- `drive::Drive::frame_in` meets its contract: the answer to its turn. Assumes nothing.
-use mathlib.Core.Path.{_≡_, ap, _∙_}
-use lib.ListN.{length}
-use Rattle.frame.specs.declared.Header.{Header}
-use Rattle.drive.specs.declared.View.{View}
-use Rattle.drive.specs.Turn.{viewOf, frameTurn, frameTurnBuffer, answerTo}
-use Rattle.drive.proofs.Turns.{frame-turn, frame-turn-buffer}
+-- `drive::Drive::frame_in` meets its contract: a law for each way. Assumes nothing.
+use Rattle.drive.proofs.Ways.{says-short, says-refused, says-passed}
 use borrow.Author.Needs.{needs}
 use Rattle.drive.proofs.Drive.frame_in.Statement.{statement}
 use Rattle.drive.proofs.Drive.frame_in.Tie as tie
 
 returns : tie.Need-returns
 returns c =
-    let a = c .before .before .before .before .before .before .before .before .before .args in
-    let v = c .before .before .before .before .before .view .ensures ∙ ap (λ (h : Header). viewOf (a .self) (h .«s_id»)) (c .before .before .before .before .before .before .read-header .ensures) in
-    let t = c .before .before .before .frame-turn in (
-      c .answer .ensures ∙ ap (answerTo (a .self)) (t .ensures .0 ∙ ap (λ (w : View). frameTurn w (a .frame .now) (length (a .reply .now))) v) ∙ frame-turn (a .self) (a .frame .now) (length (a .reply .now)),
-      t .ensures .1 ∙ ap (λ (w : View). frameTurnBuffer w (a .frame .now) (a .reply .now)) v ∙ frame-turn-buffer (a .self) (a .frame .now) (a .reply .now),
-    )
+    let a = c .before .before .before .before .args in
+    says-short (a .self) (a .frame .now) (a .reply .now) (c .before .if1 .taken) _ (c .refuse .ensures)
+
+returns-2 : tie.Need-returns-2
+returns-2 c =
+    let a = c .before .before .before .before .before .before .before .before .before .before .before .before .args in
+    says-refused (a .self) (a .frame .now) (a .reply .now) (c .before .before .before .before .before .before .before .before .before .if1 .left) _ (c .before .before .before .before .before .before .read-header .ensures) _ (c .before .before .before .before .before .look .ensures) _ (c .before .before .before .before .judged .ensures) _ _ (c .before .before .j .given .1) (c .refuse2 .ensures)
+
+returns-3 : tie.Need-returns-3
+returns-3 c =
+    let a = c .before .before .before .before .before .before .before .before .before .before .before .before .before .before .before .args in
+    let t = c .before .before .before .passed-turn in
+    says-passed (a .self) (a .frame .now) (a .reply .now) (c .before .before .before .before .before .before .before .before .before .before .before .before .if1 .left) _ (c .before .before .before .before .before .before .before .before .before .read-header .ensures) _ (c .before .before .before .before .before .before .before .before .look .ensures) _ (c .before .before .before .before .before .before .before .judged .ensures) _ _ _ _ (c .before .before .before .before .before .enum-told .given .1) (t .ensures .0) (t .ensures .1) (c .after .ensures)
 
 pub frame-in-spec : {M : Type 1} → statement M
 frame-in-spec =
     tie.close
     (tie.spec
     (λ c κs. search needs)
+    returns
     (λ c κs. search needs)
     (λ c κs. search needs)
     (λ c κs. search needs)
     (λ c. search needs)
-    returns)
+    (λ c κs. search needs)
+    (λ c. search needs)
+    (λ c κs. search needs)
+    (λ c κs. search needs)
+    returns-2
+    (λ c. search needs)
+    returns-3)

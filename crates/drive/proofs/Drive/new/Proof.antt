@@ -1,7 +1,7 @@
 -- `drive::Drive::new` meets its contract: the setup rules hold or not. Assumes nothing.
 use mathlib.Core.Path.{sym, ap, _∙_}
+use Rattle.refusal.specs.declared.Refusal.the-variants.{BadSetup}
 use Rattle.drive.specs.Drive.{silent, refused, newAnswer}
-use Rattle.arrival.specs.declared.Refusal.the-variants.{BadSetup}
 use borrow.Author.Needs.{needs}
 use Rattle.drive.proofs.Drive.new.Statement.{statement}
 use Rattle.drive.proofs.Drive.new.Tie as tie

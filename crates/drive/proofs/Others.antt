@@ -1,0 +1,138 @@
+-- After any call that is none of its own, the login of an address is what the turn's change of every login makes of it, and its record is as it was; its own next frame leaves its record too. Assumes nothing.
+use Prim.Native.Nat.{ℕ}
+use mathlib.Core.Path.{_≡_, refl, sym, ap, _∙_, subst}
+use mathlib.Core.Bool.{Bool, true, false, cond, not}
+use mathlib.Core.List.{List}
+use lib.ListN.{length}
+use Rattle.tables.proofs.Firsts.{FirstSays, at-first, at-none, first-says, first-then, none-then}
+use Rattle.frame.specs.Head.{headerOf}
+use Rattle.refusal.specs.declared.Refusal.{Refusal}
+use Rattle.refusal.specs.declared.Refusal.the-variants.{ShortBuffer}
+use Rattle.refusal.specs.Refusal.{frameOrder}
+use Rattle.state.specs.declared.Port.{Port}
+use Rattle.state.specs.declared.Unit.{Unit}
+use Rattle.state.specs.Changes.{hasAddress, loginAt, withExchange, changedOf}
+use Rattle.state.specs.Tables.{loginOf}
+use Rattle.state.proofs.Places.{found-has, open-place}
+use Rattle.formed.specs.Formed.{wellFormed}
+use Rattle.formed.proofs.Parts.{formed-parts}
+use Rattle.calls.specs.declared.Turn.{Turn}
+use Rattle.calls.specs.View.{viewOf}
+use Rattle.calls.specs.Turn.{refusedTurn}
+use Rattle.calls.specs.Others.{Another, Leaves, Elsewhere}
+use Rattle.calls.proofs.Decisions.{on-cond}
+use Rattle.calls.proofs.Others as calls
+use Rattle.link.specs.Record.{recordOf}
+use Rattle.link.proofs.Records as records
+use Rattle.link.proofs.Services.{same-kept}
+use Rattle.link.proofs.Others.{link-another, abts-another}
+use Rattle.command.proofs.Logins.{command-another}
+use Rattle.serve.specs.Next.{exchangeOf, fullOf, nextExchange, Step, Refused, Frame, stepOf, movedOn, nextAt, nextOf}
+use Rattle.serve.proofs.Steps.{passed}
+use Rattle.serve.proofs.Turns.{next-keeps, next-another}
+use Rattle.arrival.specs.declared.Kind.{Kind}
+use Rattle.arrival.specs.declared.Kind.the-variants.{Link, Done, Abort, Command}
+use Rattle.arrival.specs.Arrival.{shortBuffer, kindOf, appliesIn}
+use Rattle.arrival.proofs.Passes as arrives
+use Rattle.drive.specs.declared.Drive.{Drive}
+use Rattle.drive.specs.declared.Answer.{Answer}
+use Rattle.drive.specs.Drive.{refused}
+use Rattle.drive.specs.Entry.{decidedIn, answered, frameIn, nextFrame}
+use Rattle.drive.specs.Turn.{decisionAs, decisionOf, passedTurn, nextOutTurn, answerTo}
+use Rattle.drive.specs.Others.{OfOthers, frame, done, next, turnIn, turnOut, answerOf, turnOf}
+use Rattle.drive.proofs.Turns.{stays-is, passed-answer, next-out-turn}
+use Rattle.drive.proofs.Ways.{next-short}
+
+module _ (d : Drive) (w : wellFormed (d .unit) (d .port) ≡ true) where
+  abbrev u : Unit
+  u = d .unit
+
+  abbrev p : Port
+  p = d .port
+
+  -- a turn stores nothing of address a, and its change leaves a's record
+  abbrev Aside : ℕ → Turn → Type 0
+  Aside a t = Another p a (t .at) (t .login) × Leaves a (t .change)
+
+  -- what is decided of a frame of another sender, or of an answer
+  decided-aside : (f : List ℕ) (a : ℕ) → (a ≡ headerOf f .«s_id» → ⊥) → (k : Kind) → Elsewhere p a (decisionAs (viewOf u p (headerOf f .«s_id»)) (headerOf f) k f)
+  decided-aside f a n Link = link-another u p (formed-parts w .logins) (headerOf f) a n f
+  decided-aside f a n Done = (tt, tt)
+  decided-aside f a n Abort = abts-another u p (formed-parts w .logins) (headerOf f) a n
+  decided-aside f a n Command = command-another u p (headerOf f) f (formed-parts w .logins) a n
+
+  -- a frame in comes to its turn, which is a refusal or what a frame that passed comes to
+  module _ (f : List ℕ) (room : ℕ) where
+    turn-cases : (P : Answer → Turn → Type 0) → ((x : Refusal) → P (refused x d) (refusedTurn x))
+        → (shortBuffer room ≡ false → P (answered d (headerOf f) (decidedIn d f)) (passedTurn (viewOf u p (headerOf f .«s_id»)) (headerOf f) f room)) → P (frameIn d f room) (turnIn d f room)
+    unfolding frameIn turnIn
+    turn-cases P refuses answers = by (first-says applies frameOrder refusedTurn _ refl)
+      where
+        applies : Refusal → Bool
+        applies = appliesIn u p (headerOf f) f room
+
+        by : {t : Turn} → FirstSays applies frameOrder refusedTurn (passedTurn (viewOf u p (headerOf f .«s_id»)) (headerOf f) f room) t → P (frameIn d f room) t
+        by (at-first x i e) = rw (e, first-then applies frameOrder (λ x. refused x d) (answered d (headerOf f) (decidedIn d f)) i) (refuses x)
+        by (at-none n e) = rw (e, none-then applies frameOrder (λ x. refused x d) (answered d (headerOf f) (decidedIn d f)) n) (answers (arrives.passed u p (headerOf f) f room n .long))
+
+    turn-in : answerTo d (turnIn d f room) ≡ frameIn d f room
+    turn-in = turn-cases (λ r t. answerTo d t ≡ r) (stays-is d) (λ s. passed-answer d f w room s)
+
+    in-aside : (a : ℕ) → Elsewhere p a (decisionOf (viewOf u p (headerOf f .«s_id»)) (headerOf f) f) → Aside a (turnIn d f room)
+    unfolding passedTurn
+    in-aside a e = turn-cases (λ _ t. Aside a t) (λ _. (tt, tt)) (λ _. e)
+
+  -- and a next frame to its own
+  module _ (b x start : ℕ) (W : List ℕ) (room : ℕ) where
+    turn-out : answerTo d (turnOut d b x start W room) ≡ nextFrame d b x start W room
+    unfolding turnOut
+    turn-out = by (shortBuffer room) refl
+      where
+        by : (s : Bool) → shortBuffer room ≡ s → answerTo d (cond s (refusedTurn ShortBuffer) (nextOutTurn (viewOf u p b) b x start W room)) ≡ nextFrame d b x start W room
+        by true s = stays-is d ShortBuffer ∙ sym (next-short d b x start W room s)
+        by false s = next-out-turn d b x start W room s
+
+    out-aside : (a : ℕ) → (a ≡ b → ⊥) → Aside a (turnOut d b x start W room)
+    unfolding turnOut nextOutTurn
+    out-aside a n =
+        let v = viewOf u p b in
+        on-cond (Aside a) (shortBuffer room) (tt, tt)
+        (on-cond (Aside a) (v .fine) (next-another u p b x start W (formed-parts w .logins) room a n, subst (Leaves a) (sym (next-keeps v b x start W room)) tt) (tt, tt))
+
+  module _ {a : ℕ} where
+    turn-is : (c : OfOthers a) → answerTo d (turnOf d c) ≡ answerOf d c
+    turn-is (frame f room n) = turn-in f room
+    turn-is (done f room r) = turn-in f room
+    turn-is (next b x start W room n) = turn-out b x start W room
+
+    turn-aside : (c : OfOthers a) → Aside a (turnOf d c)
+    unfolding decisionOf kindOf
+    turn-aside (frame f room n) = in-aside f room a (decided-aside f a n (kindOf (headerOf f .«r_ctl»)))
+    turn-aside (done f room r) = in-aside f room a (subst (λ (k : Kind). Elsewhere p a (decisionAs (viewOf u p (headerOf f .«s_id»)) (headerOf f) k f)) (sym (ap kindOf r)) (tt, tt))
+    turn-aside (next b x start W room n) = out-aside b x start W room a n
+
+    -- the login of a after a call of others: what the turn's change of every login makes of it
+    pub others-see : (c : OfOthers a) → loginOf (answerOf d c .drive .port) a ≡ changedOf (turnOf d c .change) (loginOf p a)
+    others-see c = ap (λ (r : Answer). loginOf (r .drive .port) a) (sym (turn-is c)) ∙ calls.others-see p (formed-parts w .addresses) (turnOf d c) a (turn-aside c .0)
+
+    -- and that change is none that ends or unproves it, so a's record is as it was
+    pub others-record : (c : OfOthers a) → recordOf (answerOf d c .drive .port) a ≡ recordOf p a
+    others-record c =
+        ap (λ (r : Answer). recordOf (r .drive .port) a) (sym (turn-is c)) ∙ records.others-record p (formed-parts w .addresses) (turnOf d c) a (turn-aside c .0) (turn-aside c .1)
+
+-- a next frame changes exchanges alone, and so the record of its own address is as it was too
+own-at : (u : Unit) (p : Port) (a x start : ℕ) (W : List ℕ) (s : Step) → stepOf p a x start (length W) ≡ s → recordOf (nextAt s u p a x W .port) a ≡ recordOf p a
+unfolding movedOn withExchange hasAddress
+own-at u p a x start W (Refused y) e = refl
+own-at u p a x start W (Frame i j k) e =
+    let at = open-place p a x i j (passed p a x start (length W) i j k e .stands) in
+    same-kept p a i at (withExchange (loginAt p i) j (nextExchange (fullOf p i) (exchangeOf p i j))) (found-has p a i at) refl
+
+abbrev Stays : Drive → ℕ → Answer → Type 0
+Stays d a r = recordOf (r .drive .port) a ≡ recordOf (d .port) a
+
+pub own-record : (d : Drive) (a x start : ℕ) (W : List ℕ) (room : ℕ) → recordOf (nextFrame d a x start W room .drive .port) a ≡ recordOf (d .port) a
+unfolding nextFrame nextOf
+own-record d a x start W room =
+    on-cond (Stays d a) (shortBuffer room) refl
+    (on-cond (Stays d a) (not (wellFormed (d .unit) (d .port))) refl (own-at (d .unit) (d .port) a x start W (stepOf (d .port) a x start (length W)) refl))
