@@ -8,11 +8,11 @@ use native.Mathlib.Omega.{arith}
 use lib.ListN.{length, take, drop, length-append, length-replicate, drop-of-length-le}
 use lib.Seq.{take-all, take-at, length-take-le}
 use borrow.Rule.Slice.PartMut.{midOf}
-use Rattle.arrival.specs.declared.Refusal.{Refusal}
-use Rattle.arrival.specs.Arrival.{numberOf}
+use Rattle.refusal.specs.declared.Refusal.{Refusal}
+use Rattle.refusal.specs.Refusal.{numberOf}
 use Rattle.drive.specs.declared.Answer.{Answer}
-use Rattle.drive.specs.declared.Said.{Said}
-use Rattle.drive.specs.declared.Said.the-variants.{Sent, Refused}
+use Rattle.refusal.specs.declared.Said.{Said}
+use Rattle.refusal.specs.declared.Said.the-variants.{Sent, Refused}
 use Rattle.wire.proofs.Fronts.{take-replicate}
 use Rattle.wire.proofs.Parts.{rest-is}
 use Rattle.recording.specs.declared.Line.{Line}

@@ -8,9 +8,9 @@ use lib.ListN.{length, take, drop, replicate}
 use Rattle.io.specs.Counts.{Counts}
 use Rattle.tables.specs.Lists.{all}
 use Rattle.wire.specs.Bytes.{bytes, onto}
-use Rattle.arrival.specs.Arrival.{numberOf}
-use Rattle.drive.specs.declared.Said.{Said}
-use Rattle.drive.specs.declared.Said.the-variants.{Sent, Refused}
+use Rattle.refusal.specs.Refusal.{numberOf}
+use Rattle.refusal.specs.declared.Said.{Said}
+use Rattle.refusal.specs.declared.Said.the-variants.{Sent, Refused}
 use Rattle.recording.specs.declared.Line.{Line}
 
 -- "still holds the fill 5Ah it was lent with": every byte does

@@ -1,18 +1,13 @@
--- `recording::start` meets its contract: no drive is made of zeros. Assumes nothing.
-use mathlib.Core.Path.{refl, _∙_}
+-- `recording::start` meets its contract. Assumes nothing.
 use mathlib.Core.Bool.{false}
-use Rattle.formed.specs.Formed.{setupRules}
-use Rattle.drive.proofs.Made.{new-refused}
 use Rattle.recording.specs.Calls.{unmade}
 use borrow.Author.Needs.{needs}
 use Rattle.recording.proofs.start.Statement.{statement}
 use Rattle.recording.proofs.start.Tie as tie
 
 returns : tie.Need-returns
-unfolding unmade setupRules
-returns c =
-    let e = c .before .new .ensures ∙ new-refused _ refl in
-    λ i. record { made = false; drive = e i .drive }
+unfolding unmade
+returns c = λ i. record { made = false; drive = c .no-drive .ensures i }
 
 pub start-spec : {M : Type 1} → statement M
 start-spec =
