@@ -1,6 +1,5 @@
 -- Eight keys as a local or a parameter has them, and as a field of a struct has them: a key there is the tuple of its fields. Assumes nothing.
-use Prim.Native.Nat.{ℕ}
-use mathlib.Core.Path.{_≡_, refl, sym, _∙_}
+use mathlib.Core.Path.{refl, sym, _∙_}
 use mathlib.Core.List.{List, [], _∷_, map}
 use lib.Dec.{lit<}
 use lib.ListN.{replicate, length-map}

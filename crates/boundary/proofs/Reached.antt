@@ -69,7 +69,7 @@ module _ {c : Change} {keys : List Key} (len : length keys ≡ 8) where
         sym (s .rest ∙ rw (take-all i ls l, drop-of-length-le keys k, drop-of-length-le ls l, append-nil))
 
 -- the key at a place does not matter where the login there is stored after
-pub reached-spare : (c : Change) (keys : List Key) (ls : List Login) (i : ℕ) (k : Key) (m : Login) → set (reachedBy c (set keys i k) ls) i m ≡ set (reachedBy c keys ls) i m
+reached-spare : (c : Change) (keys : List Key) (ls : List Login) (i : ℕ) (k : Key) (m : Login) → set (reachedBy c (set keys i k) ls) i m ≡ set (reachedBy c keys ls) i m
 reached-spare c [] ls i k m = refl
 reached-spare c (x ∷ keys) [] zero k m = refl
 reached-spare c (x ∷ keys) [] (suc i) k m = refl

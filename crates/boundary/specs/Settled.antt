@@ -1,4 +1,4 @@
--- The lent port after a turn, changed where it stands: which logins a change reaches, by their keys. That this is the port after the turn, at a drive that is well formed, is `settled-answer`.
+-- The lent port after a turn, changed where it stands: which logins a change reaches, by their keys. That this is the port after the turn, at a drive that is well formed, is `settled-fine`.
 use Prim.Native.Nat.{ℕ, _+_, _≤_, _<_}
 use mathlib.Core.Path.{_≡_}
 use mathlib.Core.Bool.{Bool, true, false, cond, not}
@@ -15,11 +15,6 @@ use Rattle.state.specs.Changes.{withLogins, changedOf}
 use Rattle.formed.specs.declared.Key.{Key}
 use Rattle.calls.specs.declared.Turn.{Turn}
 use Rattle.calls.specs.Turn.{storedAt}
-
--- a place of the table, or none
-abbrev pub Places : Found → Type 0
-Places (At i) = i < 8
-Places Nothing = Unit {0}
 
 -- the key of a free place
 abbrev pub freeKey : Key

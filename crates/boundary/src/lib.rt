@@ -29,11 +29,12 @@ ghost use lib.ListN.{length};
 ghost use Rattle.tables.specs.Lists.{onFound};
 ghost use Rattle.drive.specs.declared.Event.the-variants.{LoopReset, TimeOver, PowerOn};
 ghost use Rattle.calls.specs.View.{viewOf};
+ghost use Rattle.calls.specs.Turn.{AtBelow};
 ghost use Rattle.drive.specs.Drive.{eventAnswer};
 ghost use Rattle.drive.specs.Entry.{frameIn, frameInBuffer, nextFrame, nextFrameBuffer};
 ghost use Rattle.drive.specs.Turn.{eventTurn};
 ghost use Rattle.boundary.specs.Boundary.{codeOf, Tells, makeAnswer};
-ghost use Rattle.boundary.specs.Settled.{Places, reaches, NextReached, spared, settledOf};
+ghost use Rattle.boundary.specs.Settled.{reaches, NextReached, spared, settledOf};
 
 // Makes a drive in the lent state, from a setup.
 #[no_mangle]
@@ -165,7 +166,7 @@ fn settle(p: &mut Port, keys: [Key; 8], t: Turn) -> u64
 
 // A place, or the first where there is none.
 fn place_or_first(f: Found) -> usize
-    requires { ⌜ Places f ⌝ }
+    requires { ⌜ AtBelow f ⌝ }
     ensures { λ r. ⌜ (r ≡ onFound f (λ i. i) 0) × (r < 8) ⌝ }
 {
     match f {

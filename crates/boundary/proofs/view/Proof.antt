@@ -80,8 +80,10 @@ use Rattle.formed.proofs.login_key.Symbol.{name as #formed·login-key}
 use Rattle.formed.proofs.login_key.Met as g-thm
 use Rattle.calls.specs.declared.View.{View}
 use Rattle.calls.specs.View.{seatOf, viewFrom, viewOf}
+use Rattle.calls.specs.Turn.{AtBelow}
 use Rattle.calls.proofs.View as Vw
 use Rattle.calls.proofs.View.Laws as Vw′
+use Rattle.calls.proofs.Views.{below-from}
 use Rattle.calls.proofs.seat_of as s
 use Rattle.calls.proofs.seat_of.Symbol as s-def
 use Rattle.calls.proofs.seat_of.Symbol.{name as #calls·seat-of}
@@ -90,7 +92,6 @@ use Rattle.calls.proofs.see as e
 use Rattle.calls.proofs.see.Symbol as e-def
 use Rattle.calls.proofs.see.Symbol.{name as #calls·see}
 use Rattle.calls.proofs.see.Met as e-thm
-use Rattle.boundary.specs.Settled.{Places}
 use Rattle.boundary.proofs.Elements.{set-values, length-values, array-set, elem, unraw}
 use Rattle.boundary.proofs.Keyed.{keyVal, K8, k8, kvals, kval, blank, is-none, blank-are}
 use Rattle.boundary.proofs.Lent.{pval, uval, word, rf}
@@ -132,10 +133,6 @@ at-seat c h Nothing i e = refl
 seen-is : (c : TheUnit) (h : Port) (address : ℕ) (seat : Found) (i : ℕ) → seat ≡ seatOf (keysOf c h) address → i ≡ onFound seat (λ j. j) 0 → seen c h seat i ≡ viewOf c h address
 unfolding viewOf
 seen-is c h address seat i e e′ = at-seat c h seat i e′ ∙ ap (λ (z : Found). viewFrom c (ownOf h) (keysOf c h) z (loginIn h z)) e
-
-seat-places : {place : Found} (seat : Found) → Within place 8 seat → Places seat
-seat-places (At i) w = w .below i refl
-seat-places Nothing w = tt
 
 -- where the loop stands: a place, and the keys by then
 record Here (c : TheUnit) (h : Port) : Type 0 where
@@ -206,8 +203,8 @@ module _ {M : Type 1} (𝓤 : URA M) (H : Heap 𝓤) (A : Atoms 𝓤) (mem : Mem
         qed W [] ∵ nothing ! $ owned ! u32 (Is u32) (uint-makes 𝓤 H A W w32) d _ (refl, d-fits) $ fjoin ! $ owned ! K8 (Is K8) (array-makes 𝓤 H A W Ke.the-row (LL.makes Ke.the-type Ke′.the-plain 𝓤 H A) 8) ks _ is-ks $ fjoin ! $
         nothing ! $ join ! $ frame ! $ done !
 
-    goes-place : (seat : Found) (u : Val) → Is Fo.the-row seat (u ∷ []) → Places seat → ent 𝓤 (emp 𝓤) (P .pre (to-place seat u))
-    goes-place seat u is-s places = qed W [] ∵ says ! places $ nothing ! $ owned ! Fo.the-row (Is Fo.the-row) (EL.makes Fo.the-type Fo′.the-plain 𝓤 H A) seat _ is-s $ fjoin ! $ nothing ! $ done !
+    goes-place : (seat : Found) (u : Val) → Is Fo.the-row seat (u ∷ []) → AtBelow seat → ent 𝓤 (emp 𝓤) (P .pre (to-place seat u))
+    goes-place seat u is-s below = qed W [] ∵ says ! below $ nothing ! $ owned ! Fo.the-row (Is Fo.the-row) (EL.makes Fo.the-type Fo′.the-plain 𝓤 H A) seat _ is-s $ fjoin ! $ nothing ! $ done !
 
     goes-see : (c : TheUnit) (h : Port) (ks : List Key) (seat : Found) (u : Val) (m : Login) → Is Un.the-row c (uval c ∷ []) → Is Ow.the-row (owning h) (oval h ∷ []) → Is K8 ks (kvals ks) → Is Fo.the-row seat (u ∷ []) → Is Lo.the-row m (lval m ∷ []) → ent 𝓤 (emp 𝓤) (E .pre (to-see c h ks seat u m))
     goes-see c h ks seat u m is-c is-o is-ks is-s is-m =
@@ -381,7 +378,7 @@ module _ {M : Type 1} (𝓤 : URA M) (H : Heap 𝓤) (A : Atoms 𝓤) (W : Given
           peeks ! Fo.the-row (Is Fo.the-row) (shows 𝓤 H A Fo.the-row) seat (v ∷ []) (λ is-s. drop ! $
           land ! (from ! (stop !)) (init ! 40 refl (EL.lawful Fo.the-type Fo′.the-laws 𝓤 H A W tt .typed seat _ is-s .0)) $
           -- `place_or_first`
-          use0 W (raw (P 𝓤 H A mem run .pre (to-place 𝓤 H A mem run seat v))) (goes-place 𝓤 H A mem run W seat v is-s (seat-places seat e-s)) $
+          use0 W (raw (P 𝓤 H A mem run .pre (to-place 𝓤 H A mem run seat v))) (goes-place 𝓤 H A mem run W seat v is-s (below-from seat (e-s .below))) $
           calls-at ! fm (P 𝓤 H A mem run) known-place (to-place 𝓤 H A mem run seat v) (and-then ! (load ! (from ! (stop !)) (look ! 41 refl)) (no-more !)) (λ u.
           use1 W (later (some (λ (k : ℕ). (‵ ftrue ⊛ ‵ (usize .own k (u ∷ []))) ⊛ raw (ensured 𝓤 H A p.ended (p.clauses 𝓤 H A mem run) tt (seat, tt) tt k)))) (id⊢ 𝓤 _) $ await ! tt $ pick ! (λ k.
           split ! $ move ! (1 ∷ []) $ use1 W (raw (fact 𝓤 (First 𝓤 H A mem run seat k))) (place-of 𝓤 H A mem run seat k) $ heard ! (First 𝓤 H A mem run seat k) (λ e-k. split ! $ drop ! $
