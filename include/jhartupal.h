@@ -92,8 +92,7 @@ struct jhartupal_exchange {
     uint32_t sent;     /* bytes sent: the next frame starts at byte sent % 512 of block start + sent / 512 */
     uint16_t ox_id;    /* its OX_ID, no other's of this login */
     uint16_t count;    /* data frames sent, going round at 65,536: the next SEQ_CNT */
-    uint8_t kind;      /* what it sends: enum jhartupal_kind */
-    /* 3 bytes of padding */
+    uint32_t kind;     /* what it sends: enum jhartupal_kind */
 };
 
 /* A place for a login. Where used is 0 it is free: it has no open exchange, and nothing is asked of its other fields. */

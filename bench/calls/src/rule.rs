@@ -10,7 +10,7 @@ pub struct Exchange {
     pub sent: u32,
     pub ox_id: u16,
     pub count: u16,
-    pub kind: u8,
+    pub kind: u32,
 }
 
 #[repr(C)]

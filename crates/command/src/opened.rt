@@ -71,7 +71,7 @@ fn read_exchange(ox_id: u16, expected: u32, r: Range) -> Exchange
 }
 
 // An exchange of made data: of no blocks.
-fn made_exchange(ox_id: u16, expected: u32, kind: u8, wanted: u32) -> Exchange
+fn made_exchange(ox_id: u16, expected: u32, kind: u32, wanted: u32) -> Exchange
     ensures { λ r. ⌜ r ≡ fresh «ox_id» expected kind wanted 0 0 ⌝ }
 {
     Exchange {
@@ -87,7 +87,7 @@ fn made_exchange(ox_id: u16, expected: u32, kind: u8, wanted: u32) -> Exchange
 }
 
 // What REQUEST SENSE reports, as the kind of its exchange.
-fn sense_kind(lun: u64, attention: u8) -> u8
+fn sense_kind(lun: u64, attention: u8) -> u32
     ensures { λ r. ⌜ r ≡ senseKind lun attention ⌝ }
 {
     if lun != 0 {
@@ -103,7 +103,7 @@ fn sense_kind(lun: u64, attention: u8) -> u8
     }
 }
 
-fn inquiry_kind(lun: u64) -> u8
+fn inquiry_kind(lun: u64) -> u32
     ensures { λ r. ⌜ r ≡ inquiryKind lun ⌝ }
 {
     if lun == 0 {
@@ -142,7 +142,7 @@ pub(crate) fn answer(l: Login, bits: u8, e: Exchange) -> Served
 }
 
 // An attention is cleared as the exchange that reports it opens.
-fn told(l: Login, kind: u8) -> Login
+fn told(l: Login, kind: u32) -> Login
     ensures { λ r. ⌜ r ≡ toldOf l kind ⌝ }
 {
     if kind == Exchange::SENSE_RESET {

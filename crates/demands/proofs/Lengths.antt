@@ -91,12 +91,12 @@ unfolding replyBytes ownOf
 frame-long d f l n words =
     frame-cases d f (length l) (λ (a : Answer). a .said ≡ Sent n → (n ≤ 140) × (n % 4 ≡ 0)) (λ x _ e. let z : _≡_ {A = ℕ} 0 1 = cc in absurd (omega arith))
     (λ _ e.
-      let o = ownOf (d .port) in
-      let r = decidedIn d f .reply in
-      let is = same-length (length (bytesOf o (headerOf f) r [])) n e in
-      let few = bytes-few o (headerOf f) r [] (payload-few o (headerOf f) r words) in
-      let four = bytes-four o (headerOf f) r [] in
-      (omega arith, omega arith))
+    let o = ownOf (d .port) in
+    let r = decidedIn d f .reply in
+    let is = same-length (length (bytesOf o (headerOf f) r [])) n e in
+    let few = bytes-few o (headerOf f) r [] (payload-few o (headerOf f) r words) in
+    let four = bytes-four o (headerOf f) r [] in
+    (omega arith, omega arith))
 
 -- a next frame: data or FCP_RSP, and so never nothing
 either-loud : (b : Bool) (r s : Reply) → silent r ≡ false → silent s ≡ false → silent (cond b r s) ≡ false

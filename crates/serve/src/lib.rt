@@ -143,7 +143,7 @@ fn put_frame(v: View, h: Header, e: Exchange, k: usize, window: &[u8], reply: &m
 }
 
 // Writes a reply whose data are the made data of a kind from place k on.
-fn put_made(v: View, h: Header, r: Reply, kind: u8, k: usize, reply: &mut [u8]) -> usize
+fn put_made(v: View, h: Header, r: Reply, kind: u32, k: usize, reply: &mut [u8]) -> usize
     ensures { λ n. ⌜ n ≡ sentOf (v .own) h r (drop k (madeBytes (v .unit) kind)) (length (now (reply .entry))) ⌝ }
     ensures { λ _. ⌜ now (reply .exit) ≡ writtenOf (v .own) h r (drop k (madeBytes (v .unit) kind)) (now (reply .entry)) ⌝ }
 {
@@ -227,7 +227,7 @@ fn next_exchange(size: u16, e: Exchange) -> Exchange
 }
 
 // INQUIRY data, of another unit than 0 with 7Fh first.
-fn inquiry_bytes(identity: [u8; 28], kind: u8) -> [u8; 36]
+fn inquiry_bytes(identity: [u8; 28], kind: u32) -> [u8; 36]
     ensures { λ r. ⌜ r ≡ inquiryBytes identity kind ⌝ }
 {
     let first = inquiry_first(kind);
@@ -239,7 +239,7 @@ fn inquiry_bytes(identity: [u8; 28], kind: u8) -> [u8; 36]
 }
 
 // The first byte of INQUIRY data.
-fn inquiry_first(kind: u8) -> u8
+fn inquiry_first(kind: u32) -> u8
     ensures { λ r. ⌜ r ≡ inquiryFirst kind ⌝ }
 {
     if kind == Exchange::INQUIRY_OTHER_UNIT {
@@ -265,7 +265,7 @@ fn last_block(capacity: u64) -> u64
 }
 
 // What REQUEST SENSE tells.
-fn sense_of(kind: u8) -> Sense
+fn sense_of(kind: u32) -> Sense
     ensures { λ r. ⌜ r ≡ senseOf kind ⌝ }
 {
     if kind == Exchange::SENSE_RESET {

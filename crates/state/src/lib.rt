@@ -45,27 +45,27 @@ pub struct Exchange {
     pub ox_id: u16,
     // the data frames sent, going round at 65,536
     pub count: u16,
-    pub kind: u8,
+    pub kind: u32,
 }
 
 impl Exchange {
-    pub const FREE: u8 = 0;
+    pub const FREE: u32 = 0;
 
-    pub const READ: u8 = 1;
+    pub const READ: u32 = 1;
 
-    pub const INQUIRY: u8 = 2;
+    pub const INQUIRY: u32 = 2;
 
-    pub const INQUIRY_OTHER_UNIT: u8 = 3;
+    pub const INQUIRY_OTHER_UNIT: u32 = 3;
 
-    pub const READ_CAPACITY: u8 = 4;
+    pub const READ_CAPACITY: u32 = 4;
 
-    pub const SENSE_NONE: u8 = 5;
+    pub const SENSE_NONE: u32 = 5;
 
-    pub const SENSE_RESET: u8 = 6;
+    pub const SENSE_RESET: u32 = 6;
 
-    pub const SENSE_CLEARED: u8 = 7;
+    pub const SENSE_CLEARED: u32 = 7;
 
-    pub const SENSE_OTHER_UNIT: u8 = 8;
+    pub const SENSE_OTHER_UNIT: u32 = 8;
     // the blocks of a READ at most
     pub const MOST_READ: u64 = 65535;
 }

@@ -180,7 +180,7 @@ fn print_whole(e: Exchange) {
     print_numbers(e.expected as u64, e.sent, e.count as u32);
 }
 
-fn print_kind(kind: u8) {
+fn print_kind(kind: u32) {
     match kind {
         Exchange::READ => print(b"READ"),
         Exchange::INQUIRY => print(b"INQUIRY"),
@@ -190,14 +190,14 @@ fn print_kind(kind: u8) {
     }
 }
 
-fn print_sense(kind: u8) {
+fn print_sense(kind: u32) {
     print(b"SENSE-");
     print_16(sense(kind));
     print_byte(0x00);
 }
 
 // Key and code of the sense that an exchange sends, FFFFh for what is no sense. The qualifier is 00h.
-fn sense(kind: u8) -> u16 {
+fn sense(kind: u32) -> u16 {
     match kind {
         Exchange::SENSE_NONE => 0x0000,
         Exchange::SENSE_RESET => 0x0629,
