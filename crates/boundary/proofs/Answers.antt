@@ -1,4 +1,4 @@
--- The port after a turn, settled where it stands, is the port after the turn where all logins are fine or every login is kept: a login that a change does not reach, by its key, is one that the change leaves as it is.
+-- The port after a turn, settled where it stands, is the port after the turn where all logins are fine, or every one is kept: a login that a change does not reach, by its key, is one that the change leaves as it is.
 -- So what each entry tells, and the lent drive after it, is its answer. Assumes nothing.
 use Prim.Native.Nat.{ℕ, _+_, _<_, _^_}
 use mathlib.Core.Path.{_≡_, refl, sym, ap, _∙_, subst}
@@ -78,18 +78,14 @@ module _ (u : Unit) (own : ℕ) where
       let r = reached-all c ls (and-right (loginFine u own l) (all (loginFine u own) ls) e) in
       ap (λ (m : Login). m ∷ reachedBy c (map (loginKey u own) ls) ls) (reached-fine c l (isUsed l) f refl) ∙ ap (λ (ms : List Login). changedOf c l ∷ ms) r
 
--- the port settled by its keys is the port after the turn
-module _ (u : Unit) (p : Port) (t : Turn) where
-  stores-same : reachedBy (t .change) (keysOf u p) (p .logins) ≡ map (changedOf (t .change)) (p .logins) → settledOf p (keysOf u p) t ≡ portAfter p t
-  unfolding settledOf changedAll
-  stores-same e = ap (λ (ls : List Login). storedAt (t .at) (t .login) (withLogins p ls)) e
-
-  settled-fine : wellFormed u p ≡ true → settledOf p (keysOf u p) t ≡ portAfter p t
-  unfolding keysOf
-  settled-fine w = stores-same (reached-all u (p .address) (t .change) (p .logins) (formed-parts w .logins))
-
-  settled-kept : t .change ≡ Keep → settledOf p (keysOf u p) t ≡ portAfter p t
-  settled-kept e = stores-same (rw e (reached-none (keysOf u p) (p .logins)))
+-- so the port settled by its keys is the port after the turn, where a port that is not well formed keeps every login
+settled-answer : (u : Unit) (p : Port) (t : Turn) → (wellFormed u p ≡ false → t .change ≡ Keep) → settledOf p (keysOf u p) t ≡ portAfter p t
+unfolding settledOf changedAll keysOf
+settled-answer u p t keeps = ap (λ (ls : List Login). storedAt (t .at) (t .login) (withLogins p ls)) (by (wellFormed u p) refl)
+  where
+    by : (b : Bool) → wellFormed u p ≡ b → reachedBy (t .change) (keysOf u p) (p .logins) ≡ map (changedOf (t .change)) (p .logins)
+    by true w = reached-all u (p .address) (t .change) (p .logins) (formed-parts w .logins)
+    by false w = rw (keeps w) (reached-none (keysOf u p) (p .logins))
 
 -- what a refusal tells, the drive as it was
 pub refusal-told : {d : Drive} {a : Answer} {x : Refusal} → a ≡ refused x d → Tells a (codeOf (Refused x)) d
@@ -99,11 +95,12 @@ module _ (d : Drive) (x : ℕ) where
   abbrev seen : View
   seen = viewOf (d .unit) (d .port) x
 
-  settles : (t : Turn) {a : Answer} → settledOf (d .port) (keysOf (d .unit) (d .port)) t ≡ portAfter (d .port) t → answerTo d t ≡ a → Tells a (codeOf (t .said)) (settled d (seen .keys) t)
-  settles t e is = (
-    ap (λ (z : Answer). codeOf (z .said)) is,
-    ap (λ (ks : List Key). settled d ks t) (view-keys (d .unit) (d .port) x) ∙ ap (λ (p : Port). record { unit = d .unit; port = p }) e ∙ ap (λ (z : Answer). z .drive) is,
-  )
+  settles : (t : Turn) {a : Answer} → (wellFormed (d .unit) (d .port) ≡ false → t .change ≡ Keep) → answerTo d t ≡ a → Tells a (codeOf (t .said)) (settled d (seen .keys) t)
+  settles t keeps is =
+      (
+        ap (λ (z : Answer). codeOf (z .said)) is,
+        ap (λ (ks : List Key). settled d ks t) (view-keys (d .unit) (d .port) x) ∙ ap (λ (p : Port). record { unit = d .unit; port = p }) (settled-answer (d .unit) (d .port) t keeps) ∙ ap (λ (z : Answer). z .drive) is
+      )
 
 -- a frame whose refusal has a number is refused with it, and the buffer left as it was; one that passes comes to the turn of one that passed
 module _ (d : Drive) (f : List ℕ) where
@@ -132,17 +129,13 @@ module _ (d : Drive) (f : List ℕ) where
 
   pub frame-settles : number ≡ 0 → (room : ℕ) → shortBuffer room ≡ false
       → Tells (frameIn d f room) (codeOf (passedTurn (seen d (headerOf f .«s_id»)) (headerOf f) f room .said)) (settled d (seen d (headerOf f .«s_id») .keys) (passedTurn (seen d (headerOf f .«s_id»)) (headerOf f) f room))
-  frame-settles zero room long = settles d (headerOf f .«s_id») _ (settled-fine (d .unit) (d .port) _ (passed-formed d f zero)) (frame-turn d f zero room long)
+  frame-settles zero room long = settles d (headerOf f .«s_id») _ (λ ill. let h : true ≡ false = sym (passed-formed d f zero) ∙ ill in cc) (frame-turn d f zero room long)
 
 -- a next frame keeps every login but one
 pub next-settles : (d : Drive) (a x start : ℕ) (W : List ℕ) (room : ℕ) → shortBuffer room ≡ false
     → Tells (nextFrame d a x start W room) (codeOf (nextOutTurn (seen d a) a x start W room .said)) (settled d (seen d a .keys) (nextOutTurn (seen d a) a x start W room))
-next-settles d a x start W room long = settles d a _ (settled-kept (d .unit) (d .port) _ (next-out-keeps (seen d a) a x start W room)) (next-out-turn d a x start W room long)
+next-settles d a x start W room long = settles d a _ (λ _. next-out-keeps (seen d a) a x start W room) (next-out-turn d a x start W room long)
 
 -- an event changes a drive that is well formed, and no other
 pub event-settles : (d : Drive) (e : Event) → Tells (eventAnswer d e) (codeOf (eventTurn (seen d 0) e .said)) (settled d (seen d 0 .keys) (eventTurn (seen d 0) e))
-event-settles d e = settles d 0 _ (by (wellFormed (d .unit) (d .port)) refl) (event-turn d e)
-  where
-    by : (b : Bool) → wellFormed (d .unit) (d .port) ≡ b → settledOf (d .port) (keysOf (d .unit) (d .port)) (eventTurn (seen d 0) e) ≡ portAfter (d .port) (eventTurn (seen d 0) e)
-    by true w = settled-fine (d .unit) (d .port) _ w
-    by false w = settled-kept (d .unit) (d .port) _ (ap (λ (t : Turn). t .change) (event-ill (seen d 0) (view-fine (d .unit) (d .port) 0 ∙ w) e))
+event-settles d e = settles d 0 _ (λ ill. ap (λ (t : Turn). t .change) (event-ill (seen d 0) (view-fine (d .unit) (d .port) 0 ∙ ill) e)) (event-turn d e)

@@ -1,4 +1,4 @@
--- The lent port after a turn, changed where it stands: which logins a change reaches, by their keys. That this is the port after the turn, at a drive that is well formed, is `settled-fine`.
+-- The lent port after a turn, changed where it stands: which logins a change reaches, by their keys. That this is the port after the turn, at a drive that is well formed, is `settled-answer`.
 use Prim.Native.Nat.{ℕ, _+_, _≤_, _<_}
 use mathlib.Core.Path.{_≡_}
 use mathlib.Core.Bool.{Bool, true, false, cond, not}
