@@ -59,6 +59,7 @@ placeIn (Open i j) = At j
 placeIn (NoExchange i) = Nothing
 placeIn NoLogin = Nothing
 
+-- that of an address and an OX_ID
 abbrev pub soughtIn : Port → ℕ → ℕ → Found
 soughtIn p a x = placeIn (lookupOf p a x)
 
