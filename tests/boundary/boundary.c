@@ -64,7 +64,7 @@ static void mark_state(void) {
             mark_all(login + 32 + 32 * j, exchange_fields, COUNT(exchange_fields));
         }
     }
-    check(marked() == 36 + 116 + 8 * (28 + 8 * 29), "%zu bytes of fields in a state", marked());
+    check(marked() == 36 + 116 + 8 * (28 + 8 * 32), "%zu bytes of fields in a state", marked());
 }
 
 static void layout(void) {
