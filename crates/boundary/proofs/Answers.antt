@@ -96,11 +96,10 @@ module _ (d : Drive) (x : ℕ) where
   seen = viewOf (d .unit) (d .port) x
 
   settles : (t : Turn) {a : Answer} → (wellFormed (d .unit) (d .port) ≡ false → t .change ≡ Keep) → answerTo d t ≡ a → Tells a (codeOf (t .said)) (settled d (seen .keys) t)
-  settles t keeps is =
-      (
-        ap (λ (z : Answer). codeOf (z .said)) is,
-        ap (λ (ks : List Key). settled d ks t) (view-keys (d .unit) (d .port) x) ∙ ap (λ (p : Port). record { unit = d .unit; port = p }) (settled-answer (d .unit) (d .port) t keeps) ∙ ap (λ (z : Answer). z .drive) is
-      )
+  settles t keeps is = (
+    ap (λ (z : Answer). codeOf (z .said)) is,
+    ap (λ (ks : List Key). settled d ks t) (view-keys (d .unit) (d .port) x) ∙ ap (λ (p : Port). record { unit = d .unit; port = p }) (settled-answer (d .unit) (d .port) t keeps) ∙ ap (λ (z : Answer). z .drive) is,
+  )
 
 -- a frame whose refusal has a number is refused with it, and the buffer left as it was; one that passes comes to the turn of one that passed
 module _ (d : Drive) (f : List ℕ) where
