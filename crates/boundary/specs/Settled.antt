@@ -13,6 +13,10 @@ use Rattle.state.specs.declared.Change.{Change}
 use Rattle.state.specs.declared.Change.the-variants.{Keep, EndAll, EndLogin, Unprove, EndUnproven, EndExchangesOf, Reset, Clear}
 use Rattle.state.specs.Changes.{withLogins, changedOf}
 use Rattle.formed.specs.declared.Key.{Key}
+use Rattle.refusal.specs.declared.Refusal.the-variants.{IllFormed}
+use Rattle.refusal.specs.declared.Said.{Said}
+use Rattle.refusal.specs.declared.Said.the-variants.{Sent, Refused}
+use Rattle.calls.specs.declared.Sight.{Sight}
 use Rattle.calls.specs.declared.Turn.{Turn}
 use Rattle.calls.specs.Turn.{storedAt}
 
@@ -49,6 +53,17 @@ reachedBy c [] ls = ls
 reachedBy c (k ∷ ks) [] = []
 reachedBy c (k ∷ ks) (l ∷ ls) = cond (reaches c k) (changedOf c l) l ∷ reachedBy c ks ls
 
--- the port with these changed, and then the turn's login at its place
+-- the port with these changed
+unfoldable pub reachedOf : Port → List Key → Change → Port
+reachedOf p keys c = withLogins p (reachedBy c keys (p .logins))
+
+-- and then the turn's login at its place
 unfoldable pub settledOf : Port → List Key → Turn → Port
-settledOf p keys t = storedAt (t .at) (t .login) (withLogins p (reachedBy (t .change) keys (p .logins)))
+settledOf p keys t = storedAt (t .at) (t .login) (reachedOf p keys (t .change))
+
+-- an event, seen so: "Event: 2", and "the state unchanged"
+abbrev pub happenedSaid : Bool → Said
+happenedSaid fine = cond fine (Sent 0) (Refused IllFormed)
+
+abbrev pub happenedOf : Port → Sight → Change → Port
+happenedOf p s c = cond (s .fine) (reachedOf p (s .keys) c) p

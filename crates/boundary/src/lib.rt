@@ -1,12 +1,14 @@
 // The C boundary: a call sees what it needs of the lent drive, decides on that, and what changes is stored where it stands; include/jhartupal.h declares it.
+use calls::Sight;
 use calls::Turn;
 use calls::View;
 use calls::seat_of;
 use calls::see;
+use calls::sight_from;
 use drive::Answer;
 use drive::Drive;
 use drive::Event;
-use drive::event_turn;
+use drive::change_of;
 use drive::passed_turn;
 use drive::refusal_number;
 use formed::Key;
@@ -28,13 +30,12 @@ ghost use Prim.Native.Nat.{_<_, _≤_};
 ghost use lib.ListN.{length};
 ghost use Rattle.tables.specs.Lists.{onFound};
 ghost use Rattle.drive.specs.declared.Event.the-variants.{LoopReset, TimeOver, PowerOn};
-ghost use Rattle.calls.specs.View.{viewOf};
-ghost use Rattle.calls.specs.Turn.{AtBelow};
-ghost use Rattle.drive.specs.Drive.{eventAnswer};
+ghost use Rattle.calls.specs.View.{sightOf, viewOf};
+ghost use Rattle.calls.specs.Turn.{storedAt, AtBelow};
+ghost use Rattle.drive.specs.Drive.{changeOf, eventAnswer};
 ghost use Rattle.drive.specs.Entry.{frameIn, frameInBuffer, nextFrame, nextFrameBuffer};
-ghost use Rattle.drive.specs.Turn.{eventTurn};
 ghost use Rattle.boundary.specs.Boundary.{codeOf, Tells, makeAnswer};
-ghost use Rattle.boundary.specs.Settled.{reaches, NextReached, spared, settledOf};
+ghost use Rattle.boundary.specs.Settled.{reaches, NextReached, spared, reachedOf, settledOf, happenedSaid, happenedOf};
 
 // Makes a drive in the lent state, from a setup.
 #[no_mangle]
@@ -85,7 +86,7 @@ pub extern "C" fn drive_next(
     } else {
         let v = view(&mut d.port, d.unit, address);
         let t = next_turn(v, address, ox_id, start, window, reply);
-        return settle(&mut d.port, v.keys, t);
+        return store(&mut d.port, t);
     }
 }
 
@@ -94,9 +95,9 @@ pub extern "C" fn drive_next(
 pub extern "C" fn drive_loop_reset(d: &mut Drive) -> u64
     ensures { λ r. ⌜ Tells (eventAnswer (now (d .entry)) LoopReset) r (now (d .exit)) ⌝ }
 {
-    let v = view(&mut d.port, d.unit, 0);
-    let t = loop_reset(v);
-    settle(&mut d.port, v.keys, t)
+    let s = sight(&mut d.port, d.unit);
+    let c = loop_reset();
+    happen(&mut d.port, s, c)
 }
 
 // The verification time is over.
@@ -104,9 +105,9 @@ pub extern "C" fn drive_loop_reset(d: &mut Drive) -> u64
 pub extern "C" fn drive_time_over(d: &mut Drive) -> u64
     ensures { λ r. ⌜ Tells (eventAnswer (now (d .entry)) TimeOver) r (now (d .exit)) ⌝ }
 {
-    let v = view(&mut d.port, d.unit, 0);
-    let t = time_over(v);
-    settle(&mut d.port, v.keys, t)
+    let s = sight(&mut d.port, d.unit);
+    let c = time_over();
+    happen(&mut d.port, s, c)
 }
 
 // The drive powers on.
@@ -114,14 +115,14 @@ pub extern "C" fn drive_time_over(d: &mut Drive) -> u64
 pub extern "C" fn drive_power_on(d: &mut Drive) -> u64
     ensures { λ r. ⌜ Tells (eventAnswer (now (d .entry)) PowerOn) r (now (d .exit)) ⌝ }
 {
-    let v = view(&mut d.port, d.unit, 0);
-    let t = power_on(v);
-    settle(&mut d.port, v.keys, t)
+    let s = sight(&mut d.port, d.unit);
+    let c = power_on();
+    happen(&mut d.port, s, c)
 }
 
-// What a call of the port at an address sees of a unit and a lent port: each login is read where it stands.
-fn view(p: &mut Port, u: Unit, address: u32) -> View
-    ensures { λ r. ⌜ (r ≡ viewOf u (now (p .entry)) address) × (now (p .exit) ≡ now (p .entry)) ⌝ }
+// What every call sees of a unit and a lent port: each login is read where it stands.
+fn sight(p: &mut Port, u: Unit) -> Sight
+    ensures { λ r. ⌜ (r ≡ sightOf u (now (p .entry))) × (now (p .exit) ≡ now (p .entry)) ⌝ }
 {
     let mut k = [Key { id: 0 }; 8];
     let mut i: usize = 0;
@@ -130,7 +131,22 @@ fn view(p: &mut Port, u: Unit, address: u32) -> View
         k[i] = n;
         i += 1;
     }
-    let seat = seat_of(k, address);
+    sight_from(
+        u,
+        Own {
+            address: p.address,
+            accept: p.accept,
+        },
+        k,
+    )
+}
+
+// What a call of the port at an address sees of a unit and a lent port.
+fn view(p: &mut Port, u: Unit, address: u32) -> View
+    ensures { λ r. ⌜ (r ≡ viewOf u (now (p .entry)) address) × (now (p .exit) ≡ now (p .entry)) ⌝ }
+{
+    let s = sight(p, u);
+    let seat = seat_of(s.keys, address);
     let at = place_or_first(seat);
     see(
         u,
@@ -138,7 +154,7 @@ fn view(p: &mut Port, u: Unit, address: u32) -> View
             address: p.address,
             accept: p.accept,
         },
-        k,
+        s,
         seat,
         p.logins[at],
     )
@@ -149,18 +165,44 @@ fn settle(p: &mut Port, keys: [Key; 8], t: Turn) -> u64
     ensures { λ r. ⌜ (r ≡ codeOf (t .said)) × (now (p .exit) ≡ settledOf (now (p .entry)) keys t) ⌝ }
 {
     let k = spare(keys, t.at);
-    let mut i = next_reached(k, t.change, 0);
+    reach(p, k, t.change);
+    store(p, t)
+}
+
+// Changes the logins that a change reaches, each where it stands.
+fn reach(p: &mut Port, keys: [Key; 8], c: Change)
+    ensures { λ _. ⌜ now (p .exit) ≡ reachedOf (now (p .entry)) keys c ⌝ }
+{
+    let mut i = next_reached(keys, c, 0);
     while i < Port::LOGINS {
-        let l = changed(p.logins[i], t.change);
+        let l = changed(p.logins[i], c);
         p.logins[i] = l;
-        i = next_reached(k, t.change, i + 1);
+        i = next_reached(keys, c, i + 1);
     }
+}
+
+// Stores the login of a turn at its place, if it has one, and tells what was said.
+fn store(p: &mut Port, t: Turn) -> u64
+    ensures { λ r. ⌜ (r ≡ codeOf (t .said)) × (now (p .exit) ≡ storedAt (t .at) (t .login) (now (p .entry))) ⌝ }
+{
     let at = place_or_none(t.at);
     if at < Port::LOGINS {
         p.logins[at] = t.login;
         return code(t.said);
     } else {
         return code(t.said);
+    }
+}
+
+// An event: every login that is seen changes where it stands, or refusal 2 and the port stays as it was.
+fn happen(p: &mut Port, s: Sight, c: Change) -> u64
+    ensures { λ r. ⌜ (r ≡ codeOf (happenedSaid (s .fine))) × (now (p .exit) ≡ happenedOf (now (p .entry)) s c) ⌝ }
+{
+    if s.fine {
+        reach(p, s.keys, c);
+        return code(Said::Sent(0));
+    } else {
+        return code(Said::Refused(Refusal::IllFormed));
     }
 }
 
@@ -229,22 +271,22 @@ fn is_reached(k: Key, c: Change) -> bool
     }
 }
 
-fn loop_reset(v: View) -> Turn
-    ensures { λ r. ⌜ r ≡ eventTurn v LoopReset ⌝ }
+fn loop_reset() -> Change
+    ensures { λ r. ⌜ r ≡ changeOf LoopReset ⌝ }
 {
-    event_turn(v, Event::LoopReset)
+    change_of(Event::LoopReset)
 }
 
-fn time_over(v: View) -> Turn
-    ensures { λ r. ⌜ r ≡ eventTurn v TimeOver ⌝ }
+fn time_over() -> Change
+    ensures { λ r. ⌜ r ≡ changeOf TimeOver ⌝ }
 {
-    event_turn(v, Event::TimeOver)
+    change_of(Event::TimeOver)
 }
 
-fn power_on(v: View) -> Turn
-    ensures { λ r. ⌜ r ≡ eventTurn v PowerOn ⌝ }
+fn power_on() -> Change
+    ensures { λ r. ⌜ r ≡ changeOf PowerOn ⌝ }
 {
-    event_turn(v, Event::PowerOn)
+    change_of(Event::PowerOn)
 }
 
 // The drive made, or refusal 8 and the drive as it was.

@@ -13,6 +13,7 @@ use Rattle.state.specs.Changes.{emptyLogin, ownOf}
 use Rattle.state.specs.Tables.{loginIn}
 use Rattle.formed.specs.declared.Key.{Key}
 use Rattle.formed.specs.Keys.{keysOf, fineBy}
+use Rattle.calls.specs.declared.Sight.{Sight}
 use Rattle.calls.specs.declared.View.{View}
 
 abbrev pub isEither : ℕ → ℕ → Key → Bool
@@ -30,10 +31,17 @@ seatOf keys address = findEither keys (2 + address) (2 + address)
 unfoldable pub placeFor : List Key → ℕ → Found
 placeFor keys address = findEither keys 1 (2 + address)
 
+-- what every call sees of logins with these keys, and of a unit and a port
+abbrev pub sightFrom : Unit → Own → List Key → Sight
+sightFrom u o keys = record { keys = keys; fine = fineBy u o keys }
+
+abbrev pub sightOf : Unit → Port → Sight
+sightOf u p = sightFrom u (ownOf p) (keysOf u p)
+
 -- what is seen, where l is the login at the seat, if there is one
-unfoldable pub viewFrom : Unit → Own → List Key → Found → Login → View
-viewFrom u o keys seat l = record { unit = u; own = o; keys = keys; seat = seat; login = onFound seat (λ _. l) emptyLogin; fine = fineBy u o keys }
+unfoldable pub viewFrom : Unit → Own → Sight → Found → Login → View
+viewFrom u o s seat l = record { unit = u; own = o; keys = s .keys; seat = seat; login = onFound seat (λ _. l) emptyLogin; fine = s .fine }
 
 -- what a call of the port at an address sees
 unfoldable pub viewOf : Unit → Port → ℕ → View
-viewOf u p address = viewFrom u (ownOf p) (keysOf u p) (seatOf (keysOf u p) address) (loginIn p (seatOf (keysOf u p) address))
+viewOf u p address = viewFrom u (ownOf p) (sightOf u p) (seatOf (keysOf u p) address) (loginIn p (seatOf (keysOf u p) address))

@@ -19,8 +19,14 @@ use tables::Found;
 ghost use mathlib.Core.Path.{_≡_};
 ghost use Rattle.tables.specs.Lists.{Within};
 ghost use Rattle.state.specs.Tables.{loginIn};
-ghost use Rattle.calls.specs.View.{isEither, findEither, seatOf, placeFor, viewFrom, viewOf};
+ghost use Rattle.calls.specs.View.{isEither, findEither, seatOf, placeFor, sightFrom, sightOf, viewFrom, viewOf};
 ghost use Rattle.calls.specs.Turn.{answersOnly, stores, changes, servedAs, servedIn, refusedTurn, sentTurn, portAfter};
+
+// What every call sees of a port's logins: their keys, and whether the state is well formed.
+pub struct Sight {
+    pub keys: [Key; 8],
+    pub fine: bool,
+}
 
 // What a call of one port sees: the unit, its own address and accept words, the keys of all logins, the place of the caller's login, that login,
 // which is an empty one where it has none, and whether the state is well formed.
@@ -92,11 +98,31 @@ pub fn place_for(keys: [Key; 8], address: u32) -> Found
     find_either(keys, 1, k)
 }
 
-// What a call sees, from what was read of the drive; l is the login at the seat, and any other where there is none.
-pub fn see(u: Unit, o: Own, keys: [Key; 8], seat: Found, l: Login) -> View
-    ensures { λ r. ⌜ r ≡ viewFrom u o keys seat l ⌝ }
+// What every call sees of logins with these keys.
+pub fn sight_from(u: Unit, o: Own, keys: [Key; 8]) -> Sight
+    ensures { λ r. ⌜ r ≡ sightFrom u o keys ⌝ }
 {
     let fine = all_fine(u, o, keys);
+    Sight {
+        keys: keys,
+        fine: fine,
+    }
+}
+
+// What every call sees of a unit and a port.
+pub fn sight_of(u: Unit, p: Port) -> Sight
+    ensures { λ r. ⌜ r ≡ sightOf u p ⌝ }
+{
+    let k = login_keys(u, p);
+    let o = own_of(p);
+    sight_from(u, o, k)
+}
+
+// What a call sees, from what was read of the drive; l is the login at the seat, and any other where there is none.
+pub fn see(u: Unit, o: Own, s: Sight, seat: Found, l: Login) -> View
+    ensures { λ r. ⌜ r ≡ viewFrom u o s seat l ⌝ }
+{
+    let keys = s.keys;
     let login = match seat {
         Found::At(_) => l,
         Found::Nothing => empty_login(),
@@ -107,7 +133,7 @@ pub fn see(u: Unit, o: Own, keys: [Key; 8], seat: Found, l: Login) -> View
         keys: keys,
         seat: seat,
         login: login,
-        fine: fine,
+        fine: s.fine,
     }
 }
 
@@ -115,11 +141,12 @@ pub fn see(u: Unit, o: Own, keys: [Key; 8], seat: Found, l: Login) -> View
 pub fn look(u: Unit, p: Port, address: u32) -> View
     ensures { λ r. ⌜ r ≡ viewOf u p address ⌝ }
 {
-    let k = login_keys(u, p);
+    let s = sight_of(u, p);
+    let k = s.keys;
     let o = own_of(p);
     let seat = seat_of(k, address);
     let l = login_in(p, seat);
-    see(u, o, k, seat, l)
+    see(u, o, s, seat, l)
 }
 
 // The login at a seat, an empty one where there is none.

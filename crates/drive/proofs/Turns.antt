@@ -1,4 +1,4 @@
--- Each entry is the answer to its turn, a turn names a place of the table or none, and a drive that is not well formed draws a turn that changes nothing. Assumes nothing.
+-- Each entry is the answer to its turn, and a next frame changes no login but the one it stores. Assumes nothing.
 use Prim.Native.Nat.{ℕ}
 use mathlib.Core.Path.{_≡_, refl, sym, ap, _∙_}
 use mathlib.Core.Bool.{Bool, true, false, cond, not}
@@ -24,7 +24,7 @@ use Rattle.state.specs.declared.Own.{Own}
 use Rattle.state.specs.declared.Port.{Port}
 use Rattle.state.specs.declared.Unit.{Unit}
 use Rattle.state.specs.declared.Change.the-variants.{Keep}
-use Rattle.state.specs.Changes.{emptyLogin, ownOf, loginAt}
+use Rattle.state.specs.Changes.{ownOf, loginAt}
 use Rattle.state.specs.Tables.{findLogin}
 use Rattle.formed.specs.Formed.{loginFine, wellFormed}
 use Rattle.formed.proofs.Parts.{formed-parts}
@@ -33,14 +33,14 @@ use Rattle.reply.specs.Reply.{bytesOf, sentOf, writtenOf}
 use Rattle.calls.specs.declared.View.{View}
 use Rattle.calls.specs.declared.Turn.{Turn}
 use Rattle.calls.specs.View.{viewOf}
-use Rattle.calls.specs.Turn.{Decided, refusedTurn, decidedBy, AtBelow}
+use Rattle.calls.specs.Turn.{Decided, refusedTurn, decidedBy}
 use Rattle.calls.proofs.Views.{view-own, view-fine, view-seat, view-login}
 use Rattle.calls.proofs.Decisions.{on-cond, answers-is, refused-stays}
-use Rattle.link.proofs.Turns.{link-turn, link-within, abts-turn, abts-within}
-use Rattle.command.proofs.Turns.{command-turn, command-within}
+use Rattle.link.proofs.Turns.{link-turn, abts-turn}
+use Rattle.command.proofs.Turns.{command-turn}
 use Rattle.serve.specs.Next.{nextOf, nextBuffer}
 use Rattle.serve.specs.Turn.{nextTurn, nextTurnBuffer}
-use Rattle.serve.proofs.Turns.{next-turn, next-buffer, next-within, next-keeps}
+use Rattle.serve.proofs.Turns.{next-turn, next-buffer, next-keeps}
 use Rattle.arrival.specs.declared.Kind.{Kind}
 use Rattle.arrival.specs.declared.Kind.the-variants.{Link, Done, Abort, Command}
 use Rattle.arrival.specs.declared.Judged.{Judged}
@@ -49,10 +49,9 @@ use Rattle.arrival.specs.Arrival.{shortBuffer, unprovenLogin, kindOf, appliesTo
 use Rattle.arrival.proofs.Passes.{roomy-first}
 use Rattle.drive.specs.declared.Drive.{Drive}
 use Rattle.drive.specs.declared.Answer.{Answer}
-use Rattle.drive.specs.declared.Event.{Event}
-use Rattle.drive.specs.Drive.{refused, silent, changeOf, afterEvent, eventAnswer}
+use Rattle.drive.specs.Drive.{refused}
 use Rattle.drive.specs.Entry.{decidedOf, decidedIn, replyBytes, answered, frameIn, frameInBuffer, nextAnswer, nextFrame, nextFrameBuffer}
-use Rattle.drive.specs.Turn.{unprovenIn, judgedIn, onJudged, refusalOf, decisionAs, decisionOf, passedTurn, passedBuffer, nextOutTurn, nextOutBuffer, eventTurn, answerTo}
+use Rattle.drive.specs.Turn.{unprovenIn, judgedIn, onJudged, refusalOf, decisionAs, decisionOf, passedTurn, passedBuffer, nextOutTurn, nextOutBuffer, answerTo}
 
 -- a judgement is a refusal or a pass, not both
 not-both : (x : Refusal) (k : Kind) → judged.Refused x ≡ judged.Passed k → ⊥
@@ -207,46 +206,7 @@ module _ (d : Drive) where
         by true w = next-buffer u p a x start W (fine w) l s
         by false w = refl
 
-  -- an event is the answer to its turn
-  pub event-turn : (e : Event) → answerTo d (eventTurn (viewOf u p 0) e) ≡ eventAnswer d e
-  unfolding eventTurn eventAnswer afterEvent
-  event-turn e = rw (view-fine u p 0) (by (wellFormed u p))
-    where
-      by : (b : Bool) → answerTo d (cond b (record { said = Sent 0; change = changeOf e; at = Nothing; login = emptyLogin }) (refusedTurn IllFormed)) ≡ cond b (silent (afterEvent e d)) (refused IllFormed d)
-      by true = refl
-      by false = stays-is IllFormed
-
--- a turn names a place of the table, or none
-module _ (v : View) (seat : AtBelow (v .seat)) where
-  pub passed-within : length (v .keys) ≡ 8 → (h : Header) (f : List ℕ) (room : ℕ) → AtBelow (passedTurn v h f room .at)
-  unfolding passedTurn decisionOf
-  passed-within eight h f room = by (kindOf (h .«r_ctl»))
-    where
-      by : (k : Kind) → AtBelow (decisionAs v h k f .at)
-      by Link = link-within v eight seat h f
-      by Done = tt
-      by Abort = abts-within v eight seat h
-      by Command = command-within v seat h f
-
-  pub next-out-within : (a x start : ℕ) (W : List ℕ) (room : ℕ) → AtBelow (nextOutTurn v a x start W room .at)
-  unfolding nextOutTurn
-  next-out-within a x start W room = on-cond (λ (t : Turn). AtBelow (t .at)) (v .fine) (next-within v a x start W room seat) tt
-
-pub event-within : (v : View) (e : Event) → AtBelow (eventTurn v e .at)
-unfolding eventTurn
-event-within v e = on-cond (λ (t : Turn). AtBelow (t .at)) (v .fine) tt tt
-
 -- a next frame changes no login but the one it stores
 pub next-out-keeps : (v : View) (a x start : ℕ) (W : List ℕ) (room : ℕ) → nextOutTurn v a x start W room .change ≡ Keep
 unfolding nextOutTurn
 next-out-keeps v a x start W room = on-cond (λ (t : Turn). t .change ≡ Keep) (v .fine) (next-keeps v a x start W room) refl
-
--- a drive that is not well formed draws a refusal, which changes nothing; no frame in passes there (`passed-formed`)
-module _ (v : View) (ill : v .fine ≡ false) where
-  pub next-out-ill : (a x start : ℕ) (W : List ℕ) (room : ℕ) → nextOutTurn v a x start W room ≡ refusedTurn IllFormed
-  unfolding nextOutTurn
-  next-out-ill a x start W room = rw ill
-
-  pub event-ill : (e : Event) → eventTurn v e ≡ refusedTurn IllFormed
-  unfolding eventTurn
-  event-ill e = rw ill

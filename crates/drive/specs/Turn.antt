@@ -1,16 +1,13 @@
--- The entries told by what changes: what each comes to, seen by the port that calls, and the drive after that. `Drive.antt` and `Entry.antt` say what each entry answers; that these are the same is `frame-turn`, `next-out-turn`, `event-turn`.
+-- Frames told by what changes: what each comes to, seen by the port that calls, and the drive after that. `Drive.antt` and `Entry.antt` say what each entry answers; that these are the same is `frame-turn`, `next-out-turn`.
 use Prim.Native.Nat.{ℕ}
 use mathlib.Core.Bool.{Bool, false, cond, not}
 use mathlib.Core.List.{List, []}
 use lib.Dec.{eqb}
-use Rattle.tables.specs.declared.Found.the-variants.{Nothing}
 use Rattle.tables.specs.Lists.{onFound}
 use Rattle.frame.specs.declared.Header.{Header}
 use Rattle.refusal.specs.declared.Refusal.{Refusal}
 use Rattle.refusal.specs.declared.Refusal.the-variants.{IllFormed}
-use Rattle.refusal.specs.declared.Said.the-variants.{Sent}
 use Rattle.refusal.specs.Refusal.{numberOf}
-use Rattle.state.specs.Changes.{emptyLogin}
 use Rattle.reply.specs.declared.Reply.the-variants as reply
 use Rattle.reply.specs.Reply.{sentOf, writtenOf}
 use Rattle.calls.specs.declared.View.{View}
@@ -27,8 +24,6 @@ use Rattle.arrival.specs.declared.Judged.the-variants as judged
 use Rattle.arrival.specs.Arrival.{kindOf, judgedBy}
 use Rattle.drive.specs.declared.Drive.{Drive}
 use Rattle.drive.specs.declared.Answer.{Answer}
-use Rattle.drive.specs.declared.Event.{Event}
-use Rattle.drive.specs.Drive.{changeOf}
 
 -- 7: "login unproven", that of the port that sees it
 unfoldable pub unprovenIn : View → Bool
@@ -69,10 +64,6 @@ nextOutTurn v a x start W room = cond (v .fine) (nextTurn v a x start W room) (r
 
 unfoldable pub nextOutBuffer : View → ℕ → ℕ → ℕ → List ℕ → List ℕ → List ℕ
 nextOutBuffer v a x start W l = cond (v .fine) (nextTurnBuffer v a x start W l) l
-
--- what an event comes to
-unfoldable pub eventTurn : View → Event → Turn
-eventTurn v e = cond (v .fine) (record { said = Sent 0; change = changeOf e; at = Nothing; login = emptyLogin }) (refusedTurn IllFormed)
 
 -- the drive after a turn
 abbrev pub answerTo : Drive → Turn → Answer

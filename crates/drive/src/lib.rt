@@ -11,6 +11,7 @@ use calls::look;
 use calls::port_after;
 use calls::refuse_turn;
 use calls::send_turn;
+use calls::sight_of;
 use command::command;
 use formed::setup_rules;
 use frame::Header;
@@ -26,13 +27,14 @@ use state::Change;
 use state::Port;
 use state::Setup;
 use state::Unit;
+use state::change_all;
 use state::empty_login;
 use tables::Found;
 ghost use mathlib.Core.Path.{_≡_};
 ghost use lib.ListN.{length};
 ghost use Rattle.drive.specs.Drive.{refused, madeFrom, noDrive, newAnswer, changeOf, eventAnswer};
 ghost use Rattle.drive.specs.Entry.{frameIn, frameInBuffer};
-ghost use Rattle.drive.specs.Turn.{unprovenIn, judgedIn, refusalOf, decisionOf, passedTurn, passedBuffer, nextOutTurn, nextOutBuffer, eventTurn, answerTo};
+ghost use Rattle.drive.specs.Turn.{unprovenIn, judgedIn, refusalOf, decisionOf, passedTurn, passedBuffer, nextOutTurn, nextOutBuffer, answerTo};
 
 #[repr(C)]
 pub struct Drive {
@@ -86,14 +88,22 @@ impl Drive {
         }
     }
 
-    // The drive after an event, or refusal 2 and the drive as it was; an event is no port's, and address 0 is none.
+    // The drive after an event, or refusal 2 and the drive as it was.
     pub fn event(self, e: Event) -> Answer
         ensures { λ r. ⌜ r ≡ eventAnswer self e ⌝ }
     {
         let u = self.unit;
         let p = self.port;
-        let v = look(u, p, 0);
-        self.after(event_turn(v, e))
+        let s = sight_of(u, p);
+        if s.fine {
+            let q = change_all(p, change_of(e));
+            Answer {
+                said: Said::Sent(0),
+                drive: Drive { unit: u, port: q },
+            }
+        } else {
+            self.refuse(Refusal::IllFormed)
+        }
     }
 
     // The answer of a turn: what was said, and the drive with its port after it.
@@ -164,21 +174,14 @@ pub fn next_turn(
     }
 }
 
-// What an event comes to.
-pub fn event_turn(v: View, e: Event) -> Turn
-    ensures { λ r. ⌜ r ≡ eventTurn v e ⌝ }
+// The change of every login that an event is.
+pub fn change_of(e: Event) -> Change
+    ensures { λ r. ⌜ r ≡ changeOf e ⌝ }
 {
-    if v.fine {
-        let c = change_of(e);
-        let l = empty_login();
-        Turn {
-            said: Said::Sent(0),
-            change: c,
-            at: Found::Nothing,
-            login: l,
-        }
-    } else {
-        refuse_turn(Refusal::IllFormed)
+    match e {
+        Event::LoopReset => Change::Unprove,
+        Event::TimeOver => Change::EndUnproven,
+        Event::PowerOn => Change::EndAll,
     }
 }
 
@@ -214,17 +217,6 @@ fn is_unproven(v: View) -> bool
         return false;
     };
     l.proven != 1
-}
-
-// The change of every login that an event is.
-fn change_of(e: Event) -> Change
-    ensures { λ r. ⌜ r ≡ changeOf e ⌝ }
-{
-    match e {
-        Event::LoopReset => Change::Unprove,
-        Event::TimeOver => Change::EndUnproven,
-        Event::PowerOn => Change::EndAll,
-    }
 }
 
 // What a frame that passed is answered, and what changes.
