@@ -1,4 +1,4 @@
--- The port after a turn, settled where it stands, is the port after the turn where all logins are fine, or every one is kept: a login that a change does not reach, by its key, is one that the change leaves as it is.
+-- What a change reaches, by the keys of the logins, is the change of all where the drive is well formed: a login that is not reached is one that the change leaves as it is.
 -- So what each entry tells, and the lent drive after it, is its answer. Assumes nothing.
 use Prim.Native.Nat.{ℕ, _+_, _<_, _^_}
 use mathlib.Core.Path.{_≡_, refl, sym, ap, _∙_, subst}
@@ -11,6 +11,7 @@ use Rattle.tables.specs.Lists.{all}
 use Rattle.tables.proofs.Bools.{and-left, and-right}
 use Rattle.frame.specs.Head.{headerOf}
 use Rattle.refusal.specs.declared.Refusal.{Refusal}
+use Rattle.refusal.specs.declared.Refusal.the-variants.{IllFormed}
 use Rattle.refusal.specs.declared.Said.the-variants.{Refused}
 use Rattle.refusal.proofs.Numbers.{numbers}
 use Rattle.state.specs.declared.Login.{Login}
@@ -22,34 +23,30 @@ use Rattle.state.specs.Changes.{isUsed, hasAddress, freedOf, endedOf, unproven,
 use Rattle.formed.specs.declared.Key.{Key}
 use Rattle.formed.specs.Formed.{loginFine, wellFormed}
 use Rattle.formed.specs.Keys.{keyOf, loginKey, keysOf}
-use Rattle.formed.proofs.Keys.{two-more, used-free, free-used}
+use Rattle.formed.proofs.Keys.{two-more, used-free, free-used, fine-by}
 use Rattle.formed.proofs.Parts.{formed-parts}
+use Rattle.calls.specs.declared.Sight.{Sight}
 use Rattle.calls.specs.declared.Turn.{Turn}
 use Rattle.calls.specs.declared.View.{View}
-use Rattle.calls.specs.View.{viewOf}
+use Rattle.calls.specs.View.{sightOf, viewOf}
 use Rattle.calls.specs.Turn.{storedAt, portAfter}
-use Rattle.calls.proofs.Views.{view-keys, view-fine}
+use Rattle.calls.proofs.Views.{view-keys}
+use Rattle.calls.proofs.Decisions.{keep-is}
 use Rattle.arrival.specs.Arrival.{shortBuffer}
 use Rattle.drive.specs.declared.Answer.{Answer}
 use Rattle.drive.specs.declared.Drive.{Drive}
 use Rattle.drive.specs.declared.Event.{Event}
-use Rattle.drive.specs.Drive.{refused, eventAnswer}
+use Rattle.drive.specs.Drive.{refused, silent, changeOf, afterEvent, eventAnswer}
 use Rattle.drive.specs.Entry.{frameIn, frameInBuffer, nextFrame}
-use Rattle.drive.specs.Turn.{refusalOf, passedTurn, nextOutTurn, eventTurn, answerTo}
-use Rattle.drive.proofs.Turns.{passed-formed, frame-turn, RefusedBy, frame-refused, next-out-turn, next-out-keeps, event-turn, event-ill}
+use Rattle.drive.specs.Turn.{refusalOf, passedTurn, nextOutTurn, answerTo}
+use Rattle.drive.proofs.Turns.{passed-formed, frame-turn, RefusedBy, frame-refused, next-out-turn, next-out-keeps}
 use Rattle.boundary.specs.Boundary.{codeOf, Tells}
-use Rattle.boundary.specs.Settled.{reaches, reachedBy, settledOf}
-use Rattle.boundary.proofs.Lent.{settled}
+use Rattle.boundary.specs.Settled.{reaches, reachedBy, reachedOf, settledOf, happenedSaid}
+use Rattle.boundary.proofs.Lent.{withPort, stored, settled, happened}
 
 twice : {A : Type 0} (b : Bool) (x y : A) → cond b (cond b x y) y ≡ cond b x y
 twice true x y = refl
 twice false x y = refl
-
-reached-none : (ks : List Key) (ls : List Login) → reachedBy Keep ks ls ≡ map (changedOf Keep) ls
-reached-none [] [] = refl
-reached-none [] (l ∷ ls) = ap (λ (ms : List Login). l ∷ ms) (reached-none [] ls)
-reached-none (k ∷ ks) [] = refl
-reached-none (k ∷ ks) (l ∷ ls) = ap (λ (ms : List Login). l ∷ ms) (reached-none ks ls)
 
 module _ (u : Unit) (own : ℕ) where
   -- a login that is fine and is not reached is one that the change leaves
@@ -78,28 +75,27 @@ module _ (u : Unit) (own : ℕ) where
       let r = reached-all c ls (and-right (loginFine u own l) (all (loginFine u own) ls) e) in
       ap (λ (m : Login). m ∷ reachedBy c (map (loginKey u own) ls) ls) (reached-fine c l (isUsed l) f refl) ∙ ap (λ (ms : List Login). changedOf c l ∷ ms) r
 
--- so the port settled by its keys is the port after the turn, where a port that is not well formed keeps every login
-settled-answer : (u : Unit) (p : Port) (t : Turn) → (wellFormed u p ≡ false → t .change ≡ Keep) → settledOf p (keysOf u p) t ≡ portAfter p t
-unfolding settledOf changedAll keysOf
-settled-answer u p t keeps = ap (λ (ls : List Login). storedAt (t .at) (t .login) (withLogins p ls)) (by (wellFormed u p) refl)
-  where
-    by : (b : Bool) → wellFormed u p ≡ b → reachedBy (t .change) (keysOf u p) (p .logins) ≡ map (changedOf (t .change)) (p .logins)
-    by true w = reached-all u (p .address) (t .change) (p .logins) (formed-parts w .logins)
-    by false w = rw (keeps w) (reached-none (keysOf u p) (p .logins))
+-- so what is reached by the keys of a port that is well formed is the change of all, and the port settled by them is the port after the turn
+module _ (u : Unit) (p : Port) (w : wellFormed u p ≡ true) where
+  reached-changed : (c : Change) → reachedOf p (keysOf u p) c ≡ changedAll c p
+  unfolding reachedOf changedAll keysOf
+  reached-changed c = ap (withLogins p) (reached-all u (p .address) c (p .logins) (formed-parts w .logins))
+
+  settled-answer : (t : Turn) → settledOf p (keysOf u p) t ≡ portAfter p t
+  unfolding settledOf
+  settled-answer t = ap (storedAt (t .at) (t .login)) (reached-changed (t .change))
 
 -- what a refusal tells, the drive as it was
 pub refusal-told : {d : Drive} {a : Answer} {x : Refusal} → a ≡ refused x d → Tells a (codeOf (Refused x)) d
 refusal-told e = (ap (λ (z : Answer). codeOf (z .said)) (sym e), ap (λ (z : Answer). z .drive) (sym e))
 
-module _ (d : Drive) (x : ℕ) where
-  abbrev seen : View
-  seen = viewOf (d .unit) (d .port) x
+-- what a turn tells, the drive with the port after it
+turn-told : (d : Drive) (t : Turn) {p : Port} {a : Answer} → p ≡ portAfter (d .port) t → answerTo d t ≡ a → Tells a (codeOf (t .said)) (withPort d p)
+turn-told d t e is = (ap (λ (z : Answer). codeOf (z .said)) is, ap (withPort d) e ∙ ap (λ (z : Answer). z .drive) is)
 
-  settles : (t : Turn) {a : Answer} → (wellFormed (d .unit) (d .port) ≡ false → t .change ≡ Keep) → answerTo d t ≡ a → Tells a (codeOf (t .said)) (settled d (seen .keys) t)
-  settles t keeps is = (
-    ap (λ (z : Answer). codeOf (z .said)) is,
-    ap (λ (ks : List Key). settled d ks t) (view-keys (d .unit) (d .port) x) ∙ ap (λ (p : Port). record { unit = d .unit; port = p }) (settled-answer (d .unit) (d .port) t keeps) ∙ ap (λ (z : Answer). z .drive) is,
-  )
+-- what a call of the port at an address sees
+abbrev seen : Drive → ℕ → View
+seen d x = viewOf (d .unit) (d .port) x
 
 -- a frame whose refusal has a number is refused with it, and the buffer left as it was; one that passes comes to the turn of one that passed
 module _ (d : Drive) (f : List ℕ) where
@@ -126,15 +122,41 @@ module _ (d : Drive) (f : List ℕ) where
       by true h = h
       by false h = h
 
-  pub frame-settles : number ≡ 0 → (room : ℕ) → shortBuffer room ≡ false
-      → Tells (frameIn d f room) (codeOf (passedTurn (seen d (headerOf f .«s_id»)) (headerOf f) f room .said)) (settled d (seen d (headerOf f .«s_id») .keys) (passedTurn (seen d (headerOf f .«s_id»)) (headerOf f) f room))
-  frame-settles zero room long = settles d (headerOf f .«s_id») _ (λ ill. let h : true ≡ false = sym (passed-formed d f zero) ∙ ill in cc) (frame-turn d f zero room long)
+  module _ (zero : number ≡ 0) (room : ℕ) where
+    abbrev turn : Turn
+    turn = passedTurn (seen d (headerOf f .«s_id»)) (headerOf f) f room
 
--- a next frame keeps every login but one
-pub next-settles : (d : Drive) (a x start : ℕ) (W : List ℕ) (room : ℕ) → shortBuffer room ≡ false
-    → Tells (nextFrame d a x start W room) (codeOf (nextOutTurn (seen d a) a x start W room .said)) (settled d (seen d a .keys) (nextOutTurn (seen d a) a x start W room))
-next-settles d a x start W room long = settles d a _ (λ _. next-out-keeps (seen d a) a x start W room) (next-out-turn d a x start W room long)
+    pub frame-settles : shortBuffer room ≡ false → Tells (frameIn d f room) (codeOf (turn .said)) (settled d (seen d (headerOf f .«s_id») .keys) turn)
+    frame-settles long =
+        turn-told d turn
+        (ap (λ (ks : List Key). settledOf (d .port) ks turn) (view-keys (d .unit) (d .port) (headerOf f .«s_id»)) ∙ settled-answer (d .unit) (d .port) (passed-formed d f zero) turn)
+        (frame-turn d f zero room long)
+
+-- a next frame changes no login but the one it stores
+module _ (d : Drive) (a x start : ℕ) (W : List ℕ) (room : ℕ) where
+  abbrev turn-out : Turn
+  turn-out = nextOutTurn (seen d a) a x start W room
+
+  pub next-stores : shortBuffer room ≡ false → Tells (nextFrame d a x start W room) (codeOf (turn-out .said)) (stored d turn-out)
+  next-stores long =
+      let kept = ap (λ (c : Change). changedAll c (d .port)) (next-out-keeps (seen d a) a x start W room) ∙ keep-is (d .port) in
+      turn-told d turn-out (ap (storedAt (turn-out .at) (turn-out .login)) (sym kept)) (next-out-turn d a x start W room long)
 
 -- an event changes a drive that is well formed, and no other
-pub event-settles : (d : Drive) (e : Event) → Tells (eventAnswer d e) (codeOf (eventTurn (seen d 0) e .said)) (settled d (seen d 0 .keys) (eventTurn (seen d 0) e))
-event-settles d e = settles d 0 _ (λ ill. ap (λ (t : Turn). t .change) (event-ill (seen d 0) (view-fine (d .unit) (d .port) 0 ∙ ill) e)) (event-turn d e)
+module _ (d : Drive) (e : Event) where
+  abbrev sight : Sight
+  sight = sightOf (d .unit) (d .port)
+
+  abbrev reached : Port
+  reached = reachedOf (d .port) (sight .keys) (changeOf e)
+
+  happens : (fine : Bool) → wellFormed (d .unit) (d .port) ≡ fine → Tells (cond fine (silent (afterEvent e d)) (refused IllFormed d)) (codeOf (happenedSaid fine)) (withPort d (cond fine reached (d .port)))
+  unfolding afterEvent
+  happens true w = (refl, ap (withPort d) (reached-changed (d .unit) (d .port) w (changeOf e)))
+  happens false w = (refl, refl)
+
+  pub event-happens : Tells (eventAnswer d e) (codeOf (happenedSaid (sight .fine))) (happened d sight (changeOf e))
+  unfolding eventAnswer
+  event-happens =
+      subst (λ (fine : Bool). Tells (eventAnswer d e) (codeOf (happenedSaid fine)) (withPort d (cond fine reached (d .port)))) (sym (fine-by (d .unit) (d .port)))
+      (happens (wellFormed (d .unit) (d .port)) refl)

@@ -22,6 +22,7 @@ use denote.Triple.Clauses.{ensured, lasts}
 use Rattle.refusal.specs.declared.Said.{Said}
 use Rattle.refusal.proofs.Said as Sd
 use Rattle.refusal.proofs.Said.Laws as Sd′
+use Rattle.state.specs.declared.Change.{Change}
 use Rattle.state.specs.declared.Port.{Port}
 use Rattle.state.specs.declared.Unit.{Unit as TheUnit}
 use Rattle.state.proofs.Port as Po
@@ -29,12 +30,14 @@ use Rattle.state.proofs.Port.Laws as Po′
 use Rattle.state.proofs.Unit as Un
 use Rattle.state.proofs.Unit.Laws as Un′
 use Rattle.formed.specs.declared.Key.{Key}
+use Rattle.calls.specs.declared.Sight.{Sight}
 use Rattle.calls.specs.declared.Turn.{Turn}
+use Rattle.calls.specs.Turn.{storedAt}
 use Rattle.drive.specs.declared.Drive.{Drive}
 use Rattle.drive.proofs.Drive as Dr
 use Rattle.drive.proofs.Drive.Laws as Dr′
 use Rattle.boundary.specs.Boundary.{codeOf}
-use Rattle.boundary.specs.Settled.{settledOf}
+use Rattle.boundary.specs.Settled.{settledOf, happenedOf}
 use Rattle.boundary.proofs.code as n
 
 -- the machine values of a drive, of a port, of a unit and of what is said
@@ -50,9 +53,18 @@ uval u = LL.val Un.the-type Un′.the-laws u
 abbrev pub sval : Said → Val
 sval d = EL.val Sd.the-type Sd′.the-laws d
 
--- the drive with its port after a turn, settled in place
+-- the drive with this port: after the login of a turn is stored, after a turn, and after an event
+abbrev pub withPort : Drive → Port → Drive
+withPort d p = record { unit = d .unit; port = p }
+
+abbrev pub stored : Drive → Turn → Drive
+stored d t = withPort d (storedAt (t .at) (t .login) (d .port))
+
 abbrev pub settled : Drive → List Key → Turn → Drive
-settled d ks t = record { unit = d .unit; port = settledOf (d .port) ks t }
+settled d ks t = withPort d (settledOf (d .port) ks t)
+
+abbrev pub happened : Drive → Sight → Change → Drive
+happened d s c = withPort d (happenedOf (d .port) s c)
 
 -- types of locals: a number, and the lent port
 abbrev pub word : Ty
