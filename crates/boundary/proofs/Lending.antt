@@ -1,4 +1,4 @@
--- The port of a lent drive is lent on, to `view` and to `settle`, from the drive's cell: what each call asks, what it gives, and the drive's cell again, with that port.
+-- The port of a lent drive is lent on, from the drive's cell, to a function that tells something and leaves a port: what the call asks, what it gives, and the drive's cell again, with that port. So it goes to `sight`, `view`, `store`, `settle` and `happen`.
 -- Beside it, the call of `code` for a refusal, a lent buffer that was not touched, and a step for large constants. Assumes nothing.
 use mathlib.Core.Path.{_≡_, refl, subst}
 use Prim.Native.Nat.{ℕ, _+_, _<_, _^_}
@@ -12,15 +12,16 @@ use mir.Raw.{raw as rawTy}
 use mir.Syntax.{Lifetime, Width, w32, intBig}
 use mir.Val.{Val, Fits, vint, vptr, vstruct}
 use base.Logic.{SProp, ent, sep, emp, ex, id⊢, via, guardI}
-use base.Fml.{Lft, Fml, ftrue, fat, fres, flft}
+use base.Fml.{Lft, Fml, ftrue, fsep, fat, fres, flft}
 use prog.Memory.{Memory}
 use prog.Routine.{Routine}
 use prog.Wp.{Heap, Env}
 use ghost.Atoms.{Atoms, sem}
 use contract.Monad.{Fun, fact}
-use types.Kit.{Given, Item, ‵, raw, _⊛_, some, later, _$_, _∵_, !, qed, by, move, keep, use1, use3, split, join, pick, rewrite, fsplit, fjoin, frame, await, updating, now as at-once, show, done}
+use types.Kit.{Given, Item, ‵, raw, _⊛_, mean, some, later, _$_, _∵_, !, qed, by, move, keep, use0, use1, use3, split, join, pick, rewrite, fsplit, fjoin, await, updating, now as at-once, show, done}
 use types.Part.{whole, sub}
 use types.Run.{Opd}
+use denote.RattleType.{RattleType, owns}
 use denote.Laws.{Is, shows}
 use denote.Plain.{uint-makes}
 use denote.Builtin.{u8, u32, u64}
@@ -32,7 +33,7 @@ use denote.Enum.Laws as EL
 use denote.Struct.Laws as LL
 use denote.Triple.Statement.{Contract}
 use denote.Triple.Spec.{tripleOf}
-use denote.Triple.Clauses.{ensured, lasts}
+use denote.Triple.Clauses.{ensured}
 use denote.Triple.Walked.{says}
 use Rattle.refusal.specs.declared.Refusal.the-variants.{ShortBuffer}
 use Rattle.refusal.specs.declared.Said.{Said}
@@ -41,7 +42,10 @@ use Rattle.refusal.proofs.Refusal as Rf
 use Rattle.refusal.proofs.Refusal.Laws as Rf′
 use Rattle.refusal.proofs.Said as Sd
 use Rattle.refusal.proofs.Said.Laws as Sd′
+use Rattle.state.specs.declared.Change.{Change}
 use Rattle.state.specs.declared.Port.{Port}
+use Rattle.state.proofs.Change as Ch
+use Rattle.state.proofs.Change.Laws as Ch′
 use Rattle.state.proofs.Port as Po
 use Rattle.state.proofs.Port.Laws as Po′
 use Rattle.state.proofs.Unit as Un
@@ -49,9 +53,12 @@ use Rattle.state.proofs.Unit.Laws as Un′
 use Rattle.formed.specs.declared.Key.{Key}
 use Rattle.formed.proofs.Key as Ke
 use Rattle.formed.proofs.Key.Laws as Ke′
+use Rattle.calls.specs.declared.Sight.{Sight}
 use Rattle.calls.specs.declared.Turn.{Turn}
 use Rattle.calls.specs.declared.View.{View}
-use Rattle.calls.specs.View.{viewOf}
+use Rattle.calls.specs.View.{sightOf, viewOf}
+use Rattle.calls.proofs.Sight as Si
+use Rattle.calls.proofs.Sight.Laws as Si′
 use Rattle.calls.proofs.Turn as Tn
 use Rattle.calls.proofs.Turn.Laws as Tn′
 use Rattle.calls.proofs.View as Vw
@@ -60,33 +67,62 @@ use Rattle.drive.specs.declared.Drive.{Drive}
 use Rattle.drive.proofs.Drive as Dr
 use Rattle.drive.proofs.Drive.Laws as Dr′
 use Rattle.boundary.specs.Boundary.{codeOf}
-use Rattle.boundary.specs.Settled.{settledOf}
+use Rattle.boundary.specs.Settled.{happenedSaid}
 use Rattle.boundary.proofs.Elements.{inside}
 use Rattle.boundary.proofs.Keyed.{K8, held, from-field}
-use Rattle.boundary.proofs.Lent.{dval, pval, uval, sval, settled, N, code-of, to-code, goes-code}
+use Rattle.boundary.proofs.Lent.{dval, pval, uval, sval, withPort, stored, settled, happened, N, code-of, to-code, goes-code}
 use Rattle.boundary.proofs.Onward.{Loan, lent-at, Kept, lends-part, takes-part}
+use Rattle.boundary.proofs.sight as g
 use Rattle.boundary.proofs.view as v
+use Rattle.boundary.proofs.store as t
 use Rattle.boundary.proofs.settle as s
+use Rattle.boundary.proofs.happen as c
 use Rattle.boundary.proofs.code as n
 
--- the machine values of a view and of a turn
+-- the machine values of a sight, of a view, of a turn and of a change
+abbrev pub gval : Sight → Val
+gval g = LL.val Si.the-type Si′.the-laws g
+
 abbrev pub vval : View → Val
 vval w = LL.val Vw.the-type Vw′.the-laws w
 
 abbrev pub tval : Turn → Val
 tval t = LL.val Tn.the-type Tn′.the-laws t
 
+abbrev pub cval : Change → Val
+cval c = EL.val Ch.the-type Ch′.the-laws c
+
 -- the keys as a view's cell holds them
 pub keys-are : (w : View) → Is Vw.the-row w (vval w ∷ []) → Is K8 (w .keys) (held (w .keys) ∷ [])
 keys-are w is = from-field (w .keys) _ (LL.owed Vw.the-type Vw′.the-laws w _ is .1 .1 .0)
 
+-- nothing is said at the end of one other parameter, or of two
+abbrev of-one : Fml
+of-one = fsep ftrue ftrue
+
+abbrev of-two : Fml
+of-two = fsep ftrue of-one
+
+-- a number is told, and the drive is one
+abbrev pub Told : ℕ → Drive → Val → Type 0
+Told k d u = Is u64 k (u ∷ []) × Is Dr.the-row d (dval d ∷ [])
+
 module _ {M : Type 1} (𝓤 : URA M) (H : Heap 𝓤) (A : Atoms 𝓤) (mem : Memory → SProp 𝓤) (run : Routine → Fun 𝓤) where
-  -- the contracts of `view` and of `settle`
+  -- the contracts of `sight`, `view`, `store`, `settle` and `happen`
+  abbrev pub Sighting : Contract 𝓤
+  Sighting = tripleOf 𝓤 H A g.signature (g.spec 𝓤 H A mem run)
+
   abbrev pub Viewing : Contract 𝓤
   Viewing = tripleOf 𝓤 H A v.signature (v.spec 𝓤 H A mem run)
 
+  abbrev pub Storing : Contract 𝓤
+  Storing = tripleOf 𝓤 H A t.signature (t.spec 𝓤 H A mem run)
+
   abbrev pub Settling : Contract 𝓤
   Settling = tripleOf 𝓤 H A s.signature (s.spec 𝓤 H A mem run)
+
+  abbrev pub Happening : Contract 𝓤
+  Happening = tripleOf 𝓤 H A c.signature (c.spec 𝓤 H A mem run)
 
   -- a drive's cell, and the same whatever the port's place holds
   module _ (b o : ℕ) (h : Drive) where
@@ -117,82 +153,107 @@ module _ {M : Type 1} (𝓤 : URA M) (H : Heap 𝓤) (A : Atoms 𝓤) (mem : Mem
       lends : ent 𝓤 (H .at fullShare (rawTy Dr′.mir) b o (dval h)) (H .⇛ (ex 𝓤 (λ (y : Loan). sep 𝓤 (sep 𝓤 (A .lft (y .0 ∷ []) fullShare) (sem 𝓤 H A (lent y))) (Keeps y))))
       lends = lends-part Po.the-type Po′.the-laws Po′.the-plain 𝓤 H A W b (o + 40) (back b o h) (h .port) is-port (sub ! 1 refl (whole !))
 
+    -- what a call asks whose other parameters own what `others` says
+    module _ (others : Fml) where
+      abbrev Asks : Loan → Item 𝓤
+      Asks y = ((‵ (flft (y .0 ∷ []) fullShare) ⊛ ‵ ftrue) ⊛ ‵ (fsep (lent y) others)) ⊛ ‵ ftrue
+
+      abbrev Asked : Loan → SProp 𝓤
+      Asked y = sep 𝓤 (mean 𝓤 H A (Asks y)) (Keeps y)
+
+      lends-to : ent 𝓤 (emp 𝓤) (sem 𝓤 H A others) → Is Dr.the-row h (dval h ∷ []) → ent 𝓤 (H .at fullShare (rawTy Dr′.mir) b o (dval h)) (H .⇛ (ex 𝓤 Asked))
+      lends-to made was =
+          qed W (cell b o h ∷ []) ∵ updating ! $
+          use1 W (later (some (λ (y : Loan). (‵ (flft (y .0 ∷ []) fullShare) ⊛ ‵ (lent y)) ⊛ raw (Keeps y)))) (lends was) $ await ! tt $ pick ! (λ y. split ! $ split ! $
+          -- [the token; the port; what is kept]
+          nothing ! $ move ! (1 ∷ 0 ∷ []) $ join ! $ use0 W (‵ others) made $ move ! (2 ∷ 0 ∷ []) $ fjoin ! $ move ! (1 ∷ 0 ∷ []) $ join ! $ nothing ! $ move ! (1 ∷ 0 ∷ []) $ join ! $
+          at-once ! $ show ! Asked y $ done !)
+
+    -- what a call gives that tells `told` and leaves the port `last`, and so the drive's cell, with that port
+    module _ (R : RattleType) (told : R .Denot) (last : Port) (Ws : Type 0) (others : Fml) where
+      abbrev Gives : Loan → Val → Item 𝓤
+      Gives y u = later (some (λ (r : R .Denot). ((‵ (flft (y .0 ∷ []) fullShare) ⊛ ‵ ftrue) ⊛ ‵ (R .own r (u ∷ []))) ⊛ some (λ (ws : Port × Ws). ‵ (fsep (fres (y .1) (Po.the-row .coded .code (ws .0))) others) ⊛ raw (fact 𝓤 ((r ≡ told) × (ws .0 ≡ last))))))
+
+      takes-back : (y : Loan) (u : Val) {Z : Type 0} → (Is R told (u ∷ []) → Is Po.the-row last (pval last ∷ []) → Z)
+          → ent 𝓤 (sep 𝓤 (mean 𝓤 H A (Gives y u)) (Keeps y)) (H .⇛ (sep 𝓤 (H .at fullShare (rawTy Dr′.mir) b o (dval (withPort h last))) (fact 𝓤 Z)))
+      takes-back y u known =
+          qed W (Gives y u ∷ raw (Keeps y) ∷ []) ∵ updating ! $ await ! tt $ pick ! (λ r. split ! $ move ! (1 ∷ []) $ pick ! (λ ws.
+          split ! $ move ! (1 ∷ []) $ heard ! ((r ≡ told) × (ws .0 ≡ last)) (λ e. fsplit ! $ rewrite ! 0 (λ (z : Port). ‵ (fres (y .1) (Po.the-row .coded .code z))) (e .1) refl $
+          -- [the last value; what is said of the others; the token and the result; what is kept]
+          move ! (2 ∷ []) $ split ! $ move ! (1 ∷ []) $ peeks ! R (Is R) (shows 𝓤 H A R) r (u ∷ []) (λ is. move ! (1 ∷ []) $ split ! $
+          -- [the token; true; the result; the last value; what is said of the others; what is kept]
+          keep ! (0 ∷ 5 ∷ 3 ∷ []) $ use3 W (later (cell b o (withPort h last) ⊛ raw (fact 𝓤 (Is Po.the-row last (pval last ∷ []))))) (takes-part Po.the-type Po′.the-laws Po′.the-plain 𝓤 H A W b (o + 40) (back b o h) y last) $ await ! tt $ split ! $
+          move ! (1 ∷ []) $ heard ! (Is Po.the-row last (pval last ∷ [])) (λ is-p. at-once ! $ says ! (known (subst (λ (z : R .Denot). Is R z (u ∷ [])) (e .0) is) is-p) $ done !)))))
+
+    -- where a number is told, the drive with that port is one
+    tells-of : Is Dr.the-row h (dval h ∷ []) → (k : ℕ) (p : Port) (u : Val) → Is u64 k (u ∷ []) → Is Po.the-row p (pval p ∷ []) → Told k (withPort h p) u
+    tells-of was k p u is is-p = (is, LL.owes Dr.the-type Dr′.the-laws (withPort h p) (is-unit was, (is-p, tt)))
+
+    -- `sight`
+    abbrev pub to-sight : Loan → Sighting .Ghost
+    to-sight y = (((y .0 ∷ [], tt), (fullShare, tt), tt, (port y, (h .unit, tt)), (vptr b (o + 40) ∷ [], (uval (h .unit) ∷ [], tt))), tt)
+
+    pub lends-sight : Is Dr.the-row h (dval h ∷ []) → ent 𝓤 (H .at fullShare (rawTy Dr′.mir) b o (dval h)) (H .⇛ (ex 𝓤 (λ (y : Loan). sep 𝓤 (Sighting .pre (to-sight y)) (Keeps y))))
+    lends-sight was =
+        lends-to (owns (Un.the-row ∷ []) (h .unit, tt) (uval (h .unit) ∷ [], tt))
+        (qed W [] ∵ nothing ! $ owned ! Un.the-row (Is Un.the-row) (LL.makes Un.the-type Un′.the-plain 𝓤 H A) (h .unit) _ (is-unit was) $ fjoin ! $ done !) was
+
+    pub sight-back : (y : Loan) (u : Val)
+        → ent 𝓤 (sep 𝓤 (Sighting .post (to-sight y) u) (Keeps y)) (H .⇛ (sep 𝓤 (H .at fullShare (rawTy Dr′.mir) b o (dval h)) (fact 𝓤 (Is Si.the-row (sightOf (h .unit) (h .port)) (u ∷ [])))))
+    sight-back y u = takes-back Si.the-row (sightOf (h .unit) (h .port)) (h .port) _ of-one y u (λ is _. is)
+
     -- `view`
     module _ (x : ℕ) where
       abbrev pub to-view : Loan → Viewing .Ghost
       to-view y = (((y .0 ∷ [], tt), (fullShare, tt), tt, (port y, (h .unit, (x, tt))), (vptr b (o + 40) ∷ [], (uval (h .unit) ∷ [], (vint w32 x ∷ [], tt)))), tt)
 
-      abbrev ToView : Loan → SProp 𝓤
-      ToView y = sep 𝓤 (Viewing .pre (to-view y)) (Keeps y)
-
-      goes-view : (y : Loan) → Is Un.the-row (h .unit) (uval (h .unit) ∷ []) → x < 2 ^ 32 → ent 𝓤 (sep 𝓤 (A .lft (y .0 ∷ []) fullShare) (sem 𝓤 H A (lent y))) (Viewing .pre (to-view y))
-      goes-view y is-u fits =
-          qed W (‵ (flft (y .0 ∷ []) fullShare) ∷ ‵ (lent y) ∷ []) ∵ nothing ! $ move ! (1 ∷ 0 ∷ []) $ join ! $ move ! (1 ∷ []) $
-          nothing ! $ owned ! u32 (Is u32) (uint-makes 𝓤 H A W w32) x _ (refl, fits) $ fjoin ! $ owned ! Un.the-row (Is Un.the-row) (LL.makes Un.the-type Un′.the-plain 𝓤 H A) (h .unit) _ is-u $ fjoin ! $ move ! (1 ∷ 0 ∷ []) $ fjoin ! $ move ! (1 ∷ 0 ∷ []) $ join ! $ frame ! $ done !
-
-      pub lends-view : Is Dr.the-row h (dval h ∷ []) → x < 2 ^ 32 → ent 𝓤 (H .at fullShare (rawTy Dr′.mir) b o (dval h)) (H .⇛ (ex 𝓤 ToView))
+      pub lends-view : Is Dr.the-row h (dval h ∷ []) → x < 2 ^ 32 → ent 𝓤 (H .at fullShare (rawTy Dr′.mir) b o (dval h)) (H .⇛ (ex 𝓤 (λ (y : Loan). sep 𝓤 (Viewing .pre (to-view y)) (Keeps y))))
       lends-view was fits =
-          qed W (cell b o h ∷ []) ∵ updating ! $
-          use1 W (later (some (λ (y : Loan). (‵ (flft (y .0 ∷ []) fullShare) ⊛ ‵ (lent y)) ⊛ raw (Keeps y)))) (lends was) $ await ! tt $ pick ! (λ y. split ! $
-          use1 W (raw (Viewing .pre (to-view y))) (goes-view y (is-unit was) fits) $ at-once ! $ show ! ToView y $ done !)
+          lends-to (owns (Un.the-row ∷ u32 ∷ []) (h .unit, (x, tt)) (uval (h .unit) ∷ [], (vint w32 x ∷ [], tt)))
+          (qed W [] ∵ nothing ! $ owned ! u32 (Is u32) (uint-makes 𝓤 H A W w32) x _ (refl, fits) $ fjoin ! $ owned ! Un.the-row (Is Un.the-row) (LL.makes Un.the-type Un′.the-plain 𝓤 H A) (h .unit) _ (is-unit was) $ fjoin ! $ done !) was
 
-      -- what is seen
-      abbrev pub seen : View
-      seen = viewOf (h .unit) (h .port) x
+      pub view-back : (y : Loan) (u : Val)
+          → ent 𝓤 (sep 𝓤 (Viewing .post (to-view y) u) (Keeps y)) (H .⇛ (sep 𝓤 (H .at fullShare (rawTy Dr′.mir) b o (dval h)) (fact 𝓤 (Is Vw.the-row (viewOf (h .unit) (h .port) x) (u ∷ [])))))
+      view-back y u = takes-back Vw.the-row (viewOf (h .unit) (h .port) x) (h .port) _ of-two y u (λ is _. is)
 
-      pub view-back : (y : Loan) (u : Val) → ent 𝓤 (sep 𝓤 (Viewing .post (to-view y) u) (Keeps y)) (H .⇛ (sep 𝓤 (H .at fullShare (rawTy Dr′.mir) b o (dval h)) (fact 𝓤 (Is Vw.the-row seen (u ∷ [])))))
-      view-back y u =
-          qed W (raw (Viewing .post (to-view y) u) ∷ raw (Keeps y) ∷ []) ∵ updating ! $
-          use1 W (later (some (λ (w : View). ((‵ (flft (y .0 ∷ []) fullShare) ⊛ ‵ ftrue) ⊛ ‵ (Vw.the-row .own w (u ∷ []))) ⊛ raw (ensured 𝓤 H A v.ended (v.clauses 𝓤 H A mem run) (y .0 ∷ [], tt) (port y, (h .unit, (x, tt))) tt w)))) (id⊢ 𝓤 _) $ await ! tt $ pick ! (λ w.
-          split ! $ move ! (1 ∷ []) $ use1 W (some (λ (ws : Port × (Unit {0} × (Unit {0} × Unit {0}))). ‵ (lasts v.ended (y .0 ∷ [], tt) (port y, (h .unit, (x, tt))) ws) ⊛ raw (fact 𝓤 ((w ≡ seen) × (ws .0 ≡ h .port))))) (id⊢ 𝓤 _) $ pick ! (λ ws.
-          split ! $ move ! (1 ∷ []) $ heard ! ((w ≡ seen) × (ws .0 ≡ h .port)) (λ e. fsplit ! $ rewrite ! 0 (λ (z : Port). ‵ (fres (y .1) (Po.the-row .coded .code z))) (e .1) refl $
-          -- [the last value; true; the token and the view; what is kept]
-          move ! (2 ∷ []) $ split ! $ move ! (1 ∷ []) $ peeks ! Vw.the-row (Is Vw.the-row) (shows 𝓤 H A Vw.the-row) w (u ∷ []) (λ is. move ! (1 ∷ []) $ split ! $
-          -- [the token; true; the view; the last value; true; what is kept]
-          keep ! (0 ∷ 5 ∷ 3 ∷ []) $ use3 W (later (cell b o h ⊛ raw (fact 𝓤 (Is Po.the-row (h .port) (pval (h .port) ∷ []))))) (takes-part Po.the-type Po′.the-laws Po′.the-plain 𝓤 H A W b (o + 40) (back b o h) y (h .port)) $ await ! tt $ split ! $
-          move ! (1 ∷ []) $ heard ! (Is Po.the-row (h .port) (pval (h .port) ∷ [])) (λ _. at-once ! $ says ! (subst (λ (z : View). Is Vw.the-row z (u ∷ [])) (e .0) is) $ done !)))))
+    -- `store`
+    module _ (w : Turn) where
+      abbrev pub to-store : Loan → Storing .Ghost
+      to-store y = (((y .0 ∷ [], tt), (fullShare, tt), tt, (port y, (w, tt)), (vptr b (o + 40) ∷ [], (tval w ∷ [], tt))), tt)
+
+      pub lends-store : Is Dr.the-row h (dval h ∷ []) → Is Tn.the-row w (tval w ∷ []) → ent 𝓤 (H .at fullShare (rawTy Dr′.mir) b o (dval h)) (H .⇛ (ex 𝓤 (λ (y : Loan). sep 𝓤 (Storing .pre (to-store y)) (Keeps y))))
+      lends-store was is-w =
+          lends-to (owns (Tn.the-row ∷ []) (w, tt) (tval w ∷ [], tt))
+          (qed W [] ∵ nothing ! $ owned ! Tn.the-row (Is Tn.the-row) (LL.makes Tn.the-type Tn′.the-plain 𝓤 H A) w _ is-w $ fjoin ! $ done !) was
+
+      pub store-back : Is Dr.the-row h (dval h ∷ []) → (y : Loan) (u : Val) → ent 𝓤 (sep 𝓤 (Storing .post (to-store y) u) (Keeps y)) (H .⇛ (sep 𝓤 (H .at fullShare (rawTy Dr′.mir) b o (dval (stored h w))) (fact 𝓤 (Told (codeOf (w .said)) (stored h w) u))))
+      store-back was y u = takes-back u64 (codeOf (w .said)) (stored h w .port) _ of-one y u (tells-of was (codeOf (w .said)) (stored h w .port) u)
 
     -- `settle`
-    module _ (ks : List Key) (t : Turn) where
+    module _ (ks : List Key) (w : Turn) where
       abbrev pub to-settle : Loan → Settling .Ghost
-      to-settle y = (((y .0 ∷ [], tt), (fullShare, tt), tt, (port y, (ks, (t, tt))), (vptr b (o + 40) ∷ [], (held ks ∷ [], (tval t ∷ [], tt)))), tt)
+      to-settle y = (((y .0 ∷ [], tt), (fullShare, tt), tt, (port y, (ks, (w, tt))), (vptr b (o + 40) ∷ [], (held ks ∷ [], (tval w ∷ [], tt)))), tt)
 
-      abbrev ToSettle : Loan → SProp 𝓤
-      ToSettle y = sep 𝓤 (Settling .pre (to-settle y)) (Keeps y)
+      pub lends-settle : Is Dr.the-row h (dval h ∷ []) → Is K8 ks (held ks ∷ []) → Is Tn.the-row w (tval w ∷ []) → ent 𝓤 (H .at fullShare (rawTy Dr′.mir) b o (dval h)) (H .⇛ (ex 𝓤 (λ (y : Loan). sep 𝓤 (Settling .pre (to-settle y)) (Keeps y))))
+      lends-settle was is-ks is-w =
+          lends-to (owns (K8 ∷ Tn.the-row ∷ []) (ks, (w, tt)) (held ks ∷ [], (tval w ∷ [], tt)))
+          (qed W [] ∵ nothing ! $ owned ! Tn.the-row (Is Tn.the-row) (LL.makes Tn.the-type Tn′.the-plain 𝓤 H A) w _ is-w $ fjoin ! $ owned ! K8 (Is K8) (array-makes 𝓤 H A W Ke.the-row (LL.makes Ke.the-type Ke′.the-plain 𝓤 H A) 8) ks _ is-ks $ fjoin ! $ done !) was
 
-      goes-settle : (y : Loan) → Is K8 ks (held ks ∷ []) → Is Tn.the-row t (tval t ∷ []) → ent 𝓤 (sep 𝓤 (A .lft (y .0 ∷ []) fullShare) (sem 𝓤 H A (lent y))) (Settling .pre (to-settle y))
-      goes-settle y is-ks is-t =
-          qed W (‵ (flft (y .0 ∷ []) fullShare) ∷ ‵ (lent y) ∷ []) ∵ nothing ! $ move ! (1 ∷ 0 ∷ []) $ join ! $ move ! (1 ∷ []) $
-          nothing ! $ owned ! Tn.the-row (Is Tn.the-row) (LL.makes Tn.the-type Tn′.the-plain 𝓤 H A) t _ is-t $ fjoin ! $ owned ! K8 (Is K8) (array-makes 𝓤 H A W Ke.the-row (LL.makes Ke.the-type Ke′.the-plain 𝓤 H A) 8) ks _ is-ks $ fjoin ! $
-          move ! (1 ∷ 0 ∷ []) $ fjoin ! $ move ! (1 ∷ 0 ∷ []) $ join ! $ frame ! $ done !
+      pub settle-back : Is Dr.the-row h (dval h ∷ []) → (y : Loan) (u : Val) → ent 𝓤 (sep 𝓤 (Settling .post (to-settle y) u) (Keeps y)) (H .⇛ (sep 𝓤 (H .at fullShare (rawTy Dr′.mir) b o (dval (settled h ks w))) (fact 𝓤 (Told (codeOf (w .said)) (settled h ks w) u))))
+      settle-back was y u = takes-back u64 (codeOf (w .said)) (settled h ks w .port) _ of-two y u (tells-of was (codeOf (w .said)) (settled h ks w .port) u)
 
-      pub lends-settle : Is Dr.the-row h (dval h ∷ []) → Is K8 ks (held ks ∷ []) → Is Tn.the-row t (tval t ∷ []) → ent 𝓤 (H .at fullShare (rawTy Dr′.mir) b o (dval h)) (H .⇛ (ex 𝓤 ToSettle))
-      lends-settle was is-ks is-t =
-          qed W (cell b o h ∷ []) ∵ updating ! $
-          use1 W (later (some (λ (y : Loan). (‵ (flft (y .0 ∷ []) fullShare) ⊛ ‵ (lent y)) ⊛ raw (Keeps y)))) (lends was) $ await ! tt $ pick ! (λ y. split ! $
-          use1 W (raw (Settling .pre (to-settle y))) (goes-settle y is-ks is-t) $ at-once ! $ show ! ToSettle y $ done !)
+    -- `happen`
+    module _ (i : Sight) (x : Change) where
+      abbrev pub to-happen : Loan → Happening .Ghost
+      to-happen y = (((y .0 ∷ [], tt), (fullShare, tt), tt, (port y, (i, (x, tt))), (vptr b (o + 40) ∷ [], (gval i ∷ [], (cval x ∷ [], tt)))), tt)
 
-      abbrev last : Port
-      last = settledOf (h .port) ks t
+      pub lends-happen : Is Dr.the-row h (dval h ∷ []) → Is Si.the-row i (gval i ∷ []) → Is Ch.the-row x (cval x ∷ []) → ent 𝓤 (H .at fullShare (rawTy Dr′.mir) b o (dval h)) (H .⇛ (ex 𝓤 (λ (y : Loan). sep 𝓤 (Happening .pre (to-happen y)) (Keeps y))))
+      lends-happen was is-i is-x =
+          lends-to (owns (Si.the-row ∷ Ch.the-row ∷ []) (i, (x, tt)) (gval i ∷ [], (cval x ∷ [], tt)))
+          (qed W [] ∵ nothing ! $ owned ! Ch.the-row (Is Ch.the-row) (EL.makes Ch.the-type Ch′.the-plain 𝓤 H A) x _ is-x $ fjoin ! $ owned ! Si.the-row (Is Si.the-row) (LL.makes Si.the-type Si′.the-plain 𝓤 H A) i _ is-i $ fjoin ! $ done !) was
 
-      -- what is known after
-      abbrev pub Known : Val → Type 0
-      Known u = Is u64 (codeOf (t .said)) (u ∷ []) × Is Po.the-row last (pval last ∷ [])
-
-      pub settle-back : (y : Loan) (u : Val) → ent 𝓤 (sep 𝓤 (Settling .post (to-settle y) u) (Keeps y)) (H .⇛ (sep 𝓤 (H .at fullShare (rawTy Dr′.mir) b o (dval (settled h ks t))) (fact 𝓤 (Known u))))
-      settle-back y u =
-          qed W (raw (Settling .post (to-settle y) u) ∷ raw (Keeps y) ∷ []) ∵ updating ! $
-          use1 W (later (some (λ (k : ℕ). ((‵ (flft (y .0 ∷ []) fullShare) ⊛ ‵ ftrue) ⊛ ‵ (u64 .own k (u ∷ []))) ⊛ raw (ensured 𝓤 H A s.ended (s.clauses 𝓤 H A mem run) (y .0 ∷ [], tt) (port y, (ks, (t, tt))) tt k)))) (id⊢ 𝓤 _) $ await ! tt $ pick ! (λ k.
-          split ! $ move ! (1 ∷ []) $ use1 W (some (λ (ws : Port × (Unit {0} × (Unit {0} × Unit {0}))). ‵ (lasts s.ended (y .0 ∷ [], tt) (port y, (ks, (t, tt))) ws) ⊛ raw (fact 𝓤 ((k ≡ codeOf (t .said)) × (ws .0 ≡ last))))) (id⊢ 𝓤 _) $ pick ! (λ ws.
-          split ! $ move ! (1 ∷ []) $ heard ! ((k ≡ codeOf (t .said)) × (ws .0 ≡ last)) (λ e. fsplit ! $ rewrite ! 0 (λ (z : Port). ‵ (fres (y .1) (Po.the-row .coded .code z))) (e .1) refl $
-          -- [the last value; true; the token and the number; what is kept]
-          move ! (2 ∷ []) $ split ! $ move ! (1 ∷ []) $ peeks ! u64 (Is u64) (shows 𝓤 H A u64) k (u ∷ []) (λ is. move ! (1 ∷ []) $ split ! $
-          keep ! (0 ∷ 5 ∷ 3 ∷ []) $ use3 W (later (cell b o (settled h ks t) ⊛ raw (fact 𝓤 (Is Po.the-row last (pval last ∷ []))))) (takes-part Po.the-type Po′.the-laws Po′.the-plain 𝓤 H A W b (o + 40) (back b o h) y last) $ await ! tt $ split ! $
-          move ! (1 ∷ []) $ heard ! (Is Po.the-row last (pval last ∷ [])) (λ is-p. at-once ! $ says ! (subst (λ (z : ℕ). Is u64 z (u ∷ [])) (e .0) is, is-p) $ done !)))))
-
-      -- and so the drive is one
-      pub is-settled : Is Dr.the-row h (dval h ∷ []) → Is Po.the-row last (pval last ∷ []) → Is Dr.the-row (settled h ks t) (dval (settled h ks t) ∷ [])
-      is-settled was is-p = LL.owes Dr.the-type Dr′.the-laws (settled h ks t) (is-unit was, (is-p, tt))
+      pub happen-back : Is Dr.the-row h (dval h ∷ []) → (y : Loan) (u : Val) → ent 𝓤 (sep 𝓤 (Happening .post (to-happen y) u) (Keeps y)) (H .⇛ (sep 𝓤 (H .at fullShare (rawTy Dr′.mir) b o (dval (happened h i x))) (fact 𝓤 (Told (codeOf (happenedSaid (i .fine))) (happened h i x) u))))
+      happen-back was y u = takes-back u64 (codeOf (happenedSaid (i .fine))) (happened h i x .port) _ of-two y u (tells-of was (codeOf (happenedSaid (i .fine))) (happened h i x .port) u)
 
 -- the refusal of a buffer that is too short
 abbrev pub refusal : Said
