@@ -1,4 +1,4 @@
--- `boundary::drive_next` meets its contract: a walk of its MIR, by hand. A buffer that is too short is refused, and nothing was touched. Otherwise the drive's port is lent on to `view`, the turn is made of what was seen, and the port is lent on to `settle`.
+-- `boundary::drive_next` meets its contract: a walk of its MIR, by hand. A buffer that is too short is refused, and nothing was touched. Otherwise the drive's port is lent on to `view`, the turn is made of what was seen, and the port is lent on to `store`.
 -- `reply` goes to the turn at its own lifetime, share and ghost name, and is given up for good (`gave-slice`).
 -- Assumes nothing.
 use mathlib.Core.Path.{_≡_, refl, ap, _∙_, sym, subst}
@@ -73,12 +73,10 @@ use Rattle.window.proofs.next_turn.Met as g-thm
 use Rattle.drive.proofs.Turns.{next-out-buffer}
 use Rattle.drive.proofs.Ways.{next-short, next-short-buffer}
 use Rattle.boundary.specs.Boundary.{codeOf, Tells}
-use Rattle.boundary.proofs.Answers.{refusal-told, next-settles}
+use Rattle.boundary.proofs.Answers.{refusal-told, next-stores}
 use Rattle.boundary.proofs.Elements.{unraw}
-use Rattle.boundary.proofs.Keyed.{k8}
-use Rattle.boundary.proofs.Lending.{vval, keys-are, Viewing, Settling, cell, Keeps, to-view, to-settle, lends-view, view-back, lends-settle, settle-back, is-settled, refusal, is-short, is-refusal, lends-code, code-back, untouched, long-enough, big-lit}
-use Rattle.boundary.proofs.Lending as lending
-use Rattle.boundary.proofs.Lent.{dval, settled, N, to-code}
+use Rattle.boundary.proofs.Lending.{vval, Told, Viewing, Storing, cell, Keeps, to-view, to-store, lends-view, view-back, lends-store, store-back, refusal, is-short, is-refusal, lends-code, code-back, untouched, long-enough, big-lit}
+use Rattle.boundary.proofs.Lent.{dval, stored, N, to-code}
 use Rattle.boundary.proofs.Onward.{Loan}
 use Rattle.boundary.proofs.code.Symbol as n-def
 use Rattle.boundary.proofs.code.Symbol.{name as #boundary·code}
@@ -86,9 +84,9 @@ use Rattle.boundary.proofs.code.Met as n-thm
 use Rattle.boundary.proofs.view.Symbol as v-def
 use Rattle.boundary.proofs.view.Symbol.{name as #boundary·view}
 use Rattle.boundary.proofs.view.Met as v-thm
-use Rattle.boundary.proofs.settle.Symbol as s-def
-use Rattle.boundary.proofs.settle.Symbol.{name as #boundary·settle}
-use Rattle.boundary.proofs.settle.Met as s-thm
+use Rattle.boundary.proofs.store.Symbol as s-def
+use Rattle.boundary.proofs.store.Symbol.{name as #boundary·store}
+use Rattle.boundary.proofs.store.Met as s-thm
 use Rattle.boundary.proofs.drive_next.Key.{name as #boundary·drive-next}
 use Rattle.boundary.proofs.drive_next as f
 use Rattle.boundary.proofs.drive_next.Statement as stated
@@ -134,7 +132,7 @@ module _ {M : Type 1} (𝓤 : URA M) (H : Heap 𝓤) (A : Atoms 𝓤) (W : Given
   t = nextOutTurn w address ox start (y .now) (length ys)
 
   abbrev h′ : Drive
-  h′ = settled h (w .keys) t
+  h′ = stored h t
 
   -- what window owns, what window and reply do, and their tokens
   abbrev Own : Fml
@@ -201,7 +199,7 @@ module _ {M : Type 1} (𝓤 : URA M) (H : Heap 𝓤) (A : Atoms 𝓤) (W : Given
       owned ! u64 (Is u64) (uint-makes 𝓤 H A W w64) start _ (refl, start-fits) $ fjoin ! $ owned ! u16 (Is u16) (uint-makes 𝓤 H A W w16) ox _ (refl, ox-fits) $ fjoin ! $ owned ! u32 (Is u32) (uint-makes 𝓤 H A W w32) address _ (refl, address-fits) $ fjoin ! $
       move ! (1 ∷ 0 ∷ []) $ fjoin ! $ owned ! u64 (Is u64) (uint-makes 𝓤 H A W w64) k _ is $ move ! (1 ∷ 0 ∷ []) $ done !
 
-  module _ (C : Calls 𝓤 H) (Λ : Loops 𝓤 H) (fm : FmC 𝓤 H (W .laws) C) (known-code : Triple 𝓤 (C #boundary·code) (N 𝓤 H A mem run)) (known-view : Triple 𝓤 (C #boundary·view) (Viewing 𝓤 H A mem run)) (known : Triple 𝓤 (C #window·next-turn) (G 𝓤 H A mem run)) (known-settle : Triple 𝓤 (C #boundary·settle) (Settling 𝓤 H A mem run)) where
+  module _ (C : Calls 𝓤 H) (Λ : Loops 𝓤 H) (fm : FmC 𝓤 H (W .laws) C) (known-code : Triple 𝓤 (C #boundary·code) (N 𝓤 H A mem run)) (known-view : Triple 𝓤 (C #boundary·view) (Viewing 𝓤 H A mem run)) (known : Triple 𝓤 (C #window·next-turn) (G 𝓤 H A mem run)) (known-store : Triple 𝓤 (C #boundary·store) (Storing 𝓤 H A mem run)) where
     walk : Is (ShrSlice (named 1) κ₁ u8) y (v ∷ []) → Room u8 (length ys) → ent 𝓤 (onEntry 𝓤 H A f.signature κs (q₀, (q₁, (q₂, tt))) a vals) (WpFn 𝓤 H C Λ code.function (vptr b o ∷ vint w32 address ∷ vint w16 ox ∷ vint w64 start ∷ v ∷ s ∷ []) Post)
     walk is-y room =
         qed W ((‵ (flft κ₀ q₀) ⊛ ‵ (flft κ₁ q₁) ⊛ ‵ (flft κ₂ q₂) ⊛ ‵ ftrue) ∷ ‵ (owns (MutRef (named 0) κ₀ Dr.the-row ∷ u32 ∷ u16 ∷ u64 ∷ ShrSlice (named 1) κ₁ u8 ∷ MutSlice (named 2) κ₂ u8 ∷ []) a vals) ∷ []) ∵ split ! $ move ! (2 ∷ []) $ fsplit ! $ move ! (1 ∷ []) $ fsplit ! $ drop ! $ fsplit ! $ drop ! $ fsplit ! $ drop ! $ move ! (1 ∷ 2 ∷ []) $ fsplit3 ! $ drop ! $
@@ -251,25 +249,25 @@ module _ {M : Type 1} (𝓤 : URA M) (H : Heap 𝓤) (A : Atoms 𝓤) (W : Given
         -- [the tokens; the last list; what window owns; the drive's cell; the open borrow; obs; auth; _17; …; _0; …]
         land ! (from ! (stop !)) (init ! 25 refl (LL.lawful Tn.the-type Tn′.the-laws 𝓤 H A W .typed t _ (got .0) .0)) $
         rewrite ! 25 (λ (z : Val). ‵ (fat fullShare Tn′.mir l₈ 0 z)) (ap only (LL.tells Tn.the-type Tn′.the-laws t _ (got .0))) refl $
-        -- `settle`
+        -- `store`
         assigns ! (addr ! (from ! (hop ! (look ! 39 refl) (fld ! {τ = Po′.mir} {d = 40} refl (stop !))))) (from ! (stop !)) (init ! 7 refl (tt, tt)) $
-        move ! (3 ∷ []) $ use1 W (later (some (λ (l′ : Loan). raw (Settling 𝓤 H A mem run .pre (to-settle 𝓤 H A mem run W b o h (w .keys) t l′)) ⊛ raw (Keeps 𝓤 H A mem run W b o h l′)))) (lends-settle 𝓤 H A mem run W b o h (w .keys) t was (keys-are w is-w) is-t) $ await ! tt $ pick ! (λ l′. split ! $
-        calls-at ! fm (Settling 𝓤 H A mem run) known-settle (to-settle 𝓤 H A mem run W b o h (w .keys) t l′) (and-then ! (load ! (from ! (stop !)) (look ! 8 refl)) (and-then ! (load ! (from ! (fld ! {τ = k8} {d = 160} refl (stop !))) (look-in ! 28 (sub ! 2 {τ = k8} {d = 160} refl (whole !)))) (and-then ! (load ! (from ! (stop !)) (look ! 26 refl)) (no-more !)))) (λ u₄.
-        use2 W (later (cell 𝓤 H A mem run b o h′ ⊛ raw (fact 𝓤 (lending.Known 𝓤 H A mem run W b o h (w .keys) t u₄)))) (settle-back 𝓤 H A mem run W b o h (w .keys) t l′ u₄) $ await ! tt $ split ! $ move ! (1 ∷ []) $ heard ! (lending.Known 𝓤 H A mem run W b o h (w .keys) t u₄) (λ ended.
+        move ! (3 ∷ []) $ use1 W (later (some (λ (l′ : Loan). raw (Storing 𝓤 H A mem run .pre (to-store 𝓤 H A mem run W b o h t l′)) ⊛ raw (Keeps 𝓤 H A mem run W b o h l′)))) (lends-store 𝓤 H A mem run W b o h t was is-t) $ await ! tt $ pick ! (λ l′. split ! $
+        calls-at ! fm (Storing 𝓤 H A mem run) known-store (to-store 𝓤 H A mem run W b o h t l′) (and-then ! (load ! (from ! (stop !)) (look ! 8 refl)) (and-then ! (load ! (from ! (stop !)) (look ! 26 refl)) (no-more !))) (λ u₄.
+        use2 W (later (cell 𝓤 H A mem run b o h′ ⊛ raw (fact 𝓤 (Told (codeOf (t .said)) h′ u₄)))) (store-back 𝓤 H A mem run W b o h t was l′ u₄) $ await ! tt $ split ! $ move ! (1 ∷ []) $ heard ! (Told (codeOf (t .said)) h′ u₄) (λ ended.
         -- [the drive's cell; the tokens; the last list; what window owns; the open borrow; obs; auth; _17; …; _0; …]
         land ! (from ! (stop !)) (init ! 41 refl (uint-lawful 𝓤 H A W w64 .typed (codeOf (t .said)) _ (ended .0) .0)) $
-        owned ! Dr.the-row (Is Dr.the-row) (LL.makes Dr.the-type Dr′.the-plain 𝓤 H A) h′ _ (is-settled 𝓤 H A mem run W b o h (w .keys) t was (ended .1)) $ move ! (1 ∷ 0 ∷ 5 ∷ 6 ∷ 7 ∷ []) $ closes ! tt Dr.the-row h′ (dval h′ ∷ []) b o $
+        owned ! Dr.the-row (Is Dr.the-row) (LL.makes Dr.the-type Dr′.the-plain 𝓤 H A) h′ _ (ended .1) $ move ! (1 ∷ 0 ∷ 5 ∷ 6 ∷ 7 ∷ []) $ closes ! tt Dr.the-row h′ (dval h′ ∷ []) b o $
         -- [obs; the borrow; its token; the tokens; the last list; what window owns; _17; …; _0; …]
         returns-within ! Post refl (look ! 40 refl) $ forget ! 6 refl $ forget ! 8 refl $ forget ! 10 refl $ forget ! 12 refl $ forget ! 14 refl $ forget ! 20 refl $ forget ! 22 refl $ forget ! 24 refl $ forget ! 26 refl $ forget ! 28 refl $ forget ! 30 refl $ forget ! 32 refl $ forget ! 34 refl $ forget ! 36 refl $ forget ! 38 refl $ forget ! 40 refl $
         move ! (40 ∷ 41 ∷ []) $ free1 ! $ move ! (38 ∷ 39 ∷ []) $ free1 ! $ move ! (36 ∷ 37 ∷ []) $ free1 ! $ move ! (34 ∷ 35 ∷ []) $ free1 ! $ move ! (32 ∷ 33 ∷ []) $ free1 ! $ move ! (30 ∷ 31 ∷ []) $ free1 ! $ move ! (28 ∷ 29 ∷ []) $ free1 ! $ move ! (26 ∷ 27 ∷ []) $ free1 ! $ move ! (24 ∷ 25 ∷ []) $ free1 ! $ move ! (22 ∷ 23 ∷ []) $ free1 ! $ move ! (20 ∷ 21 ∷ []) $ free1 ! $ move ! (18 ∷ 19 ∷ []) $ free1 ! $ move ! (16 ∷ 17 ∷ []) $ free1 ! $ move ! (14 ∷ 15 ∷ []) $ free1 ! $ move ! (12 ∷ 13 ∷ []) $ free1 ! $ move ! (10 ∷ 11 ∷ []) $ free1 ! $ move ! (8 ∷ 9 ∷ []) $ free1 ! $ move ! (6 ∷ 7 ∷ []) $ free1 ! $ free0 ! $
-        by ! (exits h′ (codeOf (t .said)) u₄ zs (next-settles h address ox start (y .now) (length ys) long) (got .1 .0 ∙ next-out-buffer h address ox start (y .now) ys long) (got .1 .1) (ended .0))))))))))))))))))))))))))))))))
+        by ! (exits h′ (codeOf (t .said)) u₄ zs (next-stores h address ox start (y .now) (length ys) long) (got .1 .0 ∙ next-out-buffer h address ox start (y .now) ys long) (got .1 .1) (ended .0))))))))))))))))))))))))))))))))
 
-module _ {M : Type 1} (𝓤 : URA M) (H : Heap 𝓤) (A : Atoms 𝓤) (W : Given 𝓤 H A) (mem : Memory → SProp 𝓤) (run : Routine → Fun 𝓤) (𝓣 : Tables 𝓤 H) (known-code : Triple 𝓤 (𝓣 .C #boundary·code) (N 𝓤 H A mem run)) (known-view : Triple 𝓤 (𝓣 .C #boundary·view) (Viewing 𝓤 H A mem run)) (known : Triple 𝓤 (𝓣 .C #window·next-turn) (G 𝓤 H A mem run)) (known-settle : Triple 𝓤 (𝓣 .C #boundary·settle) (Settling 𝓤 H A mem run)) where
+module _ {M : Type 1} (𝓤 : URA M) (H : Heap 𝓤) (A : Atoms 𝓤) (W : Given 𝓤 H A) (mem : Memory → SProp 𝓤) (run : Routine → Fun 𝓤) (𝓣 : Tables 𝓤 H) (known-code : Triple 𝓤 (𝓣 .C #boundary·code) (N 𝓤 H A mem run)) (known-view : Triple 𝓤 (𝓣 .C #boundary·view) (Viewing 𝓤 H A mem run)) (known : Triple 𝓤 (𝓣 .C #window·next-turn) (G 𝓤 H A mem run)) (known-store : Triple 𝓤 (𝓣 .C #boundary·store) (Storing 𝓤 H A mem run)) where
   f-walks : Walks 𝓤 H A f.ended stayed (WpFn 𝓤 H (𝓣 .C) (𝓣 .Λ) code.function) (f.clauses 𝓤 H A mem run)
   f-walks = walked 𝓤 H A f.ended stayed (f.clauses 𝓤 H A mem run) (WpFn 𝓤 H (𝓣 .C) (𝓣 .Λ) code.function)
       (λ κs. (ptr-vals, (uint-vals w32, (uint-vals w16, (uint-vals w64, (slice-vals, (slice-vals, tt))))))) (λ κs. (mut-tells (named 0) (κs .0) Dr.the-row, (uint-tells w32, (uint-tells w16, (uint-tells w64, (shr-slice-tells (named 1) (κs .1 .0) u8, (mut-slice-tells (named 2) (κs .1 .1 .0) u8, tt)))))))
       (λ κs qs bounds a g are. via 𝓤 _ (fst∗ 𝓤 _ (emp 𝓤)) (walk 𝓤 H A W mem run (κs .0) (κs .1 .0) (κs .1 .1 .0) (qs .0) (qs .1 .0) (qs .1 .1 .0) (a .0 .ptr .0) (a .0 .ptr .1) (a .0 .name) (a .0 .now) (a .1 .0) (a .1 .1 .0) (a .1 .1 .1 .0) (are .1 .0 .1) (are .1 .1 .0 .1) (are .1 .1 .1 .0 .1)
-      (a .1 .1 .1 .1 .0) (a .1 .1 .1 .1 .1 .0 .ptr .0) (a .1 .1 .1 .1 .1 .0 .ptr .1) (a .1 .1 .1 .1 .1 .0 .name) (a .1 .1 .1 .1 .1 .0 .now) (𝓣 .C) (𝓣 .Λ) (fmOf 𝓤 H (W .laws) 𝓣) known-code known-view known known-settle (are .1 .1 .1 .1 .0) (are .1 .1 .1 .1 .1 .0 .0 .1)))
+      (a .1 .1 .1 .1 .0) (a .1 .1 .1 .1 .1 .0 .ptr .0) (a .1 .1 .1 .1 .1 .0 .ptr .1) (a .1 .1 .1 .1 .1 .0 .name) (a .1 .1 .1 .1 .1 .0 .now) (𝓣 .C) (𝓣 .Λ) (fmOf 𝓤 H (W .laws) 𝓣) known-code known-view known known-store (are .1 .1 .1 .1 .0) (are .1 .1 .1 .1 .1 .0 .0 .1)))
 
   f-meets : Meets 𝓤 H A f.signature (WpFn 𝓤 H (𝓣 .C) (𝓣 .Λ) code.function) (f.spec 𝓤 H A mem run)
   f-meets =
@@ -297,4 +295,4 @@ drive-next-spec 𝓤 H 𝓜 𝓖 𝓡 =
     (cited 𝓤 H (N 𝓤 H (𝓖 .A) (𝓜 .mem) (𝓡 .run)) 𝓜 𝓡 code.env #boundary·code n-def.routine code.calls-boundary·code (n-thm.met 𝓤 H 𝓜 𝓖 𝓡))
     (cited 𝓤 H (Viewing 𝓤 H (𝓖 .A) (𝓜 .mem) (𝓡 .run)) 𝓜 𝓡 code.env #boundary·view v-def.routine code.calls-boundary·view (v-thm.met 𝓤 H 𝓜 𝓖 𝓡))
     (cited 𝓤 H (G 𝓤 H (𝓖 .A) (𝓜 .mem) (𝓡 .run)) 𝓜 𝓡 code.env #window·next-turn g-def.routine code.calls-window·next-turn (g-thm.met 𝓤 H 𝓜 𝓖 𝓡))
-    (cited 𝓤 H (Settling 𝓤 H (𝓖 .A) (𝓜 .mem) (𝓡 .run)) 𝓜 𝓡 code.env #boundary·settle s-def.routine code.calls-boundary·settle (s-thm.met 𝓤 H 𝓜 𝓖 𝓡)))
+    (cited 𝓤 H (Storing 𝓤 H (𝓖 .A) (𝓜 .mem) (𝓡 .run)) 𝓜 𝓡 code.env #boundary·store s-def.routine code.calls-boundary·store (s-thm.met 𝓤 H 𝓜 𝓖 𝓡)))
