@@ -7,3 +7,4 @@ mod Lent
 mod Logins
 mod Onward
 mod Reached
+mod Seen
