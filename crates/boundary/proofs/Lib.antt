@@ -8,3 +8,4 @@ mod Logins
 mod Onward
 mod Reached
 mod Seen
+mod Sighting
