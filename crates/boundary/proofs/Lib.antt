@@ -7,5 +7,6 @@ mod Lent
 mod Logins
 mod Onward
 mod Reached
+mod Reaching
 mod Seen
 mod Sighting
