@@ -8,3 +8,5 @@ mod Logins
 mod Onward
 mod Reached
 mod Reaching
+mod Seen
+mod Sighting
