@@ -20,7 +20,7 @@ use Rattle.state.specs.Changes.{noLogin, withLogins, withLogin, changedOf}
 use Rattle.formed.specs.declared.Key.{Key}
 use Rattle.formed.proofs.Keys.{noKey}
 use Rattle.calls.specs.Turn.{storedAt}
-use Rattle.boundary.specs.Settled.{freeKey, spared, reaches, NextReached, reachedBy}
+use Rattle.boundary.specs.Settled.{freeKey, spared, reaches, NextReached, reachedBy, reachedOf}
 
 -- ls are the logins now, and whole what they are to be
 pub record Reached (c : Change) (keys : List Key) (whole ls : List Login) (i : ℕ) : Type 0 where
@@ -76,23 +76,23 @@ reached-spare c (x ∷ keys) [] (suc i) k m = refl
 reached-spare c (x ∷ keys) (l ∷ ls) zero k m = refl
 reached-spare c (x ∷ keys) (l ∷ ls) (suc i) k m = ap (λ (ys : List Login). cond (reaches c x) (changedOf c l) l ∷ ys) (reached-spare c keys ls i k m)
 
--- what stands last: the turn's login at its place, or no more where it has none
-module _ (p : Port) (keys : List Key) (c : Change) (l : Login) (n : ℕ) where
-  abbrev reached : Found → List Login
-  reached f = reachedBy c (spared keys f) (p .logins)
+-- so the keys may be without that of the place that is stored last
+pub spared-last : (p : Port) (keys : List Key) (c : Change) (l : Login) (f : Found) → storedAt f l (reachedOf p (spared keys f) c) ≡ storedAt f l (reachedOf p keys c)
+unfolding withLogin reachedOf
+spared-last p keys c l (At i) = ap (withLogins p) (reached-spare c keys (p .logins) i freeKey l)
+spared-last p keys c l Nothing = refl
 
-  pub last-here : (f : Found) → n ≡ onFound f (λ i. i) 8 → n < 8 → withLogins p (set (reached f) n l) ≡ storedAt f l (withLogins p (reachedBy c keys (p .logins)))
+-- the port with a login at the place that is found, or at none
+module _ (p : Port) (l : Login) (n : ℕ) where
+  pub stored-here : (f : Found) → n ≡ onFound f (λ i. i) 8 → n < 8 → withLogins p (set (p .logins) n l) ≡ storedAt f l p
   unfolding withLogin
-  last-here (At i) e h = ap (λ (j : ℕ). withLogins p (set (reached (At i)) j l)) e ∙ ap (withLogins p) (reached-spare c keys (p .logins) i freeKey l)
-  last-here Nothing e h = absurd (lt-irrefl n (omega (arith, e, h)))
+  stored-here (At i) e h = ap (λ (j : ℕ). withLogins p (set (p .logins) j l)) e
+  stored-here Nothing e h = absurd (lt-irrefl n (omega (arith, e, h)))
 
-  pub last-none : (f : Found) → length keys ≡ 8 → length (reached f) ≡ 8 → n ≡ onFound f (λ i. i) 8 → 8 ≤ n → withLogins p (reached f) ≡ storedAt f l (withLogins p (reachedBy c keys (p .logins)))
+  pub stored-none : (f : Found) → length (p .logins) ≡ 8 → n ≡ onFound f (λ i. i) 8 → 8 ≤ n → p ≡ storedAt f l p
   unfolding withLogin
-  last-none (At i) long whole e h =
-      let same = set-out keys i freeKey (omega (arith, long, e, h)) in
-      let past : length (reachedBy c keys (p .logins)) ≤ i = rw (sym same) (omega (arith, whole, e, h)) in
-      ap (λ (ks : List Key). withLogins p (reachedBy c ks (p .logins))) same ∙ ap (withLogins p) (sym (set-out (reachedBy c keys (p .logins)) i l past))
-  last-none Nothing long whole e h = refl
+  stored-none (At i) long e h = ap (withLogins p) (sym (set-out (p .logins) i l (omega (arith, long, e, h))))
+  stored-none Nothing long e h = refl
 
 -- the key at a place, whatever is read past the end
 key-at : (keys : List Key) (i : ℕ) → i < length keys → getD keys i noKey ≡ getD keys i freeKey
