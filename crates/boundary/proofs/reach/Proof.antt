@@ -1,6 +1,6 @@
 -- `boundary::reach` meets its contract: a walk of its MIR, by hand, with a loop. The borrow of the port is opened once; in each turn of the loop the login at the next place that the change reaches is read through it, changed by `state::changed` and stored in its place. The borrow is closed at the port with these logins.
 -- Assumes nothing.
-use mathlib.Core.Path.{_≡_, refl, sym, ap, _∙_, subst}
+use mathlib.Core.Path.{_≡_, refl, sym, ap, subst}
 use mathlib.Core.Bool.{Bool, true, false}
 use mathlib.Core.WellFounded.{WellFounded, InvImage·wf}
 use Prim.Native.Nat.{ℕ, _+_, _-_, _*_, _<_, _≤_, _^_, zero-le}

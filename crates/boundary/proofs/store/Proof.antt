@@ -62,11 +62,10 @@ use Rattle.calls.proofs.Turn as Tn
 use Rattle.calls.proofs.Turn.Laws as Tn′
 use Rattle.boundary.specs.Boundary.{codeOf}
 use Rattle.boundary.proofs.Elements.{elem, unraw}
-use Rattle.boundary.proofs.Lending.{lends-code, code-back}
+use Rattle.boundary.proofs.Lending.{tval, lends-code, code-back}
 use Rattle.boundary.proofs.Lent.{pval, word, rf, N, to-code}
 use Rattle.boundary.proofs.Logins.{lval, stores, logins-long, table-8, is-after}
 use Rattle.boundary.proofs.Reached.{stored-here, stored-none}
-use Rattle.boundary.proofs.Reaching.{tval}
 use Rattle.boundary.proofs.code.Symbol as n-def
 use Rattle.boundary.proofs.code.Symbol.{name as #boundary·code}
 use Rattle.boundary.proofs.code.Met as n-thm

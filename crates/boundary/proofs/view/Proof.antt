@@ -90,7 +90,7 @@ use Rattle.boundary.proofs.Lent.{pval, uval, word}
 use Rattle.boundary.proofs.Logins.{lval, table-8, login-is, reads}
 use Rattle.boundary.proofs.Onward.{Loan}
 use Rattle.boundary.proofs.Seen.{owning, oval, own-fits, is-own, typed-accept, typed-own, typed-login}
-use Rattle.boundary.proofs.Sighting.{sight-val, sight-keys, Sights, Keeps, to-sight, lends-sight, sight-back}
+use Rattle.boundary.proofs.Sighting.{sight-val, sight-keys, Sights, Keeps, to-sight, Sighted, lends-sight, sight-back}
 use Rattle.boundary.proofs.sight.Symbol as t-def
 use Rattle.boundary.proofs.sight.Symbol.{name as #boundary·sight}
 use Rattle.boundary.proofs.sight.Met as t-thm
@@ -215,7 +215,8 @@ module _ {M : Type 1} (𝓤 : URA M) (H : Heap 𝓤) (A : Atoms 𝓤) (W : Given
         -- `sight`
         use1 W (later (some (λ (y : Loan). raw (Sights 𝓤 H A mem run .pre (to-sight 𝓤 H A mem run W b o back h c y)) ⊛ raw (Keeps 𝓤 H A mem run W b o back h c y)))) (lends-sight 𝓤 H A mem run W b o back h c was is-c (whole !)) $ await ! tt $ pick ! (λ y. split ! $
         calls-at ! fm (Sights 𝓤 H A mem run) known-sight (to-sight 𝓤 H A mem run W b o back h c y) (and-then ! (load ! (from ! (stop !)) (look ! 19 refl)) (and-then ! (load ! (from ! (stop !)) (look ! 29 refl)) (no-more !))) (λ u₁.
-        use2 W (later (back (pval h) ⊛ raw (fact 𝓤 (Is Si.the-row k (u₁ ∷ []))))) (sight-back 𝓤 H A mem run W b o back h c y u₁) $ await ! tt $ split ! $ move ! (1 ∷ []) $ heard ! (Is Si.the-row k (u₁ ∷ [])) (λ is-u₁.
+        use2 W (later (back (pval h) ⊛ raw (fact 𝓤 (Sighted 𝓤 H A mem run W b o back h c u₁)))) (sight-back 𝓤 H A mem run W b o back h c y u₁) $ await ! tt $ split ! $ move ! (1 ∷ []) $ heard ! (Sighted 𝓤 H A mem run W b o back h c u₁) (λ got.
+        let is-u₁ = got .0 in
         let is-k = subst (Is Si.the-row k) (LL.tells Si.the-type Si′.the-laws k _ is-u₁) is-u₁ in
         land ! (from ! (stop !)) (init ! 24 refl (LL.lawful Si.the-type Si′.the-laws 𝓤 H A W .typed k _ is-u₁ .0)) $
         rewrite ! 24 (λ (z : Val). ‵ (fat fullShare Si′.mir l₄ 0 z)) (ap only (LL.tells Si.the-type Si′.the-laws k _ is-u₁)) refl $
