@@ -58,9 +58,10 @@ use Rattle.boundary.specs.Boundary.{codeOf, Tells}
 use Rattle.boundary.specs.Settled.{happenedSaid}
 use Rattle.boundary.proofs.Answers.{event-happens}
 use Rattle.boundary.proofs.Elements.{unraw}
-use Rattle.boundary.proofs.Lending.{Told, Sighting, Happening, cell, Keeps, to-sight, to-happen, lends-sight, sight-back, lends-happen, happen-back}
+use Rattle.boundary.proofs.Lending.{Left, is-with, Happening, cell, Keeps, to-sight, to-happen, lends-sight, sight-back, lends-happen, happen-back}
 use Rattle.boundary.proofs.Lent.{dval, happened}
 use Rattle.boundary.proofs.Onward.{Loan}
+use Rattle.boundary.proofs.Sighting.{Sights}
 use Rattle.boundary.proofs.sight.Symbol.{name as #boundary·sight}
 use Rattle.boundary.proofs.happen.Symbol.{name as #boundary·happen}
 use Rattle.boundary.proofs.loop_reset as g
@@ -134,7 +135,7 @@ module _ {M : Type 1} (𝓤 : URA M) (H : Heap 𝓤) (A : Atoms 𝓤) (W : Given
       nothing ! $ move ! (3 ∷ 0 ∷ []) $ join ! $ frame ! $ feqI ! (List Val) (vptr b o ∷ []) (vptr b o ∷ []) refl $ fjoin3 ! $
       nothing ! $ move ! (1 ∷ 0 ∷ []) $ fjoin ! $ owned ! u64 (Is u64) (uint-makes 𝓤 H A W w64) k _ is $ move ! (1 ∷ 0 ∷ []) $ done !
 
-  module _ (s : Name) (C : Calls 𝓤 H) (Λ : Loops 𝓤 H) (fm : FmC 𝓤 H (W .laws) C) (known-sight : Triple 𝓤 (C #boundary·sight) (Sighting 𝓤 H A mem run)) (known : Triple 𝓤 (C s) (G 𝓤 H A mem run e)) (known-happen : Triple 𝓤 (C #boundary·happen) (Happening 𝓤 H A mem run)) where
+  module _ (s : Name) (C : Calls 𝓤 H) (Λ : Loops 𝓤 H) (fm : FmC 𝓤 H (W .laws) C) (known-sight : Triple 𝓤 (C #boundary·sight) (Sights 𝓤 H A mem run)) (known : Triple 𝓤 (C s) (G 𝓤 H A mem run e)) (known-happen : Triple 𝓤 (C #boundary·happen) (Happening 𝓤 H A mem run)) where
     walk : ent 𝓤 (onEntry 𝓤 H A f.signature (κ, tt) (q, tt) a vals) (WpFn 𝓤 H C Λ (function-at s) (vptr b o ∷ []) Post)
     walk =
         qed W ((‵ (flft κ q) ⊛ ‵ ftrue) ∷ ‵ (owns (MutRef (named 0) κ Dr.the-row ∷ []) a vals) ∷ []) ∵ split ! $ move ! (2 ∷ []) $ fsplit ! $ fsplit3 ! $ drop ! $ move ! (0 ∷ 1 ∷ 3 ∷ []) $
@@ -147,9 +148,9 @@ module _ {M : Type 1} (𝓤 : URA M) (H : Heap 𝓤) (A : Atoms 𝓤) (W : Given
         assigns ! (addr ! (from ! (hop ! (look ! 14 refl) (fld ! {τ = Po′.mir} {d = 40} refl (stop !))))) (from ! (stop !)) (init ! 8 refl (tt, tt)) $
         assigns ! (of-opd ! (load ! (from ! (hop ! (look ! 14 refl) (fld ! {τ = Un′.mir} {d = 0} refl (stop !)))) (look-in ! 0 (unraw ! (sub ! 0 {τ = rawTy Un′.mir} {d = 0} refl (whole !)))))) (from ! (stop !)) (init ! 6 refl (LL.lawful Un.the-type Un′.the-laws 𝓤 H A W .typed (h .unit) _ (LL.owed Dr.the-type Dr′.the-laws h _ was .0) .0)) $
         -- `sight`
-        use1 W (later (some (λ (y : Loan). raw (Sighting 𝓤 H A mem run .pre (to-sight 𝓤 H A mem run W b o h y)) ⊛ raw (Keeps 𝓤 H A mem run W b o h y)))) (lends-sight 𝓤 H A mem run W b o h was) $ await ! tt $ pick ! (λ y. split ! $
-        calls-at ! fm (Sighting 𝓤 H A mem run) known-sight (to-sight 𝓤 H A mem run W b o h y) (and-then ! (load ! (from ! (stop !)) (look ! 9 refl)) (and-then ! (load ! (from ! (stop !)) (look ! 7 refl)) (no-more !))) (λ u.
-        use2 W (later (cell 𝓤 H A mem run b o h ⊛ raw (fact 𝓤 (Is Si.the-row w (u ∷ []))))) (sight-back 𝓤 H A mem run W b o h y u) $ await ! tt $ split ! $ move ! (1 ∷ []) $ heard ! (Is Si.the-row w (u ∷ [])) (λ is-u.
+        use1 W (later (some (λ (y : Loan). raw (Sights 𝓤 H A mem run .pre (to-sight 𝓤 H A mem run W b o h y)) ⊛ raw (Keeps 𝓤 H A mem run W b o h y)))) (lends-sight 𝓤 H A mem run W b o h was) $ await ! tt $ pick ! (λ y. split ! $
+        calls-at ! fm (Sights 𝓤 H A mem run) known-sight (to-sight 𝓤 H A mem run W b o h y) (and-then ! (load ! (from ! (stop !)) (look ! 9 refl)) (and-then ! (load ! (from ! (stop !)) (look ! 7 refl)) (no-more !))) (λ u.
+        use2 W (later (cell 𝓤 H A mem run b o h ⊛ raw (fact 𝓤 (Left Si.the-row w (h .port) u)))) (sight-back 𝓤 H A mem run W b o h y u) $ await ! tt $ split ! $ move ! (1 ∷ []) $ heard ! (Left Si.the-row w (h .port) u) (λ seen. let is-u = seen .0 in
         let is-w = subst (Is Si.the-row w) (LL.tells Si.the-type Si′.the-laws w _ is-u) is-u in
         land ! (from ! (stop !)) (init ! 12 refl (LL.lawful Si.the-type Si′.the-laws 𝓤 H A W .typed w _ is-u .0)) $
         rewrite ! 12 (λ (z : Val). ‵ (fat fullShare Si′.mir l₂ 0 z)) (ap only (LL.tells Si.the-type Si′.the-laws w _ is-u)) refl $
@@ -167,22 +168,22 @@ module _ {M : Type 1} (𝓤 : URA M) (H : Heap 𝓤) (A : Atoms 𝓤) (W : Given
         assigns ! (addr ! (from ! (hop ! (look ! 14 refl) (fld ! {τ = Po′.mir} {d = 40} refl (stop !))))) (from ! (stop !)) (init ! 4 refl (tt, tt)) $
         use1 W (later (some (λ (y′ : Loan). raw (Happening 𝓤 H A mem run .pre (to-happen 𝓤 H A mem run W b o h w (changeOf e) y′)) ⊛ raw (Keeps 𝓤 H A mem run W b o h y′)))) (lends-happen 𝓤 H A mem run W b o h w (changeOf e) was is-w is-c) $ await ! tt $ pick ! (λ y′. split ! $
         calls-at ! fm (Happening 𝓤 H A mem run) known-happen (to-happen 𝓤 H A mem run W b o h w (changeOf e) y′) (and-then ! (load ! (from ! (stop !)) (look ! 5 refl)) (and-then ! (load ! (from ! (stop !)) (look ! 13 refl)) (and-then ! (load ! (from ! (stop !)) (look ! 11 refl)) (no-more !)))) (λ u″.
-        use2 W (later (cell 𝓤 H A mem run b o h′ ⊛ raw (fact 𝓤 (Told k h′ u″)))) (happen-back 𝓤 H A mem run W b o h w (changeOf e) was y′ u″) $ await ! tt $ split ! $ move ! (1 ∷ []) $ heard ! (Told k h′ u″) (λ got.
+        use2 W (later (cell 𝓤 H A mem run b o h′ ⊛ raw (fact 𝓤 (Left u64 k (h′ .port) u″)))) (happen-back 𝓤 H A mem run W b o h w (changeOf e) y′ u″) $ await ! tt $ split ! $ move ! (1 ∷ []) $ heard ! (Left u64 k (h′ .port) u″) (λ got.
         land ! (from ! (stop !)) (init ! 16 refl (uint-lawful 𝓤 H A W w64 .typed k _ (got .0) .0)) $
-        owned ! Dr.the-row (Is Dr.the-row) (LL.makes Dr.the-type Dr′.the-plain 𝓤 H A) h′ _ (got .1) $ move ! (1 ∷ 0 ∷ []) $ closes ! tt Dr.the-row h′ (dval h′ ∷ []) b o $
+        owned ! Dr.the-row (Is Dr.the-row) (LL.makes Dr.the-type Dr′.the-plain 𝓤 H A) h′ _ (is-with h was (h′ .port) (got .1)) $ move ! (1 ∷ 0 ∷ []) $ closes ! tt Dr.the-row h′ (dval h′ ∷ []) b o $
         -- [obs; the borrow; its token; _6; …; _0; …]
         returns ! (look ! 15 refl) $ forget ! 3 refl $ forget ! 5 refl $ forget ! 7 refl $ forget ! 9 refl $ forget ! 11 refl $ forget ! 13 refl $ forget ! 15 refl $
         move ! (15 ∷ 16 ∷ []) $ free1 ! $ move ! (13 ∷ 14 ∷ []) $ free1 ! $ move ! (11 ∷ 12 ∷ []) $ free1 ! $ move ! (9 ∷ 10 ∷ []) $ free1 ! $ move ! (7 ∷ 8 ∷ []) $ free1 ! $ move ! (5 ∷ 6 ∷ []) $ free1 ! $ move ! (3 ∷ 4 ∷ []) $ free1 ! $ free0 ! $
         keep ! (0 ∷ 1 ∷ 2 ∷ []) $ by ! (exits u″ (got .0)))))))))))))))))))))
 
 module _ {M : Type 1} (𝓤 : URA M) (H : Heap 𝓤) (A : Atoms 𝓤) (W : Given 𝓤 H A) (mem : Memory → SProp 𝓤) (run : Routine → Fun 𝓤) (e : Event) (s : Name) where
-  walks : (C : Calls 𝓤 H) (Λ : Loops 𝓤 H) → FmC 𝓤 H (W .laws) C → Triple 𝓤 (C #boundary·sight) (Sighting 𝓤 H A mem run) → Triple 𝓤 (C s) (G 𝓤 H A mem run e) → Triple 𝓤 (C #boundary·happen) (Happening 𝓤 H A mem run)
+  walks : (C : Calls 𝓤 H) (Λ : Loops 𝓤 H) → FmC 𝓤 H (W .laws) C → Triple 𝓤 (C #boundary·sight) (Sights 𝓤 H A mem run) → Triple 𝓤 (C s) (G 𝓤 H A mem run e) → Triple 𝓤 (C #boundary·happen) (Happening 𝓤 H A mem run)
       → Walks 𝓤 H A f.ended stayed (WpFn 𝓤 H C Λ (function-at s)) (lent 𝓤 H A mem run e)
   walks C Λ fm known-sight known known-happen = walked 𝓤 H A f.ended stayed (lent 𝓤 H A mem run e) (WpFn 𝓤 H C Λ (function-at s)) (λ κs. (ptr-vals, tt)) (λ κs. (mut-tells (named 0) (κs .0) Dr.the-row, tt))
       (λ κs qs bounds a g are. via 𝓤 _ (fst∗ 𝓤 _ (emp 𝓤)) (walk 𝓤 H A W mem run e (κs .0) (qs .0) (a .0 .ptr .0) (a .0 .ptr .1) (a .0 .name) (a .0 .now) s C Λ fm known-sight known known-happen))
 
   -- whatever is called by this name with that contract, the function meets the contract of its event
-  pub meets : (𝓣 : Tables 𝓤 H) → Triple 𝓤 (𝓣 .C #boundary·sight) (Sighting 𝓤 H A mem run) → Triple 𝓤 (𝓣 .C s) (G 𝓤 H A mem run e) → Triple 𝓤 (𝓣 .C #boundary·happen) (Happening 𝓤 H A mem run)
+  pub meets : (𝓣 : Tables 𝓤 H) → Triple 𝓤 (𝓣 .C #boundary·sight) (Sights 𝓤 H A mem run) → Triple 𝓤 (𝓣 .C s) (G 𝓤 H A mem run e) → Triple 𝓤 (𝓣 .C #boundary·happen) (Happening 𝓤 H A mem run)
       → Meets 𝓤 H A f.signature (WpFn 𝓤 H (𝓣 .C) (𝓣 .Λ) (function-at s)) (closing 𝓤 H A f.ended (lent 𝓤 H A mem run e))
   meets 𝓣 known-sight known known-happen =
       walk-meets 𝓤 H A f.ended stayed W (goes-ref 𝓤 H A W 1 0 tt (plain (λ _. Dr.the-row)), tt) (lent 𝓤 H A mem run e)

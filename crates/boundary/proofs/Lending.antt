@@ -12,13 +12,13 @@ use mir.Raw.{raw as rawTy}
 use mir.Syntax.{Lifetime, Width, w32, intBig}
 use mir.Val.{Val, Fits, vint, vptr, vstruct}
 use base.Logic.{SProp, ent, sep, emp, ex, id⊢, via, guardI}
-use base.Fml.{Lft, Fml, ftrue, fsep, fat, fres, flft}
+use base.Fml.{Lft, Fml, ftrue, fsep, fat, fres}
 use prog.Memory.{Memory}
 use prog.Routine.{Routine}
 use prog.Wp.{Heap, Env}
 use ghost.Atoms.{Atoms, sem}
 use contract.Monad.{Fun, fact}
-use types.Kit.{Given, Item, ‵, raw, _⊛_, mean, some, later, _$_, _∵_, !, qed, by, move, keep, use0, use1, use3, split, join, pick, rewrite, fsplit, fjoin, await, updating, now as at-once, show, done}
+use types.Kit.{Given, Item, ‵, raw, _⊛_, some, later, _$_, _∵_, !, qed, by, move, keep, use1, split, pick, fsplit, fjoin, await, updating, now as at-once, done}
 use types.Part.{whole, sub}
 use types.Run.{Opd}
 use denote.RattleType.{RattleType, owns}
@@ -71,18 +71,16 @@ use Rattle.boundary.specs.Settled.{happenedSaid}
 use Rattle.boundary.proofs.Elements.{inside}
 use Rattle.boundary.proofs.Keyed.{K8, held, from-field}
 use Rattle.boundary.proofs.Lent.{dval, pval, uval, sval, withPort, stored, settled, happened, N, code-of, to-code, goes-code}
-use Rattle.boundary.proofs.Onward.{Loan, lent-at, Kept, lends-part, takes-part}
-use Rattle.boundary.proofs.sight as g
+use Rattle.boundary.proofs.Onward.{Loan, Kept, lends-to, takes-back}
+use Rattle.boundary.proofs.Sighting.{sight-val, Sights}
+use Rattle.boundary.proofs.Sighting as sighting
 use Rattle.boundary.proofs.view as v
 use Rattle.boundary.proofs.store as t
 use Rattle.boundary.proofs.settle as s
 use Rattle.boundary.proofs.happen as c
 use Rattle.boundary.proofs.code as n
 
--- the machine values of a sight, of a view, of a turn and of a change
-abbrev pub gval : Sight → Val
-gval g = LL.val Si.the-type Si′.the-laws g
-
+-- the machine values of a view, of a turn and of a change
 abbrev pub vval : View → Val
 vval w = LL.val Vw.the-type Vw′.the-laws w
 
@@ -103,15 +101,23 @@ of-one = fsep ftrue ftrue
 abbrev of-two : Fml
 of-two = fsep ftrue of-one
 
--- a number is told, and the drive is one
-abbrev pub Told : ℕ → Drive → Val → Type 0
-Told k d u = Is u64 k (u ∷ []) × Is Dr.the-row d (dval d ∷ [])
+-- what is known after a call that tells something and leaves a port
+abbrev pub Left : (R : RattleType) → R .Denot → Port → Val → Type 0
+Left R told p u = Is R told (u ∷ []) × Is Po.the-row p (pval p ∷ [])
+
+-- a drive's parts, and so a drive with another port
+module _ (h : Drive) (was : Is Dr.the-row h (dval h ∷ [])) where
+  abbrev is-unit : Is Un.the-row (h .unit) (uval (h .unit) ∷ [])
+  is-unit = LL.owed Dr.the-type Dr′.the-laws h _ was .0
+
+  abbrev is-port : Is Po.the-row (h .port) (pval (h .port) ∷ [])
+  is-port = LL.owed Dr.the-type Dr′.the-laws h _ was .1 .0
+
+  pub is-with : (p : Port) → Is Po.the-row p (pval p ∷ []) → Is Dr.the-row (withPort h p) (dval (withPort h p) ∷ [])
+  is-with p is-p = LL.owes Dr.the-type Dr′.the-laws (withPort h p) (is-unit, (is-p, tt))
 
 module _ {M : Type 1} (𝓤 : URA M) (H : Heap 𝓤) (A : Atoms 𝓤) (mem : Memory → SProp 𝓤) (run : Routine → Fun 𝓤) where
-  -- the contracts of `sight`, `view`, `store`, `settle` and `happen`
-  abbrev pub Sighting : Contract 𝓤
-  Sighting = tripleOf 𝓤 H A g.signature (g.spec 𝓤 H A mem run)
-
+  -- the contracts of `view`, `store`, `settle` and `happen`
   abbrev pub Viewing : Contract 𝓤
   Viewing = tripleOf 𝓤 H A v.signature (v.spec 𝓤 H A mem run)
 
@@ -137,70 +143,19 @@ module _ {M : Type 1} (𝓤 : URA M) (H : Heap 𝓤) (A : Atoms 𝓤) (mem : Mem
     abbrev port : Loan → RefT Port
     port y = record { ptr = (b, o + 40); name = y .1; now = h .port }
 
-    abbrev lent : Loan → Fml
-    lent y = lent-at Po.the-type Po′.the-laws Po′.the-plain b (o + 40) y (h .port)
-
     abbrev pub Keeps : Loan → SProp 𝓤
     Keeps y = Kept Po.the-type Po′.the-laws Po′.the-plain 𝓤 H A W b (o + 40) (back b o h) y
 
-    module _ (was : Is Dr.the-row h (dval h ∷ [])) where
-      abbrev is-unit : Is Un.the-row (h .unit) (uval (h .unit) ∷ [])
-      is-unit = LL.owed Dr.the-type Dr′.the-laws h _ was .0
-
-      abbrev is-port : Is Po.the-row (h .port) (pval (h .port) ∷ [])
-      is-port = LL.owed Dr.the-type Dr′.the-laws h _ was .1 .0
-
-      lends : ent 𝓤 (H .at fullShare (rawTy Dr′.mir) b o (dval h)) (H .⇛ (ex 𝓤 (λ (y : Loan). sep 𝓤 (sep 𝓤 (A .lft (y .0 ∷ []) fullShare) (sem 𝓤 H A (lent y))) (Keeps y))))
-      lends = lends-part Po.the-type Po′.the-laws Po′.the-plain 𝓤 H A W b (o + 40) (back b o h) (h .port) is-port (sub ! 1 refl (whole !))
-
-    -- what a call asks whose other parameters own what `others` says
-    module _ (others : Fml) where
-      abbrev Asks : Loan → Item 𝓤
-      Asks y = ((‵ (flft (y .0 ∷ []) fullShare) ⊛ ‵ ftrue) ⊛ ‵ (fsep (lent y) others)) ⊛ ‵ ftrue
-
-      abbrev Asked : Loan → SProp 𝓤
-      Asked y = sep 𝓤 (mean 𝓤 H A (Asks y)) (Keeps y)
-
-      lends-to : ent 𝓤 (emp 𝓤) (sem 𝓤 H A others) → Is Dr.the-row h (dval h ∷ []) → ent 𝓤 (H .at fullShare (rawTy Dr′.mir) b o (dval h)) (H .⇛ (ex 𝓤 Asked))
-      lends-to made was =
-          qed W (cell b o h ∷ []) ∵ updating ! $
-          use1 W (later (some (λ (y : Loan). (‵ (flft (y .0 ∷ []) fullShare) ⊛ ‵ (lent y)) ⊛ raw (Keeps y)))) (lends was) $ await ! tt $ pick ! (λ y. split ! $ split ! $
-          -- [the token; the port; what is kept]
-          nothing ! $ move ! (1 ∷ 0 ∷ []) $ join ! $ use0 W (‵ others) made $ move ! (2 ∷ 0 ∷ []) $ fjoin ! $ move ! (1 ∷ 0 ∷ []) $ join ! $ nothing ! $ move ! (1 ∷ 0 ∷ []) $ join ! $
-          at-once ! $ show ! Asked y $ done !)
-
-    -- what a call gives that tells `told` and leaves the port `last`, and so the drive's cell, with that port
-    module _ (R : RattleType) (told : R .Denot) (last : Port) (Ws : Type 0) (others : Fml) where
-      abbrev Gives : Loan → Val → Item 𝓤
-      Gives y u = later (some (λ (r : R .Denot). ((‵ (flft (y .0 ∷ []) fullShare) ⊛ ‵ ftrue) ⊛ ‵ (R .own r (u ∷ []))) ⊛ some (λ (ws : Port × Ws). ‵ (fsep (fres (y .1) (Po.the-row .coded .code (ws .0))) others) ⊛ raw (fact 𝓤 ((r ≡ told) × (ws .0 ≡ last))))))
-
-      takes-back : (y : Loan) (u : Val) {Z : Type 0} → (Is R told (u ∷ []) → Is Po.the-row last (pval last ∷ []) → Z)
-          → ent 𝓤 (sep 𝓤 (mean 𝓤 H A (Gives y u)) (Keeps y)) (H .⇛ (sep 𝓤 (H .at fullShare (rawTy Dr′.mir) b o (dval (withPort h last))) (fact 𝓤 Z)))
-      takes-back y u known =
-          qed W (Gives y u ∷ raw (Keeps y) ∷ []) ∵ updating ! $ await ! tt $ pick ! (λ r. split ! $ move ! (1 ∷ []) $ pick ! (λ ws.
-          split ! $ move ! (1 ∷ []) $ heard ! ((r ≡ told) × (ws .0 ≡ last)) (λ e. fsplit ! $ rewrite ! 0 (λ (z : Port). ‵ (fres (y .1) (Po.the-row .coded .code z))) (e .1) refl $
-          -- [the last value; what is said of the others; the token and the result; what is kept]
-          move ! (2 ∷ []) $ split ! $ move ! (1 ∷ []) $ peeks ! R (Is R) (shows 𝓤 H A R) r (u ∷ []) (λ is. move ! (1 ∷ []) $ split ! $
-          -- [the token; true; the result; the last value; what is said of the others; what is kept]
-          keep ! (0 ∷ 5 ∷ 3 ∷ []) $ use3 W (later (cell b o (withPort h last) ⊛ raw (fact 𝓤 (Is Po.the-row last (pval last ∷ []))))) (takes-part Po.the-type Po′.the-laws Po′.the-plain 𝓤 H A W b (o + 40) (back b o h) y last) $ await ! tt $ split ! $
-          move ! (1 ∷ []) $ heard ! (Is Po.the-row last (pval last ∷ [])) (λ is-p. at-once ! $ says ! (known (subst (λ (z : R .Denot). Is R z (u ∷ [])) (e .0) is) is-p) $ done !)))))
-
-    -- where a number is told, the drive with that port is one
-    tells-of : Is Dr.the-row h (dval h ∷ []) → (k : ℕ) (p : Port) (u : Val) → Is u64 k (u ∷ []) → Is Po.the-row p (pval p ∷ []) → Told k (withPort h p) u
-    tells-of was k p u is is-p = (is, LL.owes Dr.the-type Dr′.the-laws (withPort h p) (is-unit was, (is-p, tt)))
-
     -- `sight`
-    abbrev pub to-sight : Loan → Sighting .Ghost
-    to-sight y = (((y .0 ∷ [], tt), (fullShare, tt), tt, (port y, (h .unit, tt)), (vptr b (o + 40) ∷ [], (uval (h .unit) ∷ [], tt))), tt)
+    abbrev pub to-sight : Loan → Sights 𝓤 H A mem run .Ghost
+    to-sight y = sighting.to-sight 𝓤 H A mem run W b (o + 40) (back b o h) (h .port) (h .unit) y
 
-    pub lends-sight : Is Dr.the-row h (dval h ∷ []) → ent 𝓤 (H .at fullShare (rawTy Dr′.mir) b o (dval h)) (H .⇛ (ex 𝓤 (λ (y : Loan). sep 𝓤 (Sighting .pre (to-sight y)) (Keeps y))))
-    lends-sight was =
-        lends-to (owns (Un.the-row ∷ []) (h .unit, tt) (uval (h .unit) ∷ [], tt))
-        (qed W [] ∵ nothing ! $ owned ! Un.the-row (Is Un.the-row) (LL.makes Un.the-type Un′.the-plain 𝓤 H A) (h .unit) _ (is-unit was) $ fjoin ! $ done !) was
+    pub lends-sight : Is Dr.the-row h (dval h ∷ []) → ent 𝓤 (H .at fullShare (rawTy Dr′.mir) b o (dval h)) (H .⇛ (ex 𝓤 (λ (y : Loan). sep 𝓤 (Sights 𝓤 H A mem run .pre (to-sight y)) (Keeps y))))
+    lends-sight was = sighting.lends-sight 𝓤 H A mem run W b (o + 40) (back b o h) (h .port) (h .unit) (is-port h was) (is-unit h was) (sub ! 1 refl (whole !))
 
     pub sight-back : (y : Loan) (u : Val)
-        → ent 𝓤 (sep 𝓤 (Sighting .post (to-sight y) u) (Keeps y)) (H .⇛ (sep 𝓤 (H .at fullShare (rawTy Dr′.mir) b o (dval h)) (fact 𝓤 (Is Si.the-row (sightOf (h .unit) (h .port)) (u ∷ [])))))
-    sight-back y u = takes-back Si.the-row (sightOf (h .unit) (h .port)) (h .port) _ of-one y u (λ is _. is)
+        → ent 𝓤 (sep 𝓤 (Sights 𝓤 H A mem run .post (to-sight y) u) (Keeps y)) (H .⇛ (sep 𝓤 (H .at fullShare (rawTy Dr′.mir) b o (dval h)) (fact 𝓤 (Left Si.the-row (sightOf (h .unit) (h .port)) (h .port) u))))
+    sight-back y u = sighting.sight-back 𝓤 H A mem run W b (o + 40) (back b o h) (h .port) (h .unit) y u
 
     -- `view`
     module _ (x : ℕ) where
@@ -209,12 +164,14 @@ module _ {M : Type 1} (𝓤 : URA M) (H : Heap 𝓤) (A : Atoms 𝓤) (mem : Mem
 
       pub lends-view : Is Dr.the-row h (dval h ∷ []) → x < 2 ^ 32 → ent 𝓤 (H .at fullShare (rawTy Dr′.mir) b o (dval h)) (H .⇛ (ex 𝓤 (λ (y : Loan). sep 𝓤 (Viewing .pre (to-view y)) (Keeps y))))
       lends-view was fits =
-          lends-to (owns (Un.the-row ∷ u32 ∷ []) (h .unit, (x, tt)) (uval (h .unit) ∷ [], (vint w32 x ∷ [], tt)))
-          (qed W [] ∵ nothing ! $ owned ! u32 (Is u32) (uint-makes 𝓤 H A W w32) x _ (refl, fits) $ fjoin ! $ owned ! Un.the-row (Is Un.the-row) (LL.makes Un.the-type Un′.the-plain 𝓤 H A) (h .unit) _ (is-unit was) $ fjoin ! $ done !) was
+          lends-to Po.the-type Po′.the-laws Po′.the-plain 𝓤 H A W b (o + 40) (back b o h)
+          (owns (Un.the-row ∷ u32 ∷ []) (h .unit, (x, tt)) (uval (h .unit) ∷ [], (vint w32 x ∷ [], tt))) (h .port)
+          (qed W [] ∵ nothing ! $ owned ! u32 (Is u32) (uint-makes 𝓤 H A W w32) x _ (refl, fits) $ fjoin ! $ owned ! Un.the-row (Is Un.the-row) (LL.makes Un.the-type Un′.the-plain 𝓤 H A) (h .unit) _ (is-unit h was) $ fjoin ! $ done !)
+          (is-port h was) (sub ! 1 refl (whole !))
 
       pub view-back : (y : Loan) (u : Val)
-          → ent 𝓤 (sep 𝓤 (Viewing .post (to-view y) u) (Keeps y)) (H .⇛ (sep 𝓤 (H .at fullShare (rawTy Dr′.mir) b o (dval h)) (fact 𝓤 (Is Vw.the-row (viewOf (h .unit) (h .port) x) (u ∷ [])))))
-      view-back y u = takes-back Vw.the-row (viewOf (h .unit) (h .port) x) (h .port) _ of-two y u (λ is _. is)
+          → ent 𝓤 (sep 𝓤 (Viewing .post (to-view y) u) (Keeps y)) (H .⇛ (sep 𝓤 (H .at fullShare (rawTy Dr′.mir) b o (dval h)) (fact 𝓤 (Left Vw.the-row (viewOf (h .unit) (h .port) x) (h .port) u))))
+      view-back y u = takes-back Po.the-type Po′.the-laws Po′.the-plain 𝓤 H A W b (o + 40) (back b o h) Vw.the-row (viewOf (h .unit) (h .port) x) (h .port) (λ v p. (v ≡ viewOf (h .unit) (h .port) x) × (p ≡ h .port)) (λ _ _ e. e) _ of-two y u
 
     -- `store`
     module _ (w : Turn) where
@@ -223,11 +180,13 @@ module _ {M : Type 1} (𝓤 : URA M) (H : Heap 𝓤) (A : Atoms 𝓤) (mem : Mem
 
       pub lends-store : Is Dr.the-row h (dval h ∷ []) → Is Tn.the-row w (tval w ∷ []) → ent 𝓤 (H .at fullShare (rawTy Dr′.mir) b o (dval h)) (H .⇛ (ex 𝓤 (λ (y : Loan). sep 𝓤 (Storing .pre (to-store y)) (Keeps y))))
       lends-store was is-w =
-          lends-to (owns (Tn.the-row ∷ []) (w, tt) (tval w ∷ [], tt))
-          (qed W [] ∵ nothing ! $ owned ! Tn.the-row (Is Tn.the-row) (LL.makes Tn.the-type Tn′.the-plain 𝓤 H A) w _ is-w $ fjoin ! $ done !) was
+          lends-to Po.the-type Po′.the-laws Po′.the-plain 𝓤 H A W b (o + 40) (back b o h)
+          (owns (Tn.the-row ∷ []) (w, tt) (tval w ∷ [], tt)) (h .port)
+          (qed W [] ∵ nothing ! $ owned ! Tn.the-row (Is Tn.the-row) (LL.makes Tn.the-type Tn′.the-plain 𝓤 H A) w _ is-w $ fjoin ! $ done !)
+          (is-port h was) (sub ! 1 refl (whole !))
 
-      pub store-back : Is Dr.the-row h (dval h ∷ []) → (y : Loan) (u : Val) → ent 𝓤 (sep 𝓤 (Storing .post (to-store y) u) (Keeps y)) (H .⇛ (sep 𝓤 (H .at fullShare (rawTy Dr′.mir) b o (dval (stored h w))) (fact 𝓤 (Told (codeOf (w .said)) (stored h w) u))))
-      store-back was y u = takes-back u64 (codeOf (w .said)) (stored h w .port) _ of-one y u (tells-of was (codeOf (w .said)) (stored h w .port) u)
+      pub store-back : (y : Loan) (u : Val) → ent 𝓤 (sep 𝓤 (Storing .post (to-store y) u) (Keeps y)) (H .⇛ (sep 𝓤 (H .at fullShare (rawTy Dr′.mir) b o (dval (stored h w))) (fact 𝓤 (Left u64 (codeOf (w .said)) (stored h w .port) u))))
+      store-back y u = takes-back Po.the-type Po′.the-laws Po′.the-plain 𝓤 H A W b (o + 40) (back b o h) u64 (codeOf (w .said)) (stored h w .port) (λ k p. (k ≡ codeOf (w .said)) × (p ≡ stored h w .port)) (λ _ _ e. e) _ of-one y u
 
     -- `settle`
     module _ (ks : List Key) (w : Turn) where
@@ -236,24 +195,28 @@ module _ {M : Type 1} (𝓤 : URA M) (H : Heap 𝓤) (A : Atoms 𝓤) (mem : Mem
 
       pub lends-settle : Is Dr.the-row h (dval h ∷ []) → Is K8 ks (held ks ∷ []) → Is Tn.the-row w (tval w ∷ []) → ent 𝓤 (H .at fullShare (rawTy Dr′.mir) b o (dval h)) (H .⇛ (ex 𝓤 (λ (y : Loan). sep 𝓤 (Settling .pre (to-settle y)) (Keeps y))))
       lends-settle was is-ks is-w =
-          lends-to (owns (K8 ∷ Tn.the-row ∷ []) (ks, (w, tt)) (held ks ∷ [], (tval w ∷ [], tt)))
-          (qed W [] ∵ nothing ! $ owned ! Tn.the-row (Is Tn.the-row) (LL.makes Tn.the-type Tn′.the-plain 𝓤 H A) w _ is-w $ fjoin ! $ owned ! K8 (Is K8) (array-makes 𝓤 H A W Ke.the-row (LL.makes Ke.the-type Ke′.the-plain 𝓤 H A) 8) ks _ is-ks $ fjoin ! $ done !) was
+          lends-to Po.the-type Po′.the-laws Po′.the-plain 𝓤 H A W b (o + 40) (back b o h)
+          (owns (K8 ∷ Tn.the-row ∷ []) (ks, (w, tt)) (held ks ∷ [], (tval w ∷ [], tt))) (h .port)
+          (qed W [] ∵ nothing ! $ owned ! Tn.the-row (Is Tn.the-row) (LL.makes Tn.the-type Tn′.the-plain 𝓤 H A) w _ is-w $ fjoin ! $ owned ! K8 (Is K8) (array-makes 𝓤 H A W Ke.the-row (LL.makes Ke.the-type Ke′.the-plain 𝓤 H A) 8) ks _ is-ks $ fjoin ! $ done !)
+          (is-port h was) (sub ! 1 refl (whole !))
 
-      pub settle-back : Is Dr.the-row h (dval h ∷ []) → (y : Loan) (u : Val) → ent 𝓤 (sep 𝓤 (Settling .post (to-settle y) u) (Keeps y)) (H .⇛ (sep 𝓤 (H .at fullShare (rawTy Dr′.mir) b o (dval (settled h ks w))) (fact 𝓤 (Told (codeOf (w .said)) (settled h ks w) u))))
-      settle-back was y u = takes-back u64 (codeOf (w .said)) (settled h ks w .port) _ of-two y u (tells-of was (codeOf (w .said)) (settled h ks w .port) u)
+      pub settle-back : (y : Loan) (u : Val) → ent 𝓤 (sep 𝓤 (Settling .post (to-settle y) u) (Keeps y)) (H .⇛ (sep 𝓤 (H .at fullShare (rawTy Dr′.mir) b o (dval (settled h ks w))) (fact 𝓤 (Left u64 (codeOf (w .said)) (settled h ks w .port) u))))
+      settle-back y u = takes-back Po.the-type Po′.the-laws Po′.the-plain 𝓤 H A W b (o + 40) (back b o h) u64 (codeOf (w .said)) (settled h ks w .port) (λ k p. (k ≡ codeOf (w .said)) × (p ≡ settled h ks w .port)) (λ _ _ e. e) _ of-two y u
 
     -- `happen`
     module _ (i : Sight) (x : Change) where
       abbrev pub to-happen : Loan → Happening .Ghost
-      to-happen y = (((y .0 ∷ [], tt), (fullShare, tt), tt, (port y, (i, (x, tt))), (vptr b (o + 40) ∷ [], (gval i ∷ [], (cval x ∷ [], tt)))), tt)
+      to-happen y = (((y .0 ∷ [], tt), (fullShare, tt), tt, (port y, (i, (x, tt))), (vptr b (o + 40) ∷ [], (sight-val i ∷ [], (cval x ∷ [], tt)))), tt)
 
-      pub lends-happen : Is Dr.the-row h (dval h ∷ []) → Is Si.the-row i (gval i ∷ []) → Is Ch.the-row x (cval x ∷ []) → ent 𝓤 (H .at fullShare (rawTy Dr′.mir) b o (dval h)) (H .⇛ (ex 𝓤 (λ (y : Loan). sep 𝓤 (Happening .pre (to-happen y)) (Keeps y))))
+      pub lends-happen : Is Dr.the-row h (dval h ∷ []) → Is Si.the-row i (sight-val i ∷ []) → Is Ch.the-row x (cval x ∷ []) → ent 𝓤 (H .at fullShare (rawTy Dr′.mir) b o (dval h)) (H .⇛ (ex 𝓤 (λ (y : Loan). sep 𝓤 (Happening .pre (to-happen y)) (Keeps y))))
       lends-happen was is-i is-x =
-          lends-to (owns (Si.the-row ∷ Ch.the-row ∷ []) (i, (x, tt)) (gval i ∷ [], (cval x ∷ [], tt)))
-          (qed W [] ∵ nothing ! $ owned ! Ch.the-row (Is Ch.the-row) (EL.makes Ch.the-type Ch′.the-plain 𝓤 H A) x _ is-x $ fjoin ! $ owned ! Si.the-row (Is Si.the-row) (LL.makes Si.the-type Si′.the-plain 𝓤 H A) i _ is-i $ fjoin ! $ done !) was
+          lends-to Po.the-type Po′.the-laws Po′.the-plain 𝓤 H A W b (o + 40) (back b o h)
+          (owns (Si.the-row ∷ Ch.the-row ∷ []) (i, (x, tt)) (sight-val i ∷ [], (cval x ∷ [], tt))) (h .port)
+          (qed W [] ∵ nothing ! $ owned ! Ch.the-row (Is Ch.the-row) (EL.makes Ch.the-type Ch′.the-plain 𝓤 H A) x _ is-x $ fjoin ! $ owned ! Si.the-row (Is Si.the-row) (LL.makes Si.the-type Si′.the-plain 𝓤 H A) i _ is-i $ fjoin ! $ done !)
+          (is-port h was) (sub ! 1 refl (whole !))
 
-      pub happen-back : Is Dr.the-row h (dval h ∷ []) → (y : Loan) (u : Val) → ent 𝓤 (sep 𝓤 (Happening .post (to-happen y) u) (Keeps y)) (H .⇛ (sep 𝓤 (H .at fullShare (rawTy Dr′.mir) b o (dval (happened h i x))) (fact 𝓤 (Told (codeOf (happenedSaid (i .fine))) (happened h i x) u))))
-      happen-back was y u = takes-back u64 (codeOf (happenedSaid (i .fine))) (happened h i x .port) _ of-two y u (tells-of was (codeOf (happenedSaid (i .fine))) (happened h i x .port) u)
+      pub happen-back : (y : Loan) (u : Val) → ent 𝓤 (sep 𝓤 (Happening .post (to-happen y) u) (Keeps y)) (H .⇛ (sep 𝓤 (H .at fullShare (rawTy Dr′.mir) b o (dval (happened h i x))) (fact 𝓤 (Left u64 (codeOf (happenedSaid (i .fine))) (happened h i x .port) u))))
+      happen-back y u = takes-back Po.the-type Po′.the-laws Po′.the-plain 𝓤 H A W b (o + 40) (back b o h) u64 (codeOf (happenedSaid (i .fine))) (happened h i x .port) (λ k p. (k ≡ codeOf (happenedSaid (i .fine))) × (p ≡ happened h i x .port)) (λ _ _ e. e) _ of-two y u
 
 -- the refusal of a buffer that is too short
 abbrev pub refusal : Said

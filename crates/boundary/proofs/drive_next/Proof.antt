@@ -75,7 +75,7 @@ use Rattle.drive.proofs.Ways.{next-short, next-short-buffer}
 use Rattle.boundary.specs.Boundary.{codeOf, Tells}
 use Rattle.boundary.proofs.Answers.{refusal-told, next-stores}
 use Rattle.boundary.proofs.Elements.{unraw}
-use Rattle.boundary.proofs.Lending.{vval, Told, Viewing, Storing, cell, Keeps, to-view, to-store, lends-view, view-back, lends-store, store-back, refusal, is-short, is-refusal, lends-code, code-back, untouched, long-enough, big-lit}
+use Rattle.boundary.proofs.Lending.{vval, Left, is-with, Viewing, Storing, cell, Keeps, to-view, to-store, lends-view, view-back, lends-store, store-back, refusal, is-short, is-refusal, lends-code, code-back, untouched, long-enough, big-lit}
 use Rattle.boundary.proofs.Lent.{dval, stored, N, to-code}
 use Rattle.boundary.proofs.Onward.{Loan}
 use Rattle.boundary.proofs.code.Symbol as n-def
@@ -234,7 +234,7 @@ module _ {M : Type 1} (𝓤 : URA M) (H : Heap 𝓤) (A : Atoms 𝓤) (W : Given
         assigns ! (of-opd ! (load ! (from ! (hop ! (look ! 36 refl) (fld ! {τ = Un′.mir} {d = 0} refl (stop !)))) (look-in ! 0 (unraw ! (sub ! 0 {τ = rawTy Un′.mir} {d = 0} refl (whole !)))))) (from ! (stop !)) (init ! 10 refl (LL.lawful Un.the-type Un′.the-laws 𝓤 H A W .typed (h .unit) _ (LL.owed Dr.the-type Dr′.the-laws h _ was .0) .0)) $
         use1 W (later (some (λ (l : Loan). raw (Viewing 𝓤 H A mem run .pre (to-view 𝓤 H A mem run W b o h address l)) ⊛ raw (Keeps 𝓤 H A mem run W b o h l)))) (lends-view 𝓤 H A mem run W b o h address was address-fits) $ await ! tt $ pick ! (λ l. split ! $
         calls-at ! fm (Viewing 𝓤 H A mem run) known-view (to-view 𝓤 H A mem run W b o h address l) (and-then ! (load ! (from ! (stop !)) (look ! 13 refl)) (and-then ! (load ! (from ! (stop !)) (look ! 11 refl)) (and-then ! (load ! (from ! (stop !)) (look ! 35 refl)) (no-more !)))) (λ u₂.
-        use2 W (later (cell 𝓤 H A mem run b o h ⊛ raw (fact 𝓤 (Is Vw.the-row w (u₂ ∷ []))))) (view-back 𝓤 H A mem run W b o h address l u₂) $ await ! tt $ split ! $ move ! (1 ∷ []) $ heard ! (Is Vw.the-row w (u₂ ∷ [])) (λ is-u₂.
+        use2 W (later (cell 𝓤 H A mem run b o h ⊛ raw (fact 𝓤 (Left Vw.the-row w (h .port) u₂)))) (view-back 𝓤 H A mem run W b o h address l u₂) $ await ! tt $ split ! $ move ! (1 ∷ []) $ heard ! (Left Vw.the-row w (h .port) u₂) (λ seen. let is-u₂ = seen .0 in
         let is-w = subst (Is Vw.the-row w) (LL.tells Vw.the-type Vw′.the-laws w _ is-u₂) is-u₂ in
         land ! (from ! (stop !)) (init ! 24 refl (LL.lawful Vw.the-type Vw′.the-laws 𝓤 H A W .typed w _ is-u₂ .0)) $
         rewrite ! 24 (λ (z : Val). ‵ (fat fullShare Vw′.mir l₇ 0 z)) (ap only (LL.tells Vw.the-type Vw′.the-laws w _ is-u₂)) refl $
@@ -253,10 +253,10 @@ module _ {M : Type 1} (𝓤 : URA M) (H : Heap 𝓤) (A : Atoms 𝓤) (W : Given
         assigns ! (addr ! (from ! (hop ! (look ! 39 refl) (fld ! {τ = Po′.mir} {d = 40} refl (stop !))))) (from ! (stop !)) (init ! 7 refl (tt, tt)) $
         move ! (3 ∷ []) $ use1 W (later (some (λ (l′ : Loan). raw (Storing 𝓤 H A mem run .pre (to-store 𝓤 H A mem run W b o h t l′)) ⊛ raw (Keeps 𝓤 H A mem run W b o h l′)))) (lends-store 𝓤 H A mem run W b o h t was is-t) $ await ! tt $ pick ! (λ l′. split ! $
         calls-at ! fm (Storing 𝓤 H A mem run) known-store (to-store 𝓤 H A mem run W b o h t l′) (and-then ! (load ! (from ! (stop !)) (look ! 8 refl)) (and-then ! (load ! (from ! (stop !)) (look ! 26 refl)) (no-more !))) (λ u₄.
-        use2 W (later (cell 𝓤 H A mem run b o h′ ⊛ raw (fact 𝓤 (Told (codeOf (t .said)) h′ u₄)))) (store-back 𝓤 H A mem run W b o h t was l′ u₄) $ await ! tt $ split ! $ move ! (1 ∷ []) $ heard ! (Told (codeOf (t .said)) h′ u₄) (λ ended.
+        use2 W (later (cell 𝓤 H A mem run b o h′ ⊛ raw (fact 𝓤 (Left u64 (codeOf (t .said)) (h′ .port) u₄)))) (store-back 𝓤 H A mem run W b o h t l′ u₄) $ await ! tt $ split ! $ move ! (1 ∷ []) $ heard ! (Left u64 (codeOf (t .said)) (h′ .port) u₄) (λ ended.
         -- [the drive's cell; the tokens; the last list; what window owns; the open borrow; obs; auth; _17; …; _0; …]
         land ! (from ! (stop !)) (init ! 41 refl (uint-lawful 𝓤 H A W w64 .typed (codeOf (t .said)) _ (ended .0) .0)) $
-        owned ! Dr.the-row (Is Dr.the-row) (LL.makes Dr.the-type Dr′.the-plain 𝓤 H A) h′ _ (ended .1) $ move ! (1 ∷ 0 ∷ 5 ∷ 6 ∷ 7 ∷ []) $ closes ! tt Dr.the-row h′ (dval h′ ∷ []) b o $
+        owned ! Dr.the-row (Is Dr.the-row) (LL.makes Dr.the-type Dr′.the-plain 𝓤 H A) h′ _ (is-with h was (h′ .port) (ended .1)) $ move ! (1 ∷ 0 ∷ 5 ∷ 6 ∷ 7 ∷ []) $ closes ! tt Dr.the-row h′ (dval h′ ∷ []) b o $
         -- [obs; the borrow; its token; the tokens; the last list; what window owns; _17; …; _0; …]
         returns-within ! Post refl (look ! 40 refl) $ forget ! 6 refl $ forget ! 8 refl $ forget ! 10 refl $ forget ! 12 refl $ forget ! 14 refl $ forget ! 20 refl $ forget ! 22 refl $ forget ! 24 refl $ forget ! 26 refl $ forget ! 28 refl $ forget ! 30 refl $ forget ! 32 refl $ forget ! 34 refl $ forget ! 36 refl $ forget ! 38 refl $ forget ! 40 refl $
         move ! (40 ∷ 41 ∷ []) $ free1 ! $ move ! (38 ∷ 39 ∷ []) $ free1 ! $ move ! (36 ∷ 37 ∷ []) $ free1 ! $ move ! (34 ∷ 35 ∷ []) $ free1 ! $ move ! (32 ∷ 33 ∷ []) $ free1 ! $ move ! (30 ∷ 31 ∷ []) $ free1 ! $ move ! (28 ∷ 29 ∷ []) $ free1 ! $ move ! (26 ∷ 27 ∷ []) $ free1 ! $ move ! (24 ∷ 25 ∷ []) $ free1 ! $ move ! (22 ∷ 23 ∷ []) $ free1 ! $ move ! (20 ∷ 21 ∷ []) $ free1 ! $ move ! (18 ∷ 19 ∷ []) $ free1 ! $ move ! (16 ∷ 17 ∷ []) $ free1 ! $ move ! (14 ∷ 15 ∷ []) $ free1 ! $ move ! (12 ∷ 13 ∷ []) $ free1 ! $ move ! (10 ∷ 11 ∷ []) $ free1 ! $ move ! (8 ∷ 9 ∷ []) $ free1 ! $ move ! (6 ∷ 7 ∷ []) $ free1 ! $ free0 ! $

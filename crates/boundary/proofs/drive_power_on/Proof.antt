@@ -13,7 +13,8 @@ use Rattle.boundary.proofs.happen.Symbol as h-def
 use Rattle.boundary.proofs.happen.Symbol.{name as #boundary·happen}
 use Rattle.boundary.proofs.happen.Met as h-thm
 use Rattle.boundary.proofs.Events.{G, meets}
-use Rattle.boundary.proofs.Lending.{Sighting, Happening}
+use Rattle.boundary.proofs.Lending.{Happening}
+use Rattle.boundary.proofs.Sighting.{Sights}
 use Rattle.boundary.proofs.drive_power_on.Key.{name as #boundary·drive-power-on}
 use Rattle.boundary.proofs.drive_power_on as f
 use Rattle.boundary.proofs.drive_power_on.Statement as stated
@@ -25,6 +26,6 @@ drive-power-on-spec 𝓤 H 𝓜 𝓖 𝓡 =
     entered 𝓤 H (tripleOf 𝓤 H (𝓖 .A) f.signature (f.spec 𝓤 H (𝓖 .A) (𝓜 .mem) (𝓡 .run)))
     (tables 𝓤 H 𝓜 𝓡 code.env .C) (tables 𝓤 H 𝓜 𝓡 code.env .Λ) #boundary·drive-power-on code.function (code.unfolded 𝓤 H 𝓜 𝓡)
     (meets 𝓤 H (𝓖 .A) (givenOf 𝓤 H 𝓜 𝓖) (𝓜 .mem) (𝓡 .run) PowerOn #boundary·power-on (tablesOf 𝓤 H 𝓜 (tables 𝓤 H 𝓜 𝓡 code.env))
-    (cited 𝓤 H (Sighting 𝓤 H (𝓖 .A) (𝓜 .mem) (𝓡 .run)) 𝓜 𝓡 code.env #boundary·sight s-def.routine code.calls-boundary·sight (s-thm.met 𝓤 H 𝓜 𝓖 𝓡))
+    (cited 𝓤 H (Sights 𝓤 H (𝓖 .A) (𝓜 .mem) (𝓡 .run)) 𝓜 𝓡 code.env #boundary·sight s-def.routine code.calls-boundary·sight (s-thm.met 𝓤 H 𝓜 𝓖 𝓡))
     (cited 𝓤 H (G 𝓤 H (𝓖 .A) (𝓜 .mem) (𝓡 .run) PowerOn) 𝓜 𝓡 code.env #boundary·power-on g-def.routine code.calls-boundary·power-on (g-thm.met 𝓤 H 𝓜 𝓖 𝓡))
     (cited 𝓤 H (Happening 𝓤 H (𝓖 .A) (𝓜 .mem) (𝓡 .run)) 𝓜 𝓡 code.env #boundary·happen h-def.routine code.calls-boundary·happen (h-thm.met 𝓤 H 𝓜 𝓖 𝓡)))
