@@ -20,8 +20,8 @@ returns-4 : tie.Need-returns-4
 unfolding formOf
 returns-4 c = rw (ne-eqb _ _ (c .match .rest .0 .0 .1), ne-eqb _ _ (c .match .rest .0 .1), ne-eqb _ _ (c .match .rest .1))
 
-pub kind-of-spec : {M : Type 1} → statement M
-kind-of-spec =
+pub form-of-spec : {M : Type 1} → statement M
+form-of-spec =
     tie.close
     (tie.spec
     returns
