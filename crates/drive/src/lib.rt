@@ -97,9 +97,10 @@ impl Drive {
         let s = sight_of(u, p);
         if s.fine {
             let q = change_all(p, change_of(e));
+            let d = Drive { unit: u, port: q };
             Answer {
                 said: Said::Sent(0),
-                drive: Drive { unit: u, port: q },
+                drive: d,
             }
         } else {
             self.refuse(Refusal::IllFormed)
