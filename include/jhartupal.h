@@ -105,8 +105,8 @@ struct jhartupal_login {
     uint8_t sequences;              /* W20/B1 of its PLOGI, not 0 */
     uint16_t size;                  /* W18 size of its PLOGI: 256 to 2,112, a multiple of 4 */
     uint32_t address;               /* its address: valid, not ours, no other login's */
-    uint8_t port[JHARTUPAL_NAME];   /* its port name, not zero */
-    uint8_t node[JHARTUPAL_NAME];   /* its node name, not zero */
+    uint8_t port_name[JHARTUPAL_NAME]; /* its port name, not zero */
+    uint8_t node_name[JHARTUPAL_NAME]; /* its node name, not zero */
     /* 4 bytes of padding */
     struct jhartupal_exchange places[JHARTUPAL_PLACES];
 };

@@ -15,7 +15,7 @@ static const struct field exchange_fields[] = {FIELD(exchange, start, 0, 8),    
                                                FIELD(exchange, count, 26, 2),    FIELD(exchange, kind, 28, 4)};
 static const struct field login_fields[] = {FIELD(login, used, 0, 1),       FIELD(login, proven, 1, 1),    FIELD(login, paired, 2, 1), FIELD(login, attention, 3, 1),
                                             FIELD(login, concurrent, 4, 1), FIELD(login, sequences, 5, 1), FIELD(login, size, 6, 2),   FIELD(login, address, 8, 4),
-                                            FIELD(login, port, 12, 8),      FIELD(login, node, 20, 8)};
+                                            FIELD(login, port_name, 12, 8), FIELD(login, node_name, 20, 8)};
 static const struct field port_fields[] = {FIELD(port, address, 0, 4), FIELD(port, accept, 4, 112)};
 static const struct field unit_fields[] = {FIELD(unit, capacity, 0, 8), FIELD(unit, identity, 8, 28)};
 static const struct field tables[] = {FIELD(drive, unit, 0, 40), FIELD(drive, port, 40, 2424), FIELD(port, logins, 120, 2304), FIELD(login, places, 32, 256)};

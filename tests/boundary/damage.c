@@ -108,10 +108,10 @@ static const struct change busy[] = {
     {"\"upper bytes 0000h\"", OF(login, address), 0x010018, ILL},
     {"bits 31 to 24 of an address", OF(login, address), 0x01000018, ILL},
     {"\"not ours\"", OF(login, address), OWN, ILL},
-    {"port name zero", OF(login, port), 0, ILL},
-    {"port name, its last byte alone", OF(login, port), UINT64_C(1) << 56, FINE},
-    {"node name zero", OF(login, node), 0, ILL},
-    {"node name, its last byte alone", OF(login, node), UINT64_C(1) << 56, FINE},
+    {"port name zero", OF(login, port_name), 0, ILL},
+    {"port name, its last byte alone", OF(login, port_name), UINT64_C(1) << 56, FINE},
+    {"node name zero", OF(login, node_name), 0, ILL},
+    {"node name, its last byte alone", OF(login, node_name), UINT64_C(1) << 56, FINE},
 };
 
 /* Of each login with no open exchange */

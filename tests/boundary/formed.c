@@ -79,7 +79,7 @@ static bool places_fit(const struct jhartupal_login *l, uint64_t capacity) {
 /* "login addresses valid, .. not ours; stored parameters pass the PLOGI rules"; flags are 0 or 1, the attention none, 29h or 2Fh */
 static bool login_fits(const struct jhartupal_login *l, uint32_t own) {
     bool flags = l->proven <= 1 && l->paired <= 1 && (l->attention == JHARTUPAL_NO_ATTENTION || l->attention == JHARTUPAL_RESET || l->attention == JHARTUPAL_CLEARED);
-    return flags && valid_address(l->address) && l->address != own && named(l->port) && named(l->node) && size_fits(l->size) && l->concurrent != 0
+    return flags && valid_address(l->address) && l->address != own && named(l->port_name) && named(l->node_name) && size_fits(l->size) && l->concurrent != 0
         && l->sequences != 0;
 }
 

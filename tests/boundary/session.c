@@ -52,8 +52,8 @@ static void stored(void) {
     l->sequences = 0x05;
     l->size = 2048;
     l->address = 0x01;
-    memcpy(l->port, f.b + 44, JHARTUPAL_NAME);
-    memcpy(l->node, f.b + 52, JHARTUPAL_NAME);
+    memcpy(l->port_name, f.b + 44, JHARTUPAL_NAME);
+    memcpy(l->node_name, f.b + 52, JHARTUPAL_NAME);
     check(same(&d, &wanted), "PLOGI: keeps the login at the first place");
     take(&d, &g);
     l->paired = 1;
@@ -207,7 +207,7 @@ static void every_place(void) {
     struct jhartupal_drive d, after;
     full(&d);
     for (size_t i = 0; i < JHARTUPAL_LOGINS; i++) {
-        check(d.port.logins[i].used == 1 && d.port.logins[i].address == hosts[i] && d.port.logins[i].port[7] == hosts[i], "login %zu stands at its place", i);
+        check(d.port.logins[i].used == 1 && d.port.logins[i].address == hosts[i] && d.port.logins[i].port_name[7] == hosts[i], "login %zu stands at its place", i);
         for (unsigned j = 0; j < JHARTUPAL_PLACES; j++) {
             struct jhartupal_exchange *e = &d.port.logins[i].places[j];
             struct frame g = first_data(hosts[i], j);

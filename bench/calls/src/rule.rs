@@ -24,8 +24,8 @@ pub struct Login {
     pub sequences: u8,
     pub size: u16,
     pub address: u32,
-    pub port: [u8; 8],
-    pub node: [u8; 8],
+    pub port_name: [u8; 8],
+    pub node_name: [u8; 8],
     pub places: [Exchange; 8],
 }
 
@@ -117,8 +117,8 @@ impl Login {
             && matches!(self.attention, 0 | 0x29 | 0x2f)
             && valid_address(self.address)
             && self.address != own
-            && named(&self.port)
-            && named(&self.node)
+            && named(&self.port_name)
+            && named(&self.node_name)
             && size_fits(self.size)
             && self.concurrent != 0
             && self.sequences != 0

@@ -1,6 +1,6 @@
 -- What a frame that no number refuses tells of the seven tests, and what judges it. Assumes nothing.
-use mathlib.Core.Path.{_≡_, refl, ap}
-use mathlib.Core.Bool.{Bool, true, false, not}
+use mathlib.Core.Path.{_≡_, ap}
+use mathlib.Core.Bool.{true, false, not, _&&_}
 use mathlib.Core.List.{List, [], _∷_}
 use Prim.Native.Nat.{ℕ}
 use lib.Dec.{eqb}
@@ -9,12 +9,12 @@ use borrow.Author.Tests.{not-false}
 use Rattle.tables.specs.Firsts.{firstOf, NoneOf}
 use Rattle.frame.specs.declared.Header.{Header}
 use Rattle.refusal.specs.declared.Refusal.{Refusal}
-use Rattle.refusal.specs.declared.Refusal.the-variants.{ShortBuffer, IllFormed, BadSize, NotOurs, BadSource, UnknownForm, Unproven}
+use Rattle.refusal.specs.declared.Refusal.the-variants.{IllFormed, BadSize, NotOurs, BadSource, UnknownForm, Unproven}
 use Rattle.refusal.specs.Refusal.{frameOrder}
 use Rattle.state.specs.declared.Port.{Port}
 use Rattle.state.specs.declared.Unit.{Unit}
 use Rattle.formed.specs.Formed.{wellFormed}
-use Rattle.arrival.specs.Arrival.{shortBuffer, badSize, badSource, unknownForm, unprovenLogin, unprovenCall, appliesTo, appliesIn}
+use Rattle.arrival.specs.Arrival.{shortBuffer, badSize, badSource, unknownForm, spared, unprovenLogin, appliesTo, appliesIn}
 
 pub record Passes (u : Unit) (p : Port) (h : Header) (f : List ℕ) (room : ℕ) : Type 0 where
   pub long : shortBuffer room ≡ false
@@ -23,7 +23,7 @@ pub record Passes (u : Unit) (p : Port) (h : Header) (f : List ℕ) (room : ℕ)
   pub here : eqb (h .«d_id») (p .address) ≡ true
   pub from : badSource (p .address) (h .«s_id») ≡ false
   pub known : unknownForm h (length f) ≡ false
-  pub proven : unprovenCall p h (getD f 24 0) ≡ false
+  pub proven : (not (spared (h .«r_ctl») (getD f 24 0)) && unprovenLogin p (h .«s_id»)) ≡ false
 
 module _ (u : Unit) (p : Port) (h : Header) (f : List ℕ) (room : ℕ) where
   -- no number applies
@@ -46,6 +46,5 @@ module _ (u : Unit) (p : Port) (h : Header) (f : List ℕ) (room : ℕ) where
   -- once there is room, the numbers that apply are those by which a frame is judged
   pub roomy-first : {B : Type 0} (g : Refusal → B) (b : B) → shortBuffer room ≡ false
       → firstOf (appliesIn u p h f room) frameOrder g b
-      ≡ firstOf (appliesTo (wellFormed u p) (unprovenLogin p (h .«s_id»)) (p .address) h f) (IllFormed ∷ BadSize ∷ NotOurs ∷ BadSource ∷ UnknownForm ∷ Unproven ∷ []) g b
-  unfolding unprovenCall
+      ≡ firstOf (appliesTo false (wellFormed u p) (unprovenLogin p (h .«s_id»)) (p .address) h f) (IllFormed ∷ BadSize ∷ NotOurs ∷ BadSource ∷ UnknownForm ∷ Unproven ∷ []) g b
   roomy-first g b e = rw e

@@ -15,8 +15,8 @@ use Rattle.state.specs.Tables.{findLogin}
 use Rattle.formed.specs.Formed.{wellFormed}
 use Rattle.refusal.specs.declared.Refusal.{Refusal}
 use Rattle.refusal.specs.declared.Refusal.the-variants.{ShortBuffer, IllFormed, BadSize, NotOurs, BadSource, UnknownForm, Unproven, BadSetup, NoExchange, BadWindow}
-use Rattle.arrival.specs.declared.Kind.{Kind}
-use Rattle.arrival.specs.declared.Kind.the-variants.{Link, Done, Abort, Command}
+use Rattle.arrival.specs.declared.Form.{Form}
+use Rattle.arrival.specs.declared.Form.the-variants.{Link, Done, Abort, Command}
 use Rattle.arrival.specs.declared.Judged.{Judged}
 use Rattle.arrival.specs.declared.Judged.the-variants.{Refused, Passed}
 
@@ -49,39 +49,27 @@ spared rctl code = eqb rctl 0x22 && (eqb code 0x03 || eqb code 0x05 || eqb code 
 unfoldable pub unprovenLogin : Port → ℕ → Bool
 unprovenLogin p from = onFound (findLogin p from) (λ i. not (eqb (loginAt p i .proven) 1)) false
 
-unfoldable pub unprovenCall : Port → Header → ℕ → Bool
-unprovenCall p h code = not (spared (h .«r_ctl») code) && unprovenLogin p (h .«s_id»)
-
 -- what a frame that passes is: 22h, 23h, 81h, 06h
-unfoldable pub kindOf : ℕ → Kind
-kindOf rctl = cond (eqb rctl 0x22) Link (cond (eqb rctl 0x23) Done (cond (eqb rctl 0x81) Abort Command))
+unfoldable pub formOf : ℕ → Form
+formOf rctl = cond (eqb rctl 0x22) Link (cond (eqb rctl 0x23) Done (cond (eqb rctl 0x81) Abort Command))
 
--- "When", of each number, for a frame f with header h at a drive of this address, where it is told whether the state is well formed and whether the sender's login is unproven; 1 was told before, and 8, 9 and 10 are not given to a frame in
-abbrev pub appliesTo : Bool → Bool → ℕ → Header → List ℕ → Refusal → Bool
-appliesTo fine unproven own h f ShortBuffer = false
-appliesTo fine unproven own h f IllFormed = not fine
-appliesTo fine unproven own h f BadSize = badSize (length f)
-appliesTo fine unproven own h f NotOurs = not (eqb (h .«d_id») own)
-appliesTo fine unproven own h f BadSource = badSource own (h .«s_id»)
-appliesTo fine unproven own h f UnknownForm = unknownForm h (length f)
-appliesTo fine unproven own h f Unproven = not (spared (h .«r_ctl») (getD f 24 0)) && unproven
-appliesTo fine unproven own h f BadSetup = false
-appliesTo fine unproven own h f NoExchange = false
-appliesTo fine unproven own h f BadWindow = false
+-- "When", of each number, for a frame f with header h at a drive of this address, where it is told whether the buffer is short, whether the state is well formed and whether the sender's login is unproven; 8, 9 and 10 are not given to a frame in
+abbrev pub appliesTo : Bool → Bool → Bool → ℕ → Header → List ℕ → Refusal → Bool
+appliesTo short fine unproven own h f ShortBuffer = short
+appliesTo short fine unproven own h f IllFormed = not fine
+appliesTo short fine unproven own h f BadSize = badSize (length f)
+appliesTo short fine unproven own h f NotOurs = not (eqb (h .«d_id») own)
+appliesTo short fine unproven own h f BadSource = badSource own (h .«s_id»)
+appliesTo short fine unproven own h f UnknownForm = unknownForm h (length f)
+appliesTo short fine unproven own h f Unproven = not (spared (h .«r_ctl») (getD f 24 0)) && unproven
+appliesTo short fine unproven own h f BadSetup = false
+appliesTo short fine unproven own h f NoExchange = false
+appliesTo short fine unproven own h f BadWindow = false
 
--- "Frame in: 1 to 7 in order", once 1 is told
+-- "Frame in: 1 to 7 in order", once there is room
 unfoldable pub judgedBy : Bool → Bool → ℕ → Header → List ℕ → Judged
-judgedBy fine unproven own h f = firstOf (appliesTo fine unproven own h f) (IllFormed ∷ BadSize ∷ NotOurs ∷ BadSource ∷ UnknownForm ∷ Unproven ∷ []) Refused (Passed (kindOf (h .«r_ctl»)))
+judgedBy fine unproven own h f = firstOf (appliesTo false fine unproven own h f) (IllFormed ∷ BadSize ∷ NotOurs ∷ BadSource ∷ UnknownForm ∷ Unproven ∷ []) Refused (Passed (formOf (h .«r_ctl»)))
 
--- "When", of each number, for a frame f with header h and a buffer of so many bytes
+-- the same for a buffer of so many bytes, at a unit and a port
 abbrev pub appliesIn : Unit → Port → Header → List ℕ → ℕ → Refusal → Bool
-appliesIn u p h f room ShortBuffer = shortBuffer room
-appliesIn u p h f room IllFormed = not (wellFormed u p)
-appliesIn u p h f room BadSize = badSize (length f)
-appliesIn u p h f room NotOurs = not (eqb (h .«d_id») (p .address))
-appliesIn u p h f room BadSource = badSource (p .address) (h .«s_id»)
-appliesIn u p h f room UnknownForm = unknownForm h (length f)
-appliesIn u p h f room Unproven = unprovenCall p h (getD f 24 0)
-appliesIn u p h f room BadSetup = false
-appliesIn u p h f room NoExchange = false
-appliesIn u p h f room BadWindow = false
+appliesIn u p h f room x = appliesTo (shortBuffer room) (wellFormed u p) (unprovenLogin p (h .«s_id»)) (p .address) h f x

@@ -1,14 +1,14 @@
-// What arrived: a frame in is refused by the first of the numbers 2 to 7 that fits it, or it is a request of one of four kinds.
+// What arrived: a frame in is refused by the first of the numbers 2 to 7 that fits it, or it is of one of four forms.
 use address::valid_address;
 use frame::Header;
 use refusal::Refusal;
 use wire::byte_at;
 ghost use mathlib.Core.Path.{_≡_};
 ghost use mathlib.Core.Bool.{_&&_, not};
-ghost use Rattle.arrival.specs.Arrival.{badSize, badSource, knownPair, unknownForm, spared, kindOf, judgedBy};
+ghost use Rattle.arrival.specs.Arrival.{badSize, badSource, knownPair, unknownForm, spared, formOf, judgedBy};
 
-// The kinds of frames that are taken: a request to the link services, the answer to one, ABTS, and FCP_CMND.
-pub enum Kind {
+// The forms of the frames that are taken: a request to the link services, the answer to one, ABTS, and FCP_CMND.
+pub enum Form {
     Link,
     Done,
     Abort,
@@ -17,10 +17,10 @@ pub enum Kind {
 
 pub enum Judged {
     Refused(Refusal),
-    Passed(Kind),
+    Passed(Form),
 }
 
-// The frame with header h to a drive of this address: refusals 2 to 7 in order, or its kind.
+// The frame with header h to a drive of this address: refusals 2 to 7 in order, or its form.
 // Whether the state is well formed and whether the sender's login is unproven is the caller's to tell, and refusal 1 was told before.
 pub fn judge(fine: bool, unproven: bool, own: u32, h: Header, frame: &[u8]) -> Judged
     ensures { λ r. ⌜ r ≡ judgedBy fine unproven own h (now (frame .entry)) ⌝ }
@@ -43,7 +43,7 @@ pub fn judge(fine: bool, unproven: bool, own: u32, h: Header, frame: &[u8]) -> J
     if unproven_call(unproven, h.r_ctl, byte_at(frame, 24)) {
         return Judged::Refused(Refusal::Unproven);
     }
-    Judged::Passed(kind_of(h.r_ctl))
+    Judged::Passed(form_of(h.r_ctl))
 }
 
 // Not 24 to 2,136 bytes, or not a multiple of 4.
@@ -131,13 +131,13 @@ fn is_spared(r_ctl: u8, code: u8) -> bool
 }
 
 // What a frame that passes is, by its R_CTL.
-pub fn kind_of(r_ctl: u8) -> Kind
-    ensures { λ r. ⌜ r ≡ kindOf «r_ctl» ⌝ }
+pub fn form_of(r_ctl: u8) -> Form
+    ensures { λ r. ⌜ r ≡ formOf «r_ctl» ⌝ }
 {
     match r_ctl {
-        0x22 => Kind::Link,
-        0x23 => Kind::Done,
-        0x81 => Kind::Abort,
-        _ => Kind::Command,
+        0x22 => Form::Link,
+        0x23 => Form::Done,
+        0x81 => Form::Abort,
+        _ => Form::Command,
     }
 }

@@ -23,7 +23,7 @@ use Rattle.reply.specs.Reply.{answerHead, logoutHead, filled, bytesOf}
 use Rattle.link.specs.Link.{sizeOf, newLogin, outcomeOf, plogiOf, pageFine, pairFine, prliOf, serviceOf, linkOf}
 use Rattle.link.specs.Record.{Kept, out, held, keptFrom, recordOf}
 use Rattle.command.specs.Command.{loggedOut, commandOf}
-use Rattle.arrival.specs.Arrival.{badSize, badSource, knownPair, unknownForm, spared, unprovenLogin, unprovenCall, kindOf}
+use Rattle.arrival.specs.Arrival.{badSize, badSource, knownPair, unknownForm, spared, unprovenLogin, formOf}
 use Rattle.drive.specs.Drive.{madeFrom, afterEvent, eventAnswer}
 use Rattle.drive.specs.Entry.{replyBytes, frameIn, frameInBuffer}
 use Rattle.demands.specs.Numbers.{made, plogi, prli, ready}
@@ -118,7 +118,7 @@ pub record NotEmpty : Type 0 where
   pub so : recordOf (world corrected .drive .port) 0x01 ≡ out
 
 pub not-empty : NotEmpty
-unfolding frameIn frameInBuffer replyBytes headerOf headerBytes badSize badSource knownPair unknownForm spared unprovenLogin unprovenCall kindOf validAddress madeFrom wellFormed setupRules setupOf setupPasses paramsOf sizeFails zeroName verdictOf loginFine usedFine flagsFine addressFine paramsFine exchangeFine apartId apartAddress findLogin freeLogin findExchange hasAddress hasId loginAt withLogin endedOf changedAll bytesOf filled onto answerHead logoutHead shortBytes loginBytes pairBytes logoutBytes linkOf sizeOf plogiOf outcomeOf newLogin serviceOf prliOf pairFine pageFine commandOf loggedOut recordOf ownOf eventAnswer afterEvent freedOf unproven verified logs-in pairs asks
+unfolding frameIn frameInBuffer replyBytes headerOf headerBytes badSize badSource knownPair unknownForm spared unprovenLogin formOf validAddress madeFrom wellFormed setupRules setupOf setupPasses paramsOf sizeFails zeroName verdictOf loginFine usedFine flagsFine addressFine paramsFine exchangeFine apartId apartAddress findLogin freeLogin findExchange hasAddress hasId loginAt withLogin endedOf changedAll bytesOf filled onto answerHead logoutHead shortBytes loginBytes pairBytes logoutBytes linkOf sizeOf plogiOf outcomeOf newLogin serviceOf prliOf pairFine pageFine commandOf loggedOut recordOf ownOf eventAnswer afterEvent freedOf unproven verified logs-in pairs asks
 not-empty =
     record {
       keeps = (tt, (tt, (tt, (tt, tt))));

@@ -8,7 +8,7 @@ use Rattle.link.specs.Record.{Kept, Record, out, held, proved, paired, unpaired
 use Rattle.belief.specs.Host.{Belief, unsure, sure, Request, plogi, pdisc, logo, adisc, prli, prlo, rrq, command, abts}
 use Rattle.belief.specs.Host.{Answer, none, acc, rjt, dlogo, other, same, think, May, MayOut, hears, afterPlogi, afterLogo, afterLink, afterCommand}
 use Rattle.belief.specs.Side.{Side, Laws, Held, Paired, OnPlogi, OnLogo, OnLink, OnCommand, Meets}
-use Rattle.belief.specs.Demand3.{Fate, lost, mute, heard, Event, send, next, pass, reset, lapse, forget, World, sees, step, run, Follows, Keeps, loss, Free, NoLapse, Agrees, Fine, both, some, reaches, start, History, Demand3}
+use Rattle.belief.specs.Demand3.{Fate, lost, mute, heard, Event, send, next, pass, reset, lapse, forget, World, sees, step, run, Follows, Keeps, loss, Free, NoLapse, Agrees, Fine, both, some, reachesHost, start, History, Demand3}
 
 -- The invariant. d: a loss of memory may have come since the last frame that reached the host.
 abbrev Fits : Bool → Belief → Record → Type 0
@@ -233,7 +233,7 @@ module _ (D : Side) (laws : Laws D) where
 
   -- d after an event
   abbrev later : World D → Bool → Event D → Bool
-  later w d e = clear (reaches D w e) (mark (loss D w e) d)
+  later w d e = clear (reachesHost D w e) (mark (loss D w e) d)
 
   sent : (f : D .Sent) (x : Fate) (d : Bool) (w : World D) → May (w .belief) (D .asks f) → Good d w → Good (later w d (send f x)) (step D w (send f x))
   sent f lost d w m g = record { formed = g .formed; fits = request-lost (D .asks f) d (w .belief) (D .login (w .drive)) (g .fits) }
@@ -251,7 +251,7 @@ module _ (D : Side) (laws : Laws D) where
   stepped (next c b) d w m g = record {
     formed = laws .call-wf (w .drive) c (g .formed);
     fits = moved (later w d (next c b)) (w .belief) (D .login (w .drive)) (D .login (D .call (w .drive) c)) (laws .calls (w .drive) c (g .formed))
-        (firm (reaches D w (next c b)) d (w .belief) (D .login (w .drive)) (λ t. laws .speaks-held (w .drive) c (g .formed) (both-right b (D .speaks (w .drive) c) t)) (g .fits));
+        (firm (reachesHost D w (next c b)) d (w .belief) (D .login (w .drive)) (λ t. laws .speaks-held (w .drive) c (g .formed) (both-right b (D .speaks (w .drive) c) t)) (g .fits));
   }
   stepped (pass x) d w m g = record {
     formed = laws .pass-wf (w .drive) x (g .formed);
@@ -286,17 +286,17 @@ module _ (D : Side) (laws : Laws D) where
   between : (h : List (Event D)) (w : World D) → Keeps D w h → Free D w h → Good false w → Good false (run D w h)
   between [] w k q g = g
   between (e ∷ h) w k q g =
-      let c : later w false e ≡ false = ap (λ (t : Bool). clear (reaches D w e) (mark t false)) (q .0) ∙ calm (reaches D w e) in
+      let c : later w false e ≡ false = ap (λ (t : Bool). clear (reachesHost D w e) (mark t false)) (q .0) ∙ calm (reachesHost D w e) in
       between h (step D w e) (k .1) (q .1) (clean (later w false e) (step D w e) c (stepped e false w (k .0) g))
 
   -- a frame that reaches the host
-  cleared : (e : Event D) (d : Bool) (w : World D) → reaches D w e ≡ true → later w d e ≡ false
+  cleared : (e : Event D) (d : Bool) (w : World D) → reachesHost D w e ≡ true → later w d e ≡ false
   cleared e d w t = ap (λ (u : Bool). clear u (mark (loss D w e) d)) t
 
   begun : (s : D .State) → D .Wf s → Good true (start D s)
   begun s k = record { formed = k; fits = tt }
 
-  again : (s : D .State) (h₁ : List (Event D)) (e : Event D) (h₂ : List (Event D)) → History D s h₁ e h₂ → reaches D (run D (start D s) h₁) e ≡ true →
+  again : (s : D .State) (h₁ : List (Event D)) (e : Event D) (h₂ : List (Event D)) → History D s h₁ e h₂ → reachesHost D (run D (start D s) h₁) e ≡ true →
       Free D (step D (run D (start D s) h₁) e) h₂ → Fine D (run D (step D (run D (start D s) h₁) e) h₂)
   again s h₁ e h₂ k t q =
       let w : World D = run D (start D s) h₁ in
@@ -305,7 +305,7 @@ module _ (D : Side) (laws : Laws D) where
       let g₃ : Good false (run D (step D w e) h₂) = between h₂ (step D w e) (k .last) q g₂ in
       agrees ((run D (step D w e) h₂) .belief) (D .login ((run D (step D w e) h₂) .drive)) (g₃ .fits)
 
-  wake : (e : Event D) (w : World D) (x : Record) → w .belief ≡ unsure → (step D w e) .belief ≡ sure x → reaches D w e ≡ true
+  wake : (e : Event D) (w : World D) (x : Record) → w .belief ≡ unsure → (step D w e) .belief ≡ sure x → reachesHost D w e ≡ true
   wake (send f y) w x u v = wakes (D .asks f) (sees y (D .answer (w .drive) f)) (w .belief) x u v
   wake (next c b) w x u v = absurd (awake (w .belief) x u v)
   wake (pass y) w x u v = absurd (awake (w .belief) x u v)

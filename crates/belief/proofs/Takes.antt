@@ -35,8 +35,8 @@ use Rattle.link.proofs.Services.{AfterPlogi, AfterService, AfterAbort, effectOf
 use Rattle.link.proofs.Requests.{link-plogi, link-service, link-out, abts-reply, abts-record}
 use Rattle.command.specs.Command.{loggedOut, commandOf}
 use Rattle.command.proofs.Logins.{Alike, alike, Spoken, silent, responds, command-paired, command-spoken, command-unpaired}
-use Rattle.arrival.specs.declared.Kind.{Kind}
-use Rattle.arrival.specs.Arrival.{kindOf}
+use Rattle.arrival.specs.declared.Form.{Form}
+use Rattle.arrival.specs.Arrival.{formOf}
 use Rattle.arrival.proofs.Passes.{Passes, passes}
 use Rattle.drive.specs.declared.Drive.{Drive}
 use Rattle.drive.specs.Entry.{decidedOf, decidedIn, replyBytes, frameIn, frameInBuffer}
@@ -203,23 +203,23 @@ module _ (d : Drive) (w : wellFormed (d .unit) (d .port) ≡ true) (f l : List �
       by false r = rw (command-unpaired (d .unit) p h f r) (unpaired-command (recordOf p from) _ (paired-record p from ∙ r) (end-record p apart from))
 
   -- each request in its own kind of frame
-  decided-meets : (q : Request) (k : Kind) → k ≡ kindOf (h .«r_ctl») → Makes from f q → Meets (recordOf p from) q (sounds (decidedOf (d .unit) p h k f .reply)) (recordOf (decidedOf (d .unit) p h k f .port) from)
-  unfolding kindOf sizeOf effectOf
-  decided-meets (plogi m) k e x = rw (e ∙ ap kindOf (x .0 .form .routing)) (plogi-meets m x)
-  decided-meets (pdisc m) k e x = rw (e ∙ ap kindOf (x .0 .form .routing)) (service-meets 0x50 116 (x .0) refl (λ z. absurd (omega arith)) (λ z. absurd (omega arith)) (λ z. absurd (omega arith)))
-  decided-meets logo k e x = rw (e ∙ ap kindOf (x .0 .form .routing)) (logo-meets x)
-  decided-meets adisc k e x = rw (e ∙ ap kindOf (x .form .routing)) (service-meets 0x52 28 x refl (λ z. absurd (omega arith)) (λ z. absurd (omega arith)) (λ z. absurd (omega arith)))
-  decided-meets prli k e x = rw (e ∙ ap kindOf (x .form .routing)) (service-meets 0x20 20 x refl (λ z. absurd (omega arith)) (λ z. absurd (omega arith)) (λ z. absurd (omega arith)))
-  decided-meets prlo k e x = rw (e ∙ ap kindOf (x .form .routing)) (service-meets 0x21 20 x refl (λ z. absurd (omega arith)) (λ z. absurd (omega arith)) (λ z. absurd (omega arith)))
-  decided-meets rrq k e x = rw (e ∙ ap kindOf (x .form .routing)) (service-meets 0x12 44 x refl (λ z. absurd (omega arith)) (λ z. absurd (omega arith)) (λ z. absurd (omega arith)))
-  decided-meets command k e x = rw (e ∙ ap kindOf (x .routing)) command-meets
+  decided-meets : (q : Request) (k : Form) → k ≡ formOf (h .«r_ctl») → Makes from f q → Meets (recordOf p from) q (sounds (decidedOf (d .unit) p h k f .reply)) (recordOf (decidedOf (d .unit) p h k f .port) from)
+  unfolding formOf sizeOf effectOf
+  decided-meets (plogi m) k e x = rw (e ∙ ap formOf (x .0 .form .routing)) (plogi-meets m x)
+  decided-meets (pdisc m) k e x = rw (e ∙ ap formOf (x .0 .form .routing)) (service-meets 0x50 116 (x .0) refl (λ z. absurd (omega arith)) (λ z. absurd (omega arith)) (λ z. absurd (omega arith)))
+  decided-meets logo k e x = rw (e ∙ ap formOf (x .0 .form .routing)) (logo-meets x)
+  decided-meets adisc k e x = rw (e ∙ ap formOf (x .form .routing)) (service-meets 0x52 28 x refl (λ z. absurd (omega arith)) (λ z. absurd (omega arith)) (λ z. absurd (omega arith)))
+  decided-meets prli k e x = rw (e ∙ ap formOf (x .form .routing)) (service-meets 0x20 20 x refl (λ z. absurd (omega arith)) (λ z. absurd (omega arith)) (λ z. absurd (omega arith)))
+  decided-meets prlo k e x = rw (e ∙ ap formOf (x .form .routing)) (service-meets 0x21 20 x refl (λ z. absurd (omega arith)) (λ z. absurd (omega arith)) (λ z. absurd (omega arith)))
+  decided-meets rrq k e x = rw (e ∙ ap formOf (x .form .routing)) (service-meets 0x12 44 x refl (λ z. absurd (omega arith)) (λ z. absurd (omega arith)) (λ z. absurd (omega arith)))
+  decided-meets command k e x = rw (e ∙ ap formOf (x .routing)) command-meets
   decided-meets abts k e x =
-      rw (e ∙ ap kindOf (x .routing)) (after-abort (recordOf p from) (abtsOf p from (h .«ox_id») (h .«rx_id») .reply) (recordOf (abtsOf p from (h .«ox_id») (h .«rx_id») .port) from) (abts-reply p from (h .«ox_id») (h .«rx_id»)) (abts-record p from (h .«ox_id») (h .«rx_id»)))
+      rw (e ∙ ap formOf (x .routing)) (after-abort (recordOf p from) (abtsOf p from (h .«ox_id») (h .«rx_id») .reply) (recordOf (abtsOf p from (h .«ox_id») (h .«rx_id») .port) from) (abts-reply p from (h .«ox_id») (h .«rx_id»)) (abts-record p from (h .«ox_id») (h .«rx_id»)))
 
   frame-meets : (q : Request) → Makes from f q → Meets (recordOf p from) q (heardOf (frameIn d f (length l) .said) (frameInBuffer d f l)) (recordOf (frameIn d f (length l) .drive .port) from)
   frame-meets q x =
       frame-cases d f (length l) (λ _. Meets (recordOf p from) q (heardOf (frameIn d f (length l) .said) (frameInBuffer d f l)) (recordOf (frameIn d f (length l) .drive .port) from))
-      (λ y i. rw (frame-refuses d f l y i .0) (refused-meets (recordOf p from) q)) (λ s. let t = passed-hears s in rw (t .0, t .1) (decided-meets q (kindOf (h .«r_ctl»)) refl x))
+      (λ y i. rw (frame-refuses d f l y i .0) (refused-meets (recordOf p from) q)) (λ s. let t = passed-hears s in rw (t .0, t .1) (decided-meets q (formOf (h .«r_ctl»)) refl x))
 
 -- whose frame it is
 source-of : (a : ℕ) (f : List ℕ) (q : Request) → Makes a f q → headerOf f .«s_id» ≡ a

@@ -106,13 +106,13 @@ some dlogo = true
 some other = true
 
 -- a frame from the drive reaches the host
-abbrev pub reaches : (D : Side) → World D → Event D → Bool
-reaches D w (send f x) = some (sees x (D .answer (w .drive) f))
-reaches D w (next c b) = both b (D .speaks (w .drive) c)
-reaches D w (pass x) = false
-reaches D w reset = false
-reaches D w (lapse x) = false
-reaches D w forget = false
+abbrev pub reachesHost : (D : Side) → World D → Event D → Bool
+reachesHost D w (send f x) = some (sees x (D .answer (w .drive) f))
+reachesHost D w (next c b) = both b (D .speaks (w .drive) c)
+reachesHost D w (pass x) = false
+reachesHost D w reset = false
+reachesHost D w (lapse x) = false
+reachesHost D w forget = false
 
 -- unsure at first, with any well-formed drive
 abbrev pub start : (D : Side) → D .State → World D
@@ -132,9 +132,9 @@ pub record Demand3 (D : Side) : Type 0 where
       Free D (step D (run D (start D s) h₁) e) h₂ → Fine D (run D (step D (run D (start D s) h₁) e) h₂)
   -- after any losses of memory, from the moment that a frame from the drive reaches the host (by e) until the next
   pub right-again : (s : D .State) (h₁ : List (Event D)) (e : Event D) (h₂ : List (Event D)) → History D s h₁ e h₂ →
-      reaches D (run D (start D s) h₁) e ≡ true →
+      reachesHost D (run D (start D s) h₁) e ≡ true →
       Free D (step D (run D (start D s) h₁) e) h₂ → Fine D (run D (step D (run D (start D s) h₁) e) h₂)
   -- an answered PLOGI or LOGO: sure, and right
   pub ends-doubt : (s : D .State) (h₁ : List (Event D)) (f : D .Sent) → History D s h₁ (send f heard) [] →
-      MayOut (D .asks f) → reaches D (run D (start D s) h₁) (send f heard) ≡ true →
+      MayOut (D .asks f) → reachesHost D (run D (start D s) h₁) (send f heard) ≡ true →
       (step D (run D (start D s) h₁) (send f heard)) .belief ≡ sure (D .login ((step D (run D (start D s) h₁) (send f heard)) .drive))

@@ -20,10 +20,10 @@ use Rattle.reply.specs.declared.Reply.{Reply}
 use Rattle.calls.specs.declared.Served.{Served}
 use Rattle.calls.specs.declared.Decision.{Decision}
 use Rattle.calls.specs.View.{viewOf}
-use Rattle.calls.specs.Turn.{Decided, decidedAs, servedAt, changes, answersOnly, stores, servedIn, refusedTurn, sentTurn, decidedPort, portAfter, decidedBy}
+use Rattle.calls.specs.Turn.{Decided, decidedAs, servedAt, changes, answersOnly, stores, servedIn, refusedTurn, portAfter, decidedBy}
 use Rattle.calls.proofs.Views.{view-seat}
 
--- what holds at both ends of a choice holds of the choice: `AtBelow` of a decision's place, and `Another` of what it stores
+-- what holds at both ends of a choice holds of the choice
 pub on-cond : {A : Type 0} (P : A → Type 0) (b : Bool) {x y : A} → P x → P y → P (cond b x y)
 on-cond P true h k = h
 on-cond P false h k = k
@@ -65,10 +65,6 @@ module _ (p : Port) where
   -- a refusal leaves the port
   pub refused-stays : (x : Refusal) → portAfter p (refusedTurn x) ≡ p
   refused-stays x = keep-is
-
-  -- the port after a turn is that after its decision
-  pub sent-port : (n : ℕ) (d : Decision) → portAfter p (sentTurn n d) ≡ decidedPort p d
-  sent-port n d = refl
 
 -- an answer by whether the caller's login is found
 pub found-is : (u : Unit) (p : Port) (a : ℕ) → all (loginFine u (p .address)) (p .logins) ≡ true → (t : ℕ → Decision) (e : Decision) (g : ℕ → Decided) {d : Decided}

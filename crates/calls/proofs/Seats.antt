@@ -1,22 +1,18 @@
--- What is found by the keys of logins that are fine is what is found in the table, and a place found by eight keys is one of eight. Assumes nothing.
-use Prim.Native.Nat.{ℕ, suc, _+_, _<_}
+-- What is found by the keys of logins that are fine is what is found in the table. Assumes nothing.
+use Prim.Native.Nat.{ℕ, suc, _+_}
 use mathlib.Core.Path.{_≡_, refl, sym, ap, _∙_}
 use mathlib.Core.List.{List, [], _∷_, map}
 use mathlib.Core.Bool.{Bool, true, false, cond, not, _||_}
 use lib.Dec.{eqb}
-use lib.ListN.{length}
-use Rattle.tables.specs.declared.Found.the-variants.{At}
 use Rattle.tables.specs.Lists.{firstFrom, first, all}
 use Rattle.tables.proofs.Bools.{and-left, and-right}
-use Rattle.tables.proofs.Searches.{found-below}
 use Rattle.state.specs.declared.Login.{Login}
 use Rattle.state.specs.declared.Unit.{Unit}
 use Rattle.state.specs.Changes.{emptyLogin, isUsed, hasAddress, endedOf}
 use Rattle.state.specs.Tables.{isFree}
-use Rattle.formed.specs.declared.Key.{Key}
 use Rattle.formed.specs.Formed.{loginFine}
 use Rattle.formed.specs.Keys.{keyOf, loginKey}
-use Rattle.formed.proofs.Keys.{noKey, two-more, used-free, free-used}
+use Rattle.formed.proofs.Keys.{two-more, used-free, free-used}
 use Rattle.calls.specs.View.{isEither, findEither, seatOf, placeFor}
 
 -- a search in what f makes of a list whose elements are all fine
@@ -61,13 +57,3 @@ module _ (u : Unit) (own : ℕ) (ls : List Login) (fine : all (loginFine u own) 
   place-is =
       first-map (loginFine u own) (λ l. isFree (endedOf a l)) (isEither 1 (2 + a)) (loginKey u own) (λ l e. key-place u own a l e (isUsed l) refl) ls fine
       ∙ sym (first-map (loginFine u own) (λ l. isFree (endedOf a l)) isFree (endedOf a) (λ l e. refl) ls fine)
-
--- a place found by eight keys is one of eight
-module _ (keys : List Key) (a i : ℕ) where
-  pub seat-below : seatOf keys a ≡ At i → length keys ≡ 8 → i < 8
-  unfolding seatOf findEither
-  seat-below e n = rw (sym n) (found-below noKey (isEither (2 + a) (2 + a)) keys e)
-
-  pub place-below : placeFor keys a ≡ At i → length keys ≡ 8 → i < 8
-  unfolding placeFor findEither
-  place-below e n = rw (sym n) (found-below noKey (isEither 1 (2 + a)) keys e)

@@ -2,30 +2,26 @@
 use Prim.Native.Nat.{ℕ, _<_}
 use mathlib.Core.Path.{_≡_, refl, ap, _∙_}
 use mathlib.Core.Bool.{true}
-use lib.ListN.{length, length-map}
 use Rattle.tables.specs.declared.Found.{Found}
 use Rattle.tables.specs.declared.Found.the-variants.{At, Nothing}
 use Rattle.tables.specs.Lists.{all, onFound}
 use Rattle.state.specs.declared.Port.{Port}
 use Rattle.state.specs.declared.Unit.{Unit}
 use Rattle.state.specs.declared.Change.the-variants.{EndLogin}
-use Rattle.state.specs.declared.Standing.the-variants.{Open, NoExchange}
+use Rattle.state.specs.Standing.{Open, NoExchange}
 use Rattle.state.specs.Changes.{emptyLogin, ownOf, loginAt, changedAll}
 use Rattle.state.specs.Tables.{hasId, findLogin, freeLogin, findExchange, loginIn, loginOf, standingIn, lookupOf, placeIn, soughtIn}
 use Rattle.formed.specs.Formed.{loginFine, wellFormed}
-use Rattle.formed.specs.Keys.{loginKey, keysOf}
+use Rattle.formed.specs.Keys.{keysOf}
 use Rattle.formed.proofs.Keys.{fine-by}
 use Rattle.calls.specs.View.{seatOf, placeFor, viewFrom, viewOf}
 use Rattle.calls.specs.Turn.{AtBelow}
-use Rattle.calls.proofs.Seats.{seat-is, place-is, seat-below}
+use Rattle.calls.proofs.Seats.{seat-is, place-is}
 
 -- a place that is told, by its equation
 pub below-from : (f : Found) → ((i : ℕ) → f ≡ At i → i < 8) → AtBelow f
 below-from (At i) h = h i refl
 below-from Nothing h = tt
-
-pub at-below : (f : Found) {i : ℕ} → AtBelow f → f ≡ At i → i < 8
-at-below f b e = rw e at b
 
 -- the one lookup finds an exchange where it stands at the login of the address, an empty one where it has none
 pub sought-is : (p : Port) (a x : ℕ) → soughtIn p a x ≡ findExchange (loginOf p a) x
@@ -58,16 +54,6 @@ module _ (u : Unit) (p : Port) (a : ℕ) where
   unfolding viewOf viewFrom
   view-fine = fine-by u p
 
-  -- eight logins have eight keys, and the seat is one of eight
-  module _ (eight : length (p .logins) ≡ 8) where
-    pub view-long : length (viewOf u p a .keys) ≡ 8
-    unfolding viewOf viewFrom keysOf
-    view-long = length-map (p .logins) (loginKey u (p .address)) ∙ eight
-
-    pub view-below : AtBelow (viewOf u p a .seat)
-    unfolding viewOf viewFrom
-    view-below = below-from (seatOf (keysOf u p) a) (λ i e. seat-below (keysOf u p) a i e (ap length view-keys ∙ view-long))
-
   module _ (fine : all (loginFine u (p .address)) (p .logins) ≡ true) where
     -- the seat is the place of the caller's login
     pub view-seat : viewOf u p a .seat ≡ findLogin p a
@@ -86,10 +72,6 @@ module _ (u : Unit) (p : Port) (a : ℕ) where
     pub view-login : (i : ℕ) → findLogin p a ≡ At i → viewOf u p a .login ≡ loginAt p i
     unfolding loginOf
     view-login i e = view-is ∙ ap (loginIn p) e
-
-    pub view-none : findLogin p a ≡ Nothing → viewOf u p a .login ≡ emptyLogin
-    unfolding loginOf
-    view-none e = view-is ∙ ap (loginIn p) e
 
     -- the lowest place for a new login of the caller is the lowest that is free once its old one has ended
     pub view-place : placeFor (viewOf u p a .keys) a ≡ freeLogin (changedAll (EndLogin a) p)

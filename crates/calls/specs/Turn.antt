@@ -59,12 +59,12 @@ abbrev pub storedAt : Found → Login → Port → Port
 storedAt (At i) l p = withLogin p i l
 storedAt Nothing l p = p
 
--- the port after a decision, and after a turn: the change of every login, and then the login at its place
-abbrev pub decidedPort : Port → Decision → Port
-decidedPort p d = storedAt (d .at) (d .login) (changedAll (d .change) p)
-
+-- the port after a turn, and after a decision: the change of every login, and then the login at its place
 abbrev pub portAfter : Port → Turn → Port
 portAfter p t = storedAt (t .at) (t .login) (changedAll (t .change) p)
+
+abbrev pub decidedPort : Port → Decision → Port
+decidedPort p d = portAfter p (sentTurn 0 d)
 
 -- the reply, and the port after it
 abbrev pub decidedBy : Port → Decision → Decided

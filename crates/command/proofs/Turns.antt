@@ -1,5 +1,5 @@
--- What an FCP_CMND does, told by what changes, is what it makes of the whole port, where the port's logins are fine; and the place that changes is one of eight. Assumes nothing.
-use Prim.Native.Nat.{ℕ, _<_}
+-- What an FCP_CMND does, told by what changes, is what it makes of the whole port, where the port's logins are fine. Assumes nothing.
+use Prim.Native.Nat.{ℕ}
 use mathlib.Core.Path.{_≡_, refl, sym}
 use mathlib.Core.Bool.{true, cond}
 use mathlib.Core.List.{List}
@@ -15,12 +15,10 @@ use Rattle.state.specs.Changes.{loginAt}
 use Rattle.state.specs.Tables.{soughtIn}
 use Rattle.formed.specs.Formed.{loginFine}
 use Rattle.calls.specs.declared.Served.{Served}
-use Rattle.calls.specs.declared.View.{View}
-use Rattle.calls.specs.declared.Decision.{Decision}
 use Rattle.calls.specs.View.{viewOf}
-use Rattle.calls.specs.Turn.{servedAt, servedIn, decidedBy, AtBelow}
-use Rattle.calls.proofs.Views.{at-below, view-unit, view-login, sought-seen}
-use Rattle.calls.proofs.Decisions.{on-cond, on-found, answers-is, served-is, either-is, found-is}
+use Rattle.calls.specs.Turn.{servedAt, servedIn, decidedBy}
+use Rattle.calls.proofs.Views.{view-unit, view-login, sought-seen}
+use Rattle.calls.proofs.Decisions.{answers-is, served-is, either-is, found-is}
 use Rattle.command.specs.declared.Cmnd.{Cmnd}
 use Rattle.command.specs.declared.Task.{Task}
 use Rattle.command.specs.declared.Task.the-variants as task
@@ -46,16 +44,3 @@ command-turn u p fine h f =
     let from = h .«s_id» in
     found-is u p from fine _ _ (λ i. cond (eqb (loginAt p i .paired) 1) (commandedAt u p i h (cmndOf f) (length f)) (loggedOut p from))
     (λ i e. at-is u p i h (cmndOf f) (length f) (view-unit u p from) (view-login u p from fine i e) (sym (sought-seen u p from fine (h .«ox_id»)))) refl
-
-abbrev Below : Decision → Type 0
-Below d = AtBelow (d .at)
-
-done-within : (t : Task) (i : ℕ) (s : Served) → i < 8 → Below (taskTurn t (servedIn i s))
-done-within (task.Code code) i s b = tt
-done-within (task.Apply e) i s b = tt
-done-within task.Execute i s b = b
-
-pub command-within : (v : View) → AtBelow (v .seat) → (h : Header) (f : List ℕ) → Below (commandTurn v h f)
-unfolding commandTurn commandedTurn
-command-within v seat h f =
-    on-found Below (v .seat) _ _ (λ i e. on-cond Below (eqb (v .login .paired) 1) (done-within (taskOf (cmndOf f) (length f) (h .«s_id»)) i _ (at-below (v .seat) seat e)) tt) (λ _. tt)

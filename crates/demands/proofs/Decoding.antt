@@ -20,7 +20,7 @@ use Rattle.address.specs.Address.{validAddress}
 use Rattle.params.specs.Words.{paramsOf, setupPasses}
 use Rattle.state.specs.declared.Port.{Port}
 use Rattle.state.specs.declared.Unit.{Unit}
-use Rattle.state.specs.declared.Standing.the-variants.{Open}
+use Rattle.state.specs.Standing.{Open}
 use Rattle.state.specs.Changes.{emptyLogin, isUsed, hasAddress, ownOf, loginAt}
 use Rattle.state.specs.Tables.{lookupOf}
 use Rattle.state.proofs.Places.{open-place, open-used, found-has, login-inside}

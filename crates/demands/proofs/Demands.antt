@@ -26,10 +26,10 @@ use Rattle.arrival.specs.Arrival.{appliesIn}
 use Rattle.drive.specs.declared.Drive.{Drive}
 use Rattle.drive.specs.declared.Event.{Event}
 use Rattle.drive.specs.declared.Answer.{Answer}
-use Rattle.drive.specs.Drive.{madeFrom, noDrive, silent, refused, newAnswer, afterEvent, eventAnswer}
+use Rattle.drive.specs.Drive.{madeFrom, noDrive, nothingSent, refused, newAnswer, afterEvent, eventAnswer}
 use Rattle.drive.specs.Entry.{frameIn, frameInBuffer, nextFrame, nextFrameBuffer}
 use Rattle.drive.proofs.Made.{new-refused, new-made, event-refused, event-answered}
-use Rattle.state.specs.declared.Standing.the-variants.{Open}
+use Rattle.state.specs.Standing.{Open}
 use Rattle.state.specs.Changes.{loginAt}
 use Rattle.state.specs.Tables.{lookupOf}
 use Rattle.serve.specs.Next.{exchangeOf, fullOf}
@@ -81,11 +81,11 @@ pub next-same : (d : Drive) (a x start : ℕ) (W l : List ℕ) (r : Refusal) →
 next-same = next-unchanged
 
 -- An event is refused, with 2, exactly when the state is not well formed; making a drive, with 8, exactly when a setup rule fails.
-pub event-given : (d : Drive) (e : Event) → (wellFormed (d .unit) (d .port) ≡ false → eventAnswer d e ≡ refused IllFormed d) × (wellFormed (d .unit) (d .port) ≡ true → eventAnswer d e ≡ silent (afterEvent e d))
+pub event-given : (d : Drive) (e : Event) → (wellFormed (d .unit) (d .port) ≡ false → eventAnswer d e ≡ refused IllFormed d) × (wellFormed (d .unit) (d .port) ≡ true → eventAnswer d e ≡ nothingSent (afterEvent e d))
 event-given d e = (event-refused d e, event-answered d e)
 
 pub new-given : (s : Setup) → (setupRules s ≡ false → newAnswer s ≡ refused BadSetup noDrive)
-    × (setupRules s ≡ true → newAnswer s ≡ silent (madeFrom s))
+    × (setupRules s ≡ true → newAnswer s ≡ nothingSent (madeFrom s))
 new-given s = (new-refused s, new-made s)
 
 -- Well formed is kept: a drive that was made, and driven only by the entries, is well formed, and no call of it is refused with 2.
@@ -98,7 +98,7 @@ frame-never-2 {d} r f l e = apart (driven-fine r) (not-true (wellFormed (d .unit
 pub next-never-2 : {d : Drive} → Driven d → (a x start : ℕ) (W l : List ℕ) → nextFrame d a x start W (length l) .said ≡ Refused IllFormed → ⊥
 next-never-2 {d} r a x start W l e = apart (driven-fine r) (not-true (wellFormed (d .unit) (d .port)) (next-first d a x start W l IllFormed e .this))
 
-pub event-never-2 : {d : Drive} → Driven d → (e : Event) → eventAnswer d e ≡ silent (afterEvent e d)
+pub event-never-2 : {d : Drive} → Driven d → (e : Event) → eventAnswer d e ≡ nothingSent (afterEvent e d)
 event-never-2 {d} r e = event-answered d e (driven-fine r)
 
 -- The length of what is sent: of a reply to a frame in at most 140 bytes (PLOGI's ACC), of a next frame from 24 to 2,072, never 0; a multiple of 4 always.

@@ -28,7 +28,7 @@ use Rattle.state.specs.Tables.{freeLogin}
 use Rattle.formed.specs.Formed.{setupRules}
 use Rattle.calls.specs.Turn.{Decided}
 use Rattle.link.specs.Link.{sizeOf, outcomeAfter, outcomeOf, outcomeReply, plogiOf, linkOf}
-use Rattle.arrival.specs.Arrival.{badSize, badSource, knownPair, unknownForm, spared, unprovenCall, kindOf, appliesIn}
+use Rattle.arrival.specs.Arrival.{badSize, badSource, knownPair, unknownForm, spared, formOf, appliesIn}
 use Rattle.arrival.proofs.Passes.{passes}
 use Rattle.judging.specs.Judgement.{judged, judgementOf}
 use Rattle.drive.specs.declared.Drive.{Drive}
@@ -109,7 +109,7 @@ module _ (t : Setup) (rules : setupRules t ≡ true) (from ox : ℕ) (other : ba
 
   -- no number applies to the frame, whatever the buffer of 2,136 bytes or more
   frame-passes : (room : ℕ) → 2136 ≤ room → NoneOf (appliesIn (d .unit) (d .port) h f room) frameOrder
-  unfolding madeFrom badSize unknownForm knownPair unprovenCall spared
+  unfolding madeFrom badSize unknownForm knownPair spared
   frame-passes room enough =
       passes (d .unit) (d .port) h f room
       record {
@@ -127,5 +127,5 @@ module _ (t : Setup) (rules : setupRules t ≡ true) (from ox : ℕ) (other : ba
 
   -- the drive's answer to the record, sent as a PLOGI by any valid address other than its own, is the judgement's
   pub judges-is : (room : ℕ) → 2136 ≤ room → frameIn d f room ≡ answered d h (record { reply = replyFor (judgementOf s); port = linkOf (d .port) h f .port })
-  unfolding frameIn kindOf
+  unfolding frameIn formOf
   judges-is room enough = rw (header-is, sym reply-is) (answered-first room enough)

@@ -14,7 +14,7 @@ use Rattle.calls.specs.Turn.{Decided, decidedAs}
 use Rattle.link.specs.Link.{newLogin, linkOf}
 use Rattle.link.specs.Login.{ended, leftBy, Accepts, Rejects}
 use Rattle.link.proofs.Exactly.{accepts, accepts-only, rejects, rejects-only}
-use Rattle.arrival.specs.Arrival.{kindOf}
+use Rattle.arrival.specs.Arrival.{formOf}
 use Rattle.drive.specs.declared.Drive.{Drive}
 use Rattle.drive.specs.declared.Answer.{Answer}
 use Rattle.drive.specs.Entry.{answered, decidedIn, replyBytes, frameIn, frameInBuffer}
@@ -24,7 +24,7 @@ use Rattle.demands.proofs.Refusals.{frame-answers}
 module _ (d : Drive) (f l : List ℕ) (p : LoginIn d f l) where
   -- the answer and the buffer are those of the link services' reply
   pub login-answered : (frameIn d f (length l) ≡ answered d (headerOf f) (linkOf (d .port) (headerOf f) f)) × (frameInBuffer d f l ≡ onto (replyBytes d (headerOf f) (linkOf (d .port) (headerOf f) f)) l)
-  unfolding kindOf
+  unfolding formOf
   login-answered =
       let t = frame-answers d f l (p .passed) in
       let is : decidedIn d f ≡ linkOf (d .port) (headerOf f) f = rw (p .link) in

@@ -17,13 +17,13 @@ use Rattle.command.specs.Tests.{otherUnit, attends, beyond, testedBy, askedOf}
 use Rattle.command.specs.Command.{refusedWith, toldOf, openedOf, executeOf, commandedAt, commandOf}
 use Rattle.cover.specs.Cover.{coverOf}
 use Rattle.serve.specs.Next.{hasMore, readsMore, placeOf, frameOf, nextReply, nextExchange, sourceOf, windowPlace, askedBy, openStep, stepOf, frameBytes, movedOn, nextOf, nextBuffer}
-use Rattle.arrival.specs.Arrival.{badSize, badSource, knownPair, unknownForm, spared, unprovenLogin, unprovenCall, kindOf}
+use Rattle.arrival.specs.Arrival.{badSize, badSource, knownPair, unknownForm, spared, unprovenLogin, formOf}
 use Rattle.drive.specs.Drive.{madeFrom}
 use Rattle.drive.specs.Entry.{replyBytes, frameIn, frameInBuffer, nextFrame, nextFrameBuffer}
 use Rattle.demands.specs.Numbers.{KnownNumbers}
 
 pub known-numbers : KnownNumbers
-unfolding frameIn frameInBuffer replyBytes headerOf headerBytes badSize badSource knownPair unknownForm spared unprovenLogin unprovenCall kindOf validAddress madeFrom wellFormed setupRules setupOf setupPasses paramsOf sizeFails zeroName verdictOf loginFine usedFine flagsFine addressFine paramsFine exchangeFine apartId apartAddress wantedFits readFits sentFits findLogin freeLogin findExchange freeExchange loginOf hasAddress hasId loginAt exchangeAt withLogin withExchange endedOf changedAll bytesOf filled onto answerHead dataHead shortBytes loginBytes pairBytes rejectBytes statusBytes codeBytes senseBytes residualOf linkOf sizeOf plogiOf outcomeOf newLogin serviceOf prliOf pairFine pageFine cmndOf malformed taskFor taskOf otherUnit attends inquiryField capacityField range10 decodedOf beyond testedBy askedOf refusedWith toldOf openedOf executeOf commandedAt commandOf nextFrame nextFrameBuffer lookupOf hasMore readsMore coverOf placeOf frameOf nextReply nextExchange sourceOf windowPlace ownOf askedBy openStep stepOf frameBytes movedOn nextOf nextBuffer
+unfolding frameIn frameInBuffer replyBytes headerOf headerBytes badSize badSource knownPair unknownForm spared unprovenLogin formOf validAddress madeFrom wellFormed setupRules setupOf setupPasses paramsOf sizeFails zeroName verdictOf loginFine usedFine flagsFine addressFine paramsFine exchangeFine apartId apartAddress wantedFits readFits sentFits findLogin freeLogin findExchange freeExchange loginOf hasAddress hasId loginAt exchangeAt withLogin withExchange endedOf changedAll bytesOf filled onto answerHead dataHead shortBytes loginBytes pairBytes rejectBytes statusBytes codeBytes senseBytes residualOf linkOf sizeOf plogiOf outcomeOf newLogin serviceOf prliOf pairFine pageFine cmndOf malformed taskFor taskOf otherUnit attends inquiryField capacityField range10 decodedOf beyond testedBy askedOf refusedWith toldOf openedOf executeOf commandedAt commandOf nextFrame nextFrameBuffer lookupOf hasMore readsMore coverOf placeOf frameOf nextReply nextExchange sourceOf windowPlace ownOf askedBy openStep stepOf frameBytes movedOn nextOf nextBuffer
 known-numbers =
     record {
       frame-20 = refl;

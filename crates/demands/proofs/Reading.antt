@@ -9,7 +9,7 @@ use lib.ListN.{length, take, replicate, length-replicate}
 use Rattle.tables.proofs.Bools.{apart}
 use Rattle.state.specs.declared.Port.{Port}
 use Rattle.state.specs.declared.Unit.{Unit}
-use Rattle.state.specs.declared.Standing.the-variants.{Open}
+use Rattle.state.specs.Standing.{Open}
 use Rattle.state.specs.Changes.{loginAt}
 use Rattle.state.specs.Tables.{lookupOf}
 use Rattle.formed.specs.Formed.{wellFormed}

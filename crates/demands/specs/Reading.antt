@@ -8,7 +8,7 @@ use lib.ListN.{length, take, drop, getD, replicate}
 use Rattle.wire.specs.Bytes.{num}
 use Rattle.frame.specs.Head.{headerOf}
 use Rattle.state.specs.declared.Exchange.{Exchange}
-use Rattle.state.specs.declared.Standing.the-variants.{Open}
+use Rattle.state.specs.Standing.{Open}
 use Rattle.state.specs.Changes.{loginAt, withLogin, endedAt}
 use Rattle.state.specs.Kinds.{kindRead}
 use Rattle.state.specs.Tables.{lookupOf}

@@ -17,9 +17,9 @@ use Rattle.calls.proofs.Decisions.{on-cond}
 use Rattle.link.proofs.Keeping.{link-kept, abts-kept}
 use Rattle.command.proofs.Keeping.{command-kept}
 use Rattle.serve.proofs.Keeping.{next-kept}
-use Rattle.arrival.specs.declared.Kind.{Kind}
-use Rattle.arrival.specs.declared.Kind.the-variants.{Link, Done, Abort, Command}
-use Rattle.arrival.specs.Arrival.{shortBuffer, badSource, kindOf}
+use Rattle.arrival.specs.declared.Form.{Form}
+use Rattle.arrival.specs.declared.Form.the-variants.{Link, Done, Abort, Command}
+use Rattle.arrival.specs.Arrival.{shortBuffer, badSource, formOf}
 use Rattle.drive.specs.declared.Drive.{Drive}
 use Rattle.drive.specs.declared.Answer.{Answer}
 use Rattle.drive.specs.declared.Event.{Event}
@@ -37,7 +37,7 @@ pub source-other : (own from : ℕ) → badSource own from ≡ false → eqb fro
 unfolding badSource
 source-other own from e = or-right (not (validAddress from)) (eqb from own) e
 
-pub decided-kept : (u : Unit) (p : Port) (h : Header) (k : Kind) (f : List ℕ) → AllBytes f → badSource (p .address) (h .«s_id») ≡ false → wellFormed u p ≡ true
+pub decided-kept : (u : Unit) (p : Port) (h : Header) (k : Form) (f : List ℕ) → AllBytes f → badSource (p .address) (h .«s_id») ≡ false → wellFormed u p ≡ true
     → wellFormed u (decidedOf u p h k f .port) ≡ true
 decided-kept u p h Link f known from w = link-kept u p h f (source-valid (p .address) (h .«s_id») from) (source-other (p .address) (h .«s_id») from) w
 decided-kept u p h Done f known from w = w
@@ -53,7 +53,7 @@ Kept a = fine (a .drive) ≡ true
 
 -- every frame of bytes keeps a drive well formed, refused or answered
 pub frame-kept : (d : Drive) (f : List ℕ) (room : ℕ) → AllBytes f → fine d ≡ true → fine (frameIn d f room .drive) ≡ true
-frame-kept d f room known w = frame-cases d f room Kept (λ x _. w) (λ s. decided-kept (d .unit) (d .port) (headerOf f) (kindOf (headerOf f .«r_ctl»)) f known (s .from) w)
+frame-kept d f room known w = frame-cases d f room Kept (λ x _. w) (λ s. decided-kept (d .unit) (d .port) (headerOf f) (formOf (headerOf f .«r_ctl»)) f known (s .from) w)
 
 -- every next frame out keeps a drive well formed, refused or given
 pub next-frame-kept : (d : Drive) (a x start : ℕ) (W : List ℕ) (room : ℕ) → fine d ≡ true → fine (nextFrame d a x start W room .drive) ≡ true

@@ -14,7 +14,7 @@ use Rattle.refusal.specs.declared.Refusal.{Refusal}
 use Rattle.refusal.specs.declared.Refusal.the-variants.{IllFormed, BadSetup}
 use Rattle.refusal.specs.declared.Said.the-variants.{Sent, Refused}
 use Rattle.drive.specs.declared.Answer.{Answer}
-use Rattle.drive.specs.Drive.{madeFrom, noDrive, silent, refused, newAnswer, changeOf, afterEvent, eventAnswer}
+use Rattle.drive.specs.Drive.{madeFrom, noDrive, nothingSent, refused, newAnswer, changeOf, afterEvent, eventAnswer}
 
 abbrev fine : Drive → Bool
 fine d = wellFormed (d .unit) (d .port)
@@ -29,7 +29,7 @@ pub new-refused : (s : Setup) → setupRules s ≡ false → newAnswer s ≡ ref
 unfolding newAnswer
 new-refused s e = rw e
 
-pub new-made : (s : Setup) → setupRules s ≡ true → newAnswer s ≡ silent (madeFrom s)
+pub new-made : (s : Setup) → setupRules s ≡ true → newAnswer s ≡ nothingSent (madeFrom s)
 unfolding newAnswer
 new-made s e = rw e
 
@@ -48,7 +48,7 @@ pub event-refused : (d : Drive) (e : Event) → wellFormed (d .unit) (d .port) �
 unfolding eventAnswer
 event-refused d e w = rw w
 
-pub event-answered : (d : Drive) (e : Event) → wellFormed (d .unit) (d .port) ≡ true → eventAnswer d e ≡ silent (afterEvent e d)
+pub event-answered : (d : Drive) (e : Event) → wellFormed (d .unit) (d .port) ≡ true → eventAnswer d e ≡ nothingSent (afterEvent e d)
 unfolding eventAnswer
 event-answered d e w = rw w
 

@@ -30,9 +30,9 @@ use Rattle.command.proofs.Logins.{command-another}
 use Rattle.serve.specs.Next.{exchangeOf, fullOf, nextExchange, Step, Refused, Frame, stepOf, movedOn, nextAt, nextOf}
 use Rattle.serve.proofs.Steps.{passed}
 use Rattle.serve.proofs.Turns.{next-keeps, next-another}
-use Rattle.arrival.specs.declared.Kind.{Kind}
-use Rattle.arrival.specs.declared.Kind.the-variants.{Link, Done, Abort, Command}
-use Rattle.arrival.specs.Arrival.{shortBuffer, kindOf, appliesIn}
+use Rattle.arrival.specs.declared.Form.{Form}
+use Rattle.arrival.specs.declared.Form.the-variants.{Link, Done, Abort, Command}
+use Rattle.arrival.specs.Arrival.{shortBuffer, formOf, appliesIn}
 use Rattle.arrival.proofs.Passes as arrives
 use Rattle.drive.specs.declared.Drive.{Drive}
 use Rattle.drive.specs.declared.Answer.{Answer}
@@ -55,7 +55,7 @@ module _ (d : Drive) (w : wellFormed (d .unit) (d .port) ≡ true) where
   Aside a t = Another p a (t .at) (t .login) × Leaves a (t .change)
 
   -- what is decided of a frame of another sender, or of an answer
-  decided-aside : (f : List ℕ) (a : ℕ) → (a ≡ headerOf f .«s_id» → ⊥) → (k : Kind) → Elsewhere p a (decisionAs (viewOf u p (headerOf f .«s_id»)) (headerOf f) k f)
+  decided-aside : (f : List ℕ) (a : ℕ) → (a ≡ headerOf f .«s_id» → ⊥) → (k : Form) → Elsewhere p a (decisionAs (viewOf u p (headerOf f .«s_id»)) (headerOf f) k f)
   decided-aside f a n Link = link-another u p (formed-parts w .logins) (headerOf f) a n f
   decided-aside f a n Done = (tt, tt)
   decided-aside f a n Abort = abts-another u p (formed-parts w .logins) (headerOf f) a n
@@ -106,9 +106,9 @@ module _ (d : Drive) (w : wellFormed (d .unit) (d .port) ≡ true) where
     turn-is (next b x start W room n) = turn-out b x start W room
 
     turn-aside : (c : OfOthers a) → Aside a (turnOf d c)
-    unfolding decisionOf kindOf
-    turn-aside (frame f room n) = in-aside f room a (decided-aside f a n (kindOf (headerOf f .«r_ctl»)))
-    turn-aside (done f room r) = in-aside f room a (subst (λ (k : Kind). Elsewhere p a (decisionAs (viewOf u p (headerOf f .«s_id»)) (headerOf f) k f)) (sym (ap kindOf r)) (tt, tt))
+    unfolding decisionOf formOf
+    turn-aside (frame f room n) = in-aside f room a (decided-aside f a n (formOf (headerOf f .«r_ctl»)))
+    turn-aside (done f room r) = in-aside f room a (subst (λ (k : Form). Elsewhere p a (decisionAs (viewOf u p (headerOf f .«s_id»)) (headerOf f) k f)) (sym (ap formOf r)) (tt, tt))
     turn-aside (next b x start W room n) = out-aside b x start W room a n
 
     -- the login of a after a call of others: what the turn's change of every login makes of it

@@ -41,11 +41,11 @@ use Rattle.command.proofs.Turns.{command-turn}
 use Rattle.serve.specs.Next.{nextOf, nextBuffer}
 use Rattle.serve.specs.Turn.{nextTurn, nextTurnBuffer}
 use Rattle.serve.proofs.Turns.{next-turn, next-buffer, next-keeps}
-use Rattle.arrival.specs.declared.Kind.{Kind}
-use Rattle.arrival.specs.declared.Kind.the-variants.{Link, Done, Abort, Command}
+use Rattle.arrival.specs.declared.Form.{Form}
+use Rattle.arrival.specs.declared.Form.the-variants.{Link, Done, Abort, Command}
 use Rattle.arrival.specs.declared.Judged.{Judged}
 use Rattle.arrival.specs.declared.Judged.the-variants as judged
-use Rattle.arrival.specs.Arrival.{shortBuffer, unprovenLogin, kindOf, appliesTo, judgedBy, appliesIn}
+use Rattle.arrival.specs.Arrival.{shortBuffer, unprovenLogin, formOf, appliesTo, judgedBy, appliesIn}
 use Rattle.arrival.proofs.Passes.{roomy-first}
 use Rattle.drive.specs.declared.Drive.{Drive}
 use Rattle.drive.specs.declared.Answer.{Answer}
@@ -54,7 +54,7 @@ use Rattle.drive.specs.Entry.{decidedOf, decidedIn, replyBytes, answered
 use Rattle.drive.specs.Turn.{unprovenIn, judgedIn, onJudged, refusalOf, decisionAs, decisionOf, passedTurn, passedBuffer, nextOutTurn, nextOutBuffer, answerTo}
 
 -- a judgement is a refusal or a pass, not both
-not-both : (x : Refusal) (k : Kind) → judged.Refused x ≡ judged.Passed k → ⊥
+not-both : (x : Refusal) (k : Form) → judged.Refused x ≡ judged.Passed k → ⊥
 not-both x k e = let z : _≡_ {A = ℕ} 0 1 = cc in omega arith
 
 module _ (d : Drive) where
@@ -103,7 +103,7 @@ module _ (d : Drive) where
     judged-first {B} g b room e =
         let on : Judged → B = λ j. onJudged j g (λ _. b) in
         roomy-first u p h f room g b e
-        ∙ sym (first-over on (appliesTo (wellFormed u p) (unprovenLogin p (h .«s_id»)) (p .address) h f) (IllFormed ∷ BadSize ∷ NotOurs ∷ BadSource ∷ UnknownForm ∷ Unproven ∷ []) judged.Refused (judged.Passed (kindOf (h .«r_ctl»))))
+        ∙ sym (first-over on (appliesTo false (wellFormed u p) (unprovenLogin p (h .«s_id»)) (p .address) h f) (IllFormed ∷ BadSize ∷ NotOurs ∷ BadSource ∷ UnknownForm ∷ Unproven ∷ []) judged.Refused (judged.Passed (formOf (h .«r_ctl»))))
         ∙ sym (ap on judged-is)
 
     pub frame-judged : (room : ℕ) → shortBuffer room ≡ false → frameIn d f room ≡ onJudged (judgedIn v h f) (λ x. refused x d) (λ _. answered d h (decidedIn d f))
@@ -115,7 +115,7 @@ module _ (d : Drive) where
     buffer-judged l e = judged-first (λ _. l) (onto (replyBytes d h (decidedIn d f)) l) (length l) e
 
     -- one that passes is of a drive that is well formed
-    passed-fine : (k : Kind) → judgedIn v h f ≡ judged.Passed k → wellFormed u p ≡ true
+    passed-fine : (k : Form) → judgedIn v h f ≡ judged.Passed k → wellFormed u p ≡ true
     unfolding judgedBy
     passed-fine k e = by (wellFormed u p) refl
       where
@@ -126,9 +126,9 @@ module _ (d : Drive) where
     -- what is decided on what its sender sees is what the definitions of record say of the whole port
     pub decided-is : wellFormed u p ≡ true → decidedBy p (decisionOf v h f) ≡ decidedIn d f
     unfolding decisionOf
-    decided-is w = by (kindOf (h .«r_ctl»))
+    decided-is w = by (formOf (h .«r_ctl»))
       where
-        by : (k : Kind) → decidedBy p (decisionAs v h k f) ≡ decidedOf u p h k f
+        by : (k : Form) → decidedBy p (decisionAs v h k f) ≡ decidedOf u p h k f
         by Link = link-turn u p (fine w) h f
         by Done = answers-is p reply.Nothing
         by Abort = abts-turn u p (fine w) h
@@ -147,7 +147,7 @@ module _ (d : Drive) where
     passed-buffer w l e = rw e (λ i. onto (bytesOf (view-own u p (h .«s_id») i) h (decided-is w i .reply) []) l)
 
     -- judged to pass: a frame in is the answer to its turn, and the buffer is what that leaves
-    module _ (k : Kind) (e : judgedIn v h f ≡ judged.Passed k) where
+    module _ (k : Form) (e : judgedIn v h f ≡ judged.Passed k) where
       pub judged-turn : (room : ℕ) → shortBuffer room ≡ false → answerTo d (passedTurn v h f room) ≡ frameIn d f room
       judged-turn room s = passed-answer (passed-fine k e) room s ∙ sym (frame-judged room s ∙ rw e)
 
@@ -155,7 +155,7 @@ module _ (d : Drive) where
       judged-turn-buffer l s = passed-buffer (passed-fine k e) l s ∙ sym (buffer-judged l s ∙ rw e)
 
     -- the number is 0 where it passes, else that of the refusal
-    number-cases : (P : ℕ → Type 0) → ((k : Kind) → judgedIn v h f ≡ judged.Passed k → P 0) → ((x : Refusal) → judgedIn v h f ≡ judged.Refused x → P (numberOf x)) → P (refusalOf v h f)
+    number-cases : (P : ℕ → Type 0) → ((k : Form) → judgedIn v h f ≡ judged.Passed k → P 0) → ((x : Refusal) → judgedIn v h f ≡ judged.Refused x → P (numberOf x)) → P (refusalOf v h f)
     unfolding refusalOf
     number-cases P passes refuses = by (judgedIn v h f) refl
       where

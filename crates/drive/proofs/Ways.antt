@@ -19,7 +19,7 @@ use Rattle.calls.specs.declared.Turn.{Turn}
 use Rattle.calls.specs.View.{viewOf}
 use Rattle.calls.specs.Turn.{refusedTurn, sentTurn}
 use Rattle.serve.specs.Turn.{nextTurn, nextTurnBuffer}
-use Rattle.arrival.specs.declared.Kind.{Kind}
+use Rattle.arrival.specs.declared.Form.{Form}
 use Rattle.arrival.specs.declared.Judged.{Judged}
 use Rattle.arrival.specs.declared.Judged.the-variants as judged
 use Rattle.arrival.specs.Arrival.{shortBuffer, appliesIn}
@@ -83,7 +83,7 @@ module _ (d : Drive) (f l : List ℕ) where
     pub says-refused : (x : Refusal) (r : Answer) → j ≡ judged.Refused x → r ≡ refused x d → Says r l
     says-refused x r e er = (er ∙ sym (frame-judged d f (length l) roomy ∙ rw (judged-as e)), sym (buffer-judged d f l roomy ∙ rw (judged-as e)))
 
-    pub says-passed : (k : Kind) (t : Turn) (l₁ : List ℕ) (r : Answer) → j ≡ judged.Passed k → t ≡ passedTurn v h f (length l) → l₁ ≡ passedBuffer v h f l → r ≡ answerTo d t → Says r l₁
+    pub says-passed : (k : Form) (t : Turn) (l₁ : List ℕ) (r : Answer) → j ≡ judged.Passed k → t ≡ passedTurn v h f (length l) → l₁ ≡ passedBuffer v h f l → r ≡ answerTo d t → Says r l₁
     says-passed k t l₁ r e et el er =
         (er ∙ ap (answerTo d) (rw (view-is, eh) at et) ∙ judged-turn d f k (judged-as e) (length l) roomy, (rw (view-is, eh) at el) ∙ judged-turn-buffer d f k (judged-as e) l roomy)
 
@@ -93,7 +93,7 @@ module _ (v : View) (h : Header) (f : List ℕ) where
   unfolding refusalOf
   number-refused j x n ej e en = rw (sym ej ∙ e) en
 
-  pub number-passed : (j : Judged) (k : Kind) → j ≡ judgedIn v h f → j ≡ judged.Passed k → 0 ≡ refusalOf v h f
+  pub number-passed : (j : Judged) (k : Form) → j ≡ judgedIn v h f → j ≡ judged.Passed k → 0 ≡ refusalOf v h f
   unfolding refusalOf
   number-passed j k ej e = rw (sym ej ∙ e)
 

@@ -35,12 +35,12 @@ abbrev pub refused : Refusal → Drive → Answer
 refused r d = record { said = Refused r; drive = d }
 
 -- nothing to send, and the next state
-abbrev pub silent : Drive → Answer
-silent d = record { said = Sent 0; drive = d }
+abbrev pub nothingSent : Drive → Answer
+nothingSent d = record { said = Sent 0; drive = d }
 
 -- "Making a drive: 8"
 unfoldable pub newAnswer : Setup → Answer
-newAnswer s = cond (setupRules s) (silent (madeFrom s)) (refused BadSetup noDrive)
+newAnswer s = cond (setupRules s) (nothingSent (madeFrom s)) (refused BadSetup noDrive)
 
 -- "Events: loop reset marks every login unproven; verification time over ends the unproven ones; power on ends all."
 abbrev pub changeOf : Event → Change
@@ -53,4 +53,4 @@ afterEvent e d = record { unit = d .unit; port = changedAll (changeOf e) (d .por
 
 -- "Event: 2"
 unfoldable pub eventAnswer : Drive → Event → Answer
-eventAnswer d e = cond (wellFormed (d .unit) (d .port)) (silent (afterEvent e d)) (refused IllFormed d)
+eventAnswer d e = cond (wellFormed (d .unit) (d .port)) (nothingSent (afterEvent e d)) (refused IllFormed d)

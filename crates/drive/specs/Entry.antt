@@ -20,15 +20,15 @@ use Rattle.calls.specs.Turn.{Decided, decidedAs}
 use Rattle.link.specs.Link.{linkOf, abtsOf}
 use Rattle.command.specs.Command.{commandOf}
 use Rattle.serve.specs.Next.{Next, nextOf, nextBuffer}
-use Rattle.arrival.specs.declared.Kind.{Kind}
-use Rattle.arrival.specs.declared.Kind.the-variants.{Link, Done, Abort, Command}
-use Rattle.arrival.specs.Arrival.{shortBuffer, kindOf, appliesIn}
+use Rattle.arrival.specs.declared.Form.{Form}
+use Rattle.arrival.specs.declared.Form.the-variants.{Link, Done, Abort, Command}
+use Rattle.arrival.specs.Arrival.{shortBuffer, formOf, appliesIn}
 use Rattle.drive.specs.declared.Drive.{Drive}
 use Rattle.drive.specs.declared.Answer.{Answer}
 use Rattle.drive.specs.Drive.{refused}
 
 -- the reply to a frame that passed, and the port after it; "A 23h frame that passes is answered with nothing and changes nothing"
-abbrev pub decidedOf : Unit → Port → Header → Kind → List ℕ → Decided
+abbrev pub decidedOf : Unit → Port → Header → Form → List ℕ → Decided
 decidedOf u p h Link f = linkOf p h f
 decidedOf u p h Done f = decidedAs reply.Nothing p
 decidedOf u p h Abort f = abtsOf p (h .«s_id») (h .«ox_id») (h .«rx_id»)
@@ -36,7 +36,7 @@ decidedOf u p h Command f = commandOf u p h f
 
 -- what is decided of a frame, by its R_CTL
 abbrev pub decidedIn : Drive → List ℕ → Decided
-decidedIn d f = decidedOf (d .unit) (d .port) (headerOf f) (kindOf (headerOf f .«r_ctl»)) f
+decidedIn d f = decidedOf (d .unit) (d .port) (headerOf f) (formOf (headerOf f .«r_ctl»)) f
 
 -- the reply's bytes; no data frame answers a frame in, so there is nothing to take data from
 unfoldable pub replyBytes : Drive → Header → Decided → List ℕ

@@ -17,11 +17,11 @@ use Rattle.calls.specs.Turn.{answersOnly, refusedTurn, sentTurn, portAfter}
 use Rattle.link.specs.Turn.{linkTurn, abtsTurn}
 use Rattle.command.specs.Turn.{commandTurn}
 use Rattle.serve.specs.Turn.{nextTurn, nextTurnBuffer}
-use Rattle.arrival.specs.declared.Kind.{Kind}
-use Rattle.arrival.specs.declared.Kind.the-variants.{Link, Done, Abort, Command}
+use Rattle.arrival.specs.declared.Form.{Form}
+use Rattle.arrival.specs.declared.Form.the-variants.{Link, Done, Abort, Command}
 use Rattle.arrival.specs.declared.Judged.{Judged}
 use Rattle.arrival.specs.declared.Judged.the-variants as judged
-use Rattle.arrival.specs.Arrival.{kindOf, judgedBy}
+use Rattle.arrival.specs.Arrival.{formOf, judgedBy}
 use Rattle.drive.specs.declared.Drive.{Drive}
 use Rattle.drive.specs.declared.Answer.{Answer}
 
@@ -33,7 +33,7 @@ unprovenIn v = onFound (v .seat) (λ _. not (eqb (v .login .proven) 1)) false
 unfoldable pub judgedIn : View → Header → List ℕ → Judged
 judgedIn v h f = judgedBy (v .fine) (unprovenIn v) (v .own .address) h f
 
-abbrev pub onJudged : {A : Type 0} → Judged → (Refusal → A) → (Kind → A) → A
+abbrev pub onJudged : {A : Type 0} → Judged → (Refusal → A) → (Form → A) → A
 onJudged (judged.Refused x) g k = g x
 onJudged (judged.Passed t) g k = k t
 
@@ -41,15 +41,15 @@ onJudged (judged.Passed t) g k = k t
 unfoldable pub refusalOf : View → Header → List ℕ → ℕ
 refusalOf v h f = onJudged (judgedIn v h f) numberOf (λ _. 0)
 
--- the reply to a frame of a kind, and what changes; by the kinds of `decidedOf`
-abbrev pub decisionAs : View → Header → Kind → List ℕ → Decision
+-- the reply to a frame of a form, and what changes; by the forms of `decidedOf`
+abbrev pub decisionAs : View → Header → Form → List ℕ → Decision
 decisionAs v h Link f = linkTurn v h f
 decisionAs v h Done f = answersOnly reply.Nothing
 decisionAs v h Abort f = abtsTurn v h
 decisionAs v h Command f = commandTurn v h f
 
 unfoldable pub decisionOf : View → Header → List ℕ → Decision
-decisionOf v h f = decisionAs v h (kindOf (h .«r_ctl»)) f
+decisionOf v h f = decisionAs v h (formOf (h .«r_ctl»)) f
 
 -- what a frame that passed comes to; a buffer under 2,136 bytes is left alone
 unfoldable pub passedTurn : View → Header → List ℕ → ℕ → Turn

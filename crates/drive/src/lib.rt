@@ -1,8 +1,8 @@
 // The drive: made from a setup, handed frames, asked for the next ones, told of events. Every entry answers what it said beside the drive, which a refusal leaves as it was.
+use arrival::Form;
 use arrival::Judged;
-use arrival::Kind;
+use arrival::form_of;
 use arrival::judge;
-use arrival::kind_of;
 use calls::Decision;
 use calls::Turn;
 use calls::View;
@@ -97,9 +97,10 @@ impl Drive {
         let s = sight_of(u, p);
         if s.fine {
             let q = change_all(p, change_of(e));
+            let d = Drive { unit: u, port: q };
             Answer {
                 said: Said::Sent(0),
-                drive: Drive { unit: u, port: q },
+                drive: d,
             }
         } else {
             self.refuse(Refusal::IllFormed)
@@ -223,12 +224,12 @@ fn is_unproven(v: View) -> bool
 fn decide(v: View, h: Header, frame: &[u8]) -> Decision
     ensures { λ r. ⌜ r ≡ decisionOf v h (now (frame .entry)) ⌝ }
 {
-    let k = kind_of(h.r_ctl);
+    let k = form_of(h.r_ctl);
     match k {
-        Kind::Link => link(v, h, frame),
-        Kind::Done => answer_only(Reply::Nothing),
-        Kind::Abort => abts(v, h),
-        Kind::Command => command(v, h, frame),
+        Form::Link => link(v, h, frame),
+        Form::Done => answer_only(Reply::Nothing),
+        Form::Abort => abts(v, h),
+        Form::Command => command(v, h, frame),
     }
 }
 

@@ -49,8 +49,8 @@ login used proven paired attention address port node size concurrent sequences p
       sequences = sequences;
       size = size;
       address = address;
-      port = port;
-      node = node;
+      «port_name» = port;
+      «node_name» = node;
       places = places;
     }
 

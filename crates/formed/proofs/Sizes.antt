@@ -16,8 +16,8 @@ size-least n e = ltb-false n 256 (or-left (ltb n 256) (ltb 2112 n) (or-left (ltb
 pub stored-size : (l : Login) → paramsFine l ≡ true → 256 ≤ l .size
 unfolding paramsFine
 stored-size l e =
-    let a = not (zeroName (l .port)) in
-    let b = not (zeroName (l .node)) in
+    let a = not (zeroName (l .«port_name»)) in
+    let b = not (zeroName (l .«node_name»)) in
     let s = not (sizeFails (l .size)) in
     let c = not (eqb (l .concurrent) 0) in
     let d = not (eqb (l .sequences) 0) in

@@ -72,7 +72,7 @@ apartId e f = isClosed e || isClosed f || not (eqb (e .«ox_id») (f .«ox_id»)
 -- "stored parameters pass the PLOGI rules"
 unfoldable pub paramsFine : Login → Bool
 paramsFine l =
-    not (zeroName (l .port)) && not (zeroName (l .node)) && not (sizeFails (l .size)) && not (eqb (l .concurrent) 0) && not (eqb (l .sequences) 0)
+    not (zeroName (l .«port_name»)) && not (zeroName (l .«node_name»)) && not (sizeFails (l .size)) && not (eqb (l .concurrent) 0) && not (eqb (l .sequences) 0)
 
 -- flags are 0 or 1, and the attention is none, 29h or 2Fh
 unfoldable pub flagsFine : Login → Bool

@@ -42,8 +42,8 @@ fn address_fine(own: u32, l: Login) -> bool
 fn params_fine(l: Login) -> bool
     ensures { λ r. ⌜ r ≡ paramsFine l ⌝ }
 {
-    let port = l.port;
-    let node = l.node;
+    let port = l.port_name;
+    let node = l.node_name;
     if zero_name(port) {
         return false;
     }

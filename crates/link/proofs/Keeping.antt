@@ -23,8 +23,7 @@ use Rattle.state.specs.declared.Login.{Login}
 use Rattle.state.specs.declared.Port.{Port}
 use Rattle.state.specs.declared.Unit.{Unit}
 use Rattle.state.specs.declared.Change.the-variants.{EndLogin}
-use Rattle.state.specs.declared.Standing.{Standing}
-use Rattle.state.specs.declared.Standing.the-variants.{Open, NoExchange, NoLogin}
+use Rattle.state.specs.Standing.{Standing, Open, NoExchange, NoLogin}
 use Rattle.state.specs.Changes.{emptyLogin, isUsed, hasAddress, loginAt, withLogin, withExchange, withoutExchanges, endedOf, endedAt, changedAll}
 use Rattle.state.specs.Tables.{findLogin, freeLogin, lookupOf, soughtIn}
 use Rattle.state.proofs.Places.{found-used, open-place}
@@ -58,7 +57,7 @@ module _ (u : Unit) (own : ℕ) (l : Login) where
   service-mild : (code : ℕ) (sought : ℕ → Found) (from : ℕ) (f : List ℕ) → Mild (serviceOf code l sought from f)
   unfolding serviceOf pdiscOf adiscOf prliOf prloOf rrqOf withoutExchanges
   service-mild code sought from f =
-      mild-cond (eqb code 0x50) _ _ (mild-cond (namesDiffer l (paramsOf f 28 .port) (paramsOf f 28 .node)) _ _ gone (proven-mild (verdictOf (paramsOf f 28))))
+      mild-cond (eqb code 0x50) _ _ (mild-cond (namesDiffer l (paramsOf f 28 .«port_name») (paramsOf f 28 .«node_name»)) _ _ gone (proven-mild (verdictOf (paramsOf f 28))))
       (mild-cond (eqb code 0x52) _ _
       (mild-cond (namesDiffer l (part 8 f 32) (part 8 f 40)) _ _ gone (mild-cond (eqb (num 3 f 49) from) _ _ (stays refl refl (λ h. proven-used h 1 refl)) gone))
       (mild-cond (eqb code 0x20) _ _ (mild-cond (pairFine (num 3 f 25) (getD f 28 0) (getD f 30 0) (getD f 43 0)) _ _ (stays refl refl (λ h. paired-used h)) itself)

@@ -14,8 +14,7 @@ use Rattle.wire.specs.Bytes.{num}
 use Rattle.frame.specs.declared.Header.{Header}
 use Rattle.params.specs.Words.{paramsOf}
 use Rattle.state.specs.declared.Port.{Port}
-use Rattle.state.specs.declared.Standing.{Standing}
-use Rattle.state.specs.declared.Standing.the-variants.{Open, NoExchange, NoLogin}
+use Rattle.state.specs.Standing.{Standing, Open, NoExchange, NoLogin}
 use Rattle.state.specs.Changes.{loginAt}
 use Rattle.state.specs.Tables.{findLogin, findExchange, loginOf, standingIn, lookupOf, soughtIn}
 use Rattle.state.proofs.Places.{open-place}

@@ -114,7 +114,7 @@ does-cond false x y = y
 
 pdisc-does : (l : Login) (q : Params) → Does proved l (pdiscOf l q)
 unfolding pdiscOf hasAddress
-pdisc-does l q = does-cond (namesDiffer l (q .port) (q .node)) ends (by (verdictOf q))
+pdisc-does l q = does-cond (namesDiffer l (q .«port_name») (q .«node_name»)) ends (by (verdictOf q))
   where
     by : (v : Verdict) → Does proved l (provenBy v l)
     by verdict.Accept = takes _ _ (λ b. refl) refl

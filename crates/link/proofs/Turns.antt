@@ -1,4 +1,4 @@
--- What a request does, told by what changes, is what it makes of the whole port, where the port's logins are fine; and the place that changes is one of eight. Assumes nothing.
+-- What a request does, told by what changes, is what it makes of the whole port, where the port's logins are fine. Assumes nothing.
 use Prim.Native.Nat.{ℕ, _+_}
 use mathlib.Core.Path.{_≡_, refl, sym, ap, _∙_}
 use mathlib.Core.Bool.{true, cond, not}
@@ -11,25 +11,21 @@ use Rattle.tables.specs.Lists.{all, onFound}
 use Rattle.wire.specs.Bytes.{num}
 use Rattle.frame.specs.declared.Header.{Header}
 use Rattle.params.specs.declared.Params.{Params}
-use Rattle.params.specs.declared.Verdict.{Verdict}
-use Rattle.params.specs.declared.Verdict.the-variants as verdict
 use Rattle.params.specs.Words.{paramsOf, verdictOf}
 use Rattle.state.specs.declared.Login.{Login}
 use Rattle.state.specs.declared.Port.{Port}
 use Rattle.state.specs.declared.Unit.{Unit}
 use Rattle.state.specs.declared.Change.the-variants.{EndLogin}
-use Rattle.state.specs.declared.Standing.{Standing}
+use Rattle.state.specs.Standing.{Standing}
 use Rattle.state.specs.Changes.{loginAt, withLogin, endedAt, changedAll}
 use Rattle.state.specs.Tables.{findLogin, findExchange, standingIn, soughtIn}
 use Rattle.formed.specs.Formed.{loginFine}
 use Rattle.reply.specs.declared.Reply.the-variants as reply
 use Rattle.calls.specs.declared.View.{View}
-use Rattle.calls.specs.declared.Decision.{Decision}
-use Rattle.calls.specs.View.{placeFor, viewOf}
-use Rattle.calls.specs.Turn.{Decided, decidedAs, servedAt, answersOnly, stores, servedIn, decidedBy, AtBelow}
-use Rattle.calls.proofs.Seats.{place-below}
-use Rattle.calls.proofs.Views.{at-below, view-seat, view-login, view-place, lookup-seen, sought-seen}
-use Rattle.calls.proofs.Decisions.{on-cond, on-found, stays-put, answers-is, stores-is, served-is, either-is, found-is}
+use Rattle.calls.specs.View.{viewOf}
+use Rattle.calls.specs.Turn.{Decided, decidedAs, servedAt, answersOnly, stores, servedIn, decidedBy}
+use Rattle.calls.proofs.Views.{view-seat, view-login, view-place, lookup-seen, sought-seen}
+use Rattle.calls.proofs.Decisions.{stays-put, answers-is, stores-is, served-is, either-is, found-is}
 use Rattle.link.specs.declared.Outcome.{Outcome}
 use Rattle.link.specs.declared.Outcome.the-variants.{Place, Rejected}
 use Rattle.link.specs.Link.{sizeOf, newLogin, outcomeAfter, outcomeOf, outcomeReply, outcomePort, plogiOf, logoOf, serviceOf, linkOf, abortedAt, abtsOf}
@@ -95,30 +91,3 @@ module _ (u : Unit) (p : Port) (fine : all (loginFine u (p .address)) (p .logins
       by (At i) Nothing e =
           either-is p (eqb (h .«rx_id») 0xffff) _ _ (stores-is p _ i (w .login) ∙ ap (λ (m : Login). accepted m i) (is i e) ∙ ap (decidedAs reply.AbortAccept) (stays-put p i)) (answers-is p _)
       by Nothing place e = answers-is p _
-
--- the place that changes is one of eight
-abbrev Below : Decision → Type 0
-Below d = AtBelow (d .at)
-
-module _ (v : View) (eight : length (v .keys) ≡ 8) (seat : AtBelow (v .seat)) where
-  plogi-within : (from : ℕ) (q : Params) → Below (plogiTurn (v .keys) from q)
-  unfolding plogiTurn outcomeIn
-  plogi-within from q = by (verdictOf q) (placeFor (v .keys) from) refl
-    where
-      by : (t : Verdict) (f : Found) → placeFor (v .keys) from ≡ f → Below (loginDecision (outcomeAfter t f) from q)
-      by verdict.Accept (At j) e = place-below (v .keys) from j e eight
-      by verdict.Accept Nothing e = tt
-      by (verdict.Reject t) f e = tt
-
-  pub link-within : (h : Header) (f : List ℕ) → Below (linkTurn v h f)
-  unfolding linkTurn logoTurn
-  link-within h f =
-      let code = getD f 24 0 in
-      on-cond Below (eqb (sizeOf code) 0) tt
-      (on-cond Below (not (eqb (length f) (24 + sizeOf code))) tt
-      (on-cond Below (eqb code 0x03) (plogi-within (h .«s_id») (paramsOf f 28))
-      (on-cond Below (eqb code 0x05) (on-cond Below (eqb (num 3 f 29) (h .«s_id»)) tt tt) (on-found Below (v .seat) _ _ (λ i e. at-below (v .seat) seat e) (λ _. tt)))))
-
-  pub abts-within : (h : Header) → Below (abtsTurn v h)
-  unfolding abtsTurn
-  abts-within h = on-found Below (v .seat) _ _ (λ i e. on-cond Below (eqb (h .«rx_id») 0xffff) (at-below (v .seat) seat e) tt) (λ _. tt)

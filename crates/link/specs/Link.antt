@@ -16,8 +16,7 @@ use Rattle.params.specs.Words.{paramsOf, verdictOf, reasonOf}
 use Rattle.state.specs.declared.Login.{Login}
 use Rattle.state.specs.declared.Port.{Port}
 use Rattle.state.specs.declared.Change.the-variants.{EndLogin}
-use Rattle.state.specs.declared.Standing.{Standing}
-use Rattle.state.specs.declared.Standing.the-variants.{Open, NoExchange, NoLogin}
+use Rattle.state.specs.Standing.{Standing, Open, NoExchange, NoLogin}
 use Rattle.state.specs.Changes.{emptyExchange, emptyLogin, loginAt, withLogin, withProven, withPaired, withoutExchanges, endedAt, changedAll}
 use Rattle.state.specs.Tables.{findLogin, freeLogin, lookupOf, soughtIn}
 use Rattle.reply.specs.declared.Reply.{Reply}
@@ -53,8 +52,8 @@ newLogin from q =
       sequences = q .sequences;
       size = q .size;
       address = from;
-      port = q .port;
-      node = q .node;
+      «port_name» = q .«port_name»;
+      «node_name» = q .«node_name»;
       places = replicate 8 emptyExchange;
     }
 
@@ -89,7 +88,7 @@ plogiOf p from q =
 
 -- "Names differ from the login's"
 unfoldable pub namesDiffer : Login → List ℕ → List ℕ → Bool
-namesDiffer l port node = not (same port (l .port)) || not (same node (l .node))
+namesDiffer l port node = not (same port (l .«port_name»)) || not (same node (l .«node_name»))
 
 -- "ACC marks the login proven and changes nothing else"
 abbrev pub provenAs : Accepted → Login → Served
@@ -102,7 +101,7 @@ provenBy (verdict.Reject t) l = servedAs (reply.Reject (reasonOf t .reason) (rea
 
 -- PDISC: "Names differ from the login's ..: drive LOGO, login ended"
 unfoldable pub pdiscOf : Login → Params → Served
-pdiscOf l q = cond (namesDiffer l (q .port) (q .node)) (servedAs reply.Logout emptyLogin) (provenBy (verdictOf q) l)
+pdiscOf l q = cond (namesDiffer l (q .«port_name») (q .«node_name»)) (servedAs reply.Logout emptyLogin) (provenBy (verdictOf q) l)
 
 -- ADISC: "Names differ from the login's, or ADISC W6/B1-3 from S_ID: drive LOGO, login ended"
 unfoldable pub adiscOf : Login → ℕ → ℕ → List ℕ → List ℕ → Served

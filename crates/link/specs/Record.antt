@@ -12,8 +12,8 @@ use Rattle.state.specs.Tables.{findLogin}
 
 -- "names and parameters sent", as the drive stores them
 pub record Kept : Type 0 where
-  pub port : List ℕ
-  pub node : List ℕ
+  pub «port_name» : List ℕ
+  pub «node_name» : List ℕ
   pub size : ℕ
   pub concurrent : ℕ
   pub sequences : ℕ
@@ -24,11 +24,11 @@ pub data Record : Type 0 where
   held : (paired proven : Bool) (kept : Kept) → Record
 
 abbrev pub keptOf : Login → Kept
-keptOf l = record { port = l .port; node = l .node; size = l .size; concurrent = l .concurrent; sequences = l .sequences }
+keptOf l = record { «port_name» = l .«port_name»; «node_name» = l .«node_name»; size = l .size; concurrent = l .concurrent; sequences = l .sequences }
 
 -- what an accepted PLOGI with these parameters keeps
 abbrev pub keptFrom : Params → Kept
-keptFrom q = record { port = q .port; node = q .node; size = q .size; concurrent = q .concurrent; sequences = q .sequences }
+keptFrom q = record { «port_name» = q .«port_name»; «node_name» = q .«node_name»; size = q .size; concurrent = q .concurrent; sequences = q .sequences }
 
 abbrev pub recordAt : Login → Record
 recordAt l = held (eqb (l .paired) 1) (eqb (l .proven) 1) (keptOf l)

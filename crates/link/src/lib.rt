@@ -154,8 +154,8 @@ fn outcome_reply(o: Outcome) -> Reply
 fn new_login(from: u32, q: Params) -> Login
     ensures { λ r. ⌜ r ≡ newLogin from q ⌝ }
 {
-    let port = q.port;
-    let node = q.node;
+    let port = q.port_name;
+    let node = q.node_name;
     let mut l = empty_login();
     l.used = 1;
     l.proven = 1;
@@ -164,8 +164,8 @@ fn new_login(from: u32, q: Params) -> Login
     l.sequences = q.sequences;
     l.size = q.size;
     l.address = from;
-    l.port = port;
-    l.node = node;
+    l.port_name = port;
+    l.node_name = node;
     l
 }
 

@@ -50,8 +50,8 @@ pub(crate) fn service(code: u8, l: Login, from: u32, frame: &[u8]) -> Served
 fn pdisc(l: Login, q: Params) -> Served
     ensures { λ r. ⌜ r ≡ pdiscOf l q ⌝ }
 {
-    let port = q.port;
-    let node = q.node;
+    let port = q.port_name;
+    let node = q.node_name;
     if names_differ(l, port, node) {
         return serve_as(Reply::Logout, empty_login());
     }
@@ -158,8 +158,8 @@ fn page_fine(page: u32, protocol: u8) -> bool
 fn names_differ(l: Login, port: [u8; 8], node: [u8; 8]) -> bool
     ensures { λ r. ⌜ r ≡ namesDiffer l port node ⌝ }
 {
-    let p = l.port;
-    let n = l.node;
+    let p = l.port_name;
+    let n = l.node_name;
     if same_name(port, p) {
         !same_name(node, n)
     } else {

@@ -23,8 +23,8 @@ unfoldable pub paramsOf : List ℕ → ℕ → Params
 paramsOf s word1 =
     record {
       buffer = num 2 s (place word1 2 2) % 4096;
-      port = part 8 s (place word1 5 0);
-      node = part 8 s (place word1 7 0);
+      «port_name» = part 8 s (place word1 5 0);
+      «node_name» = part 8 s (place word1 7 0);
       class3 = getD s (place word1 17 0) 0;
       size = num 2 s (place word1 18 2) % 4096;
       concurrent = getD s (place word1 19 1) 0;
@@ -42,8 +42,8 @@ zeroName name = all (λ b. eqb b 0) name
 -- whether the test of this field fails
 abbrev pub fails : Params → Fault → Bool
 fails p BufferSize = sizeFails (p .buffer)
-fails p PortName = zeroName (p .port)
-fails p NodeName = zeroName (p .node)
+fails p PortName = zeroName (p .«port_name»)
+fails p NodeName = zeroName (p .«node_name»)
 fails p ClassThree = ltb (p .class3) 128
 fails p DataSize = sizeFails (p .size)
 fails p ConcurrentSequences = eqb (p .concurrent) 0

@@ -10,9 +10,9 @@ pub struct Params {
     // W2/B2-3, low 12 bits: the buffer-to-buffer receive size
     pub buffer: u16,
     // W5-6
-    pub port: [u8; 8],
+    pub port_name: [u8; 8],
     // W7-8
-    pub node: [u8; 8],
+    pub node_name: [u8; 8],
     // W17/B0, whose top bit is bit 31 of the word: class 3 is served
     pub class3: u8,
     // W18/B2-3, low 12 bits: the class 3 receive size
@@ -61,8 +61,8 @@ impl Params {
         let node = name_at(s, w + 24);
         Params {
             buffer: be16(s, w + 6) % 4096,
-            port: port,
-            node: node,
+            port_name: port,
+            node_name: node,
             class3: byte_at(s, (w + 64) as usize),
             size: be16(s, w + 70) % 4096,
             concurrent: byte_at(s, (w + 73) as usize),
@@ -74,8 +74,8 @@ impl Params {
     pub fn verdict(self) -> Verdict
         ensures { λ r. ⌜ r ≡ verdictOf self ⌝ }
     {
-        let port = self.port;
-        let node = self.node;
+        let port = self.port_name;
+        let node = self.node_name;
         if size_fails(self.buffer) {
             return Verdict::Reject(Fault::BufferSize);
         }

@@ -19,7 +19,7 @@ use Rattle.recording.specs.declared.Line.{Line}
 use Rattle.recording.specs.declared.Session.{Session}
 use Rattle.recording.specs.declared.Told.{Told}
 use Rattle.recording.specs.Answers.{LineIs, allFill, answer, answerOf}
-use Rattle.recording.specs.Calls.{toldAs, ToldIs, answerTo, fill}
+use Rattle.recording.specs.Calls.{toldAs, ToldIs, toldAnswer, fill}
 
 -- a number of elements past the end counts as all of them
 module _ (l : List ℕ) (n k : ℕ) (e : k ≡ min n (length l)) where
@@ -56,7 +56,7 @@ pub told-is : (s s₁ : Session) (text : List ℕ) (l : Line) → s ≡ s₁ →
 told-is s s₁ text l e h = record { is = λ i. record { session = e i; line = h .is i }; fits = h .fits }
 
 -- the same answer and the same buffer
-pub told-with : (s : Session) {a b : Answer} {l m : List ℕ} {r : Told} → a ≡ b → l ≡ m → ToldIs (answerTo s a l) r → ToldIs (answerTo s b m) r
+pub told-with : (s : Session) {a b : Answer} {l m : List ℕ} {r : Told} → a ≡ b → l ≡ m → ToldIs (toldAnswer s a l) r → ToldIs (toldAnswer s b m) r
 told-with s {a} {b} {l} {m} {r} p q h = rw (p, q) at h
 
 -- a test passed, or failed
@@ -84,7 +84,7 @@ lent-fits room space y h e same =
 -- a call that is lent the first bytes of such a buffer, and leaves y in them: g is its answer by their number, and h what it leaves of them
 pub told-lent : (s : Session) (g : ℕ → Answer) (h : List ℕ → List ℕ) (room : ℕ) (space y : List ℕ) (a : Answer) (r : Told) → room ≤ 4096 → space ≡ fill 4096
     → a ≡ g (length (take room space)) → y ≡ h (take room space) → length y ≡ length (take room space)
-    → ToldIs (answerTo s a (take room (y ++ drop room space))) r → ToldIs (answerTo s (g room) (h (fill room))) r
+    → ToldIs (toldAnswer s a (take room (y ++ drop room space))) r → ToldIs (toldAnswer s (g room) (h (fill room))) r
 told-lent s g h room space y a r fits e ea ey same t =
     let l : take room space ≡ fill room = lent-is room space fits e in
     let n : length (take room space) ≡ room = ap length l ∙ length-fill room in

@@ -33,8 +33,8 @@ unfoldable pub noCall : Session → Told
 noCall s = toldAs s (answer 255 [] true)
 
 -- the drive's answer, and the drive after it; l is what it left in the lent buffer
-unfoldable pub answerTo : Session → Answer → List ℕ → Told
-answerTo s a l = toldAs (record { made = s .made; drive = a .drive }) (answerOf (a .said) l)
+unfoldable pub toldAnswer : Session → Answer → List ℕ → Told
+toldAnswer s a l = toldAs (record { made = s .made; drive = a .drive }) (answerOf (a .said) l)
 
 -- "A refused S leaves the drive as it was"
 abbrev pub keptBy : Said → Session → Drive → Session
@@ -49,21 +49,21 @@ unfoldable pub fill : ℕ → List ℕ
 fill room = replicate room 0x5a
 
 unfoldable pub handed : Session → ℕ → List ℕ → Told
-handed s room frame = answerTo s (frameIn (s .drive) frame room) (frameInBuffer (s .drive) frame (fill room))
+handed s room frame = toldAnswer s (frameIn (s .drive) frame room) (frameInBuffer (s .drive) frame (fill room))
 
 unfoldable pub asked : Session → ℕ → ℕ → ℕ → ℕ → List ℕ → Told
-asked s address x room start window = answerTo s (nextFrame (s .drive) address x start window room) (nextFrameBuffer (s .drive) address x start window (fill room))
+asked s address x room start window = toldAnswer s (nextFrame (s .drive) address x start window room) (nextFrameBuffer (s .drive) address x start window (fill room))
 
 unfoldable pub happened : Session → Event → Told
-happened s e = answerTo s (eventAnswer (s .drive) e) []
+happened s e = toldAnswer s (eventAnswer (s .drive) e) []
 
 -- "capacity u64, own address u32, identity 28, accept words 112"
-unfoldable pub setupOf : List ℕ → Setup
-setupOf b = record { capacity = num 8 b 0; address = num 4 b 8; identity = take 28 (drop 12 b); accept = drop 40 b }
+unfoldable pub setupIn : List ℕ → Setup
+setupIn b = record { capacity = num 8 b 0; address = num 4 b 8; identity = take 28 (drop 12 b); accept = drop 40 b }
 
 -- S: 152 bytes; "body too short" is no call, and what follows a call's bytes is not looked at
 unfoldable pub setupCall : Session → List ℕ → Told
-setupCall s b = cond (ltb (length b) 152) (noCall s) (madeBy s (newAnswer (setupOf (take 152 b))))
+setupCall s b = cond (ltb (length b) 152) (noCall s) (madeBy s (newAnswer (setupIn (take 152 b))))
 
 -- F: "room of the reply buffer u16 (at most 4,096), frame"
 unfoldable pub frameCall : Session → List ℕ → Told
@@ -93,8 +93,8 @@ unfoldable pub eventCall : Session → List ℕ → Told
 eventCall s b = cond (ltb (length b) 1) (noCall s) (cond (s .made) (eventOf (getD b 0 0) s) (noCall s))
 
 -- the letters S, F, N and E
-unfoldable pub toldOf : Session → ℕ → List ℕ → Told
-toldOf s letter b =
+unfoldable pub toldBy : Session → ℕ → List ℕ → Told
+toldBy s letter b =
     cond (eqb letter 0x53) (setupCall s b)
     (cond (eqb letter 0x46) (frameCall s b)
     (cond (eqb letter 0x4e) (nextCall s b)

@@ -18,7 +18,7 @@ use wire::put_front;
 ghost use mathlib.Core.Path.{_≡_};
 ghost use Prim.Native.Nat.{_≤_};
 ghost use lib.ListN.{length};
-ghost use Rattle.recording.specs.Calls.{unmade, setupOf, noCall, madeBy, fill, answerTo, handed, asked, happened, setupCall, frameCall, nextCall, eventCall, toldOf, ToldIs};
+ghost use Rattle.recording.specs.Calls.{unmade, setupIn, noCall, madeBy, fill, toldAnswer, handed, asked, happened, setupCall, frameCall, nextCall, eventCall, toldBy, ToldIs};
 
 // The drive of a session, once one was made; until then the drive that is all zeros.
 pub struct Session {
@@ -51,7 +51,7 @@ pub fn start() -> Session
 
 // The record of a letter and a body: S makes a drive, F hands it a frame, N asks it for the next one, E tells it of an event; any other is no call.
 pub fn tell(s: Session, letter: u8, body: &[u8]) -> Told
-    ensures { λ r. ⌜ ToldIs (toldOf s letter (now (body .entry))) r ⌝ }
+    ensures { λ r. ⌜ ToldIs (toldBy s letter (now (body .entry))) r ⌝ }
 {
     match letter {
         b'S' => tell_setup(s, body),
@@ -80,7 +80,7 @@ fn tell_setup(s: Session, body: &[u8]) -> Told
     if body.len() < 152 {
         return no_call(s);
     }
-    made(s, Drive::new(setup_of(&body[..152])))
+    made(s, Drive::new(setup_in(&body[..152])))
 }
 
 fn tell_frame(s: Session, body: &[u8]) -> Told
@@ -205,7 +205,7 @@ fn happen(s: Session, e: Event) -> Told
 // The drive's answer, and what it left in the buffer that it was lent.
 fn answered(s: Session, a: Answer, lent: &[u8]) -> Told
     requires { ⌜ length (now lent) ≤ 4096 ⌝ }
-    ensures { λ r. ⌜ ToldIs (answerTo s a (now (lent .entry))) r ⌝ }
+    ensures { λ r. ⌜ ToldIs (toldAnswer s a (now (lent .entry))) r ⌝ }
 {
     let said = a.said;
     let after = a.drive;
@@ -220,9 +220,9 @@ fn answered(s: Session, a: Answer, lent: &[u8]) -> Told
 }
 
 // The setup of a body of 152 bytes.
-fn setup_of(body: &[u8]) -> Setup
+fn setup_in(body: &[u8]) -> Setup
     requires { ⌜ length (now body) ≡ 152 ⌝ }
-    ensures { λ r. ⌜ r ≡ setupOf (now (body .entry)) ⌝ }
+    ensures { λ r. ⌜ r ≡ setupIn (now (body .entry)) ⌝ }
 {
     let mut identity = [0u8; 28];
     put_front(&mut identity, &body[12..40]);

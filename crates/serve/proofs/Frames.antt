@@ -15,7 +15,7 @@ use Rattle.cover.proofs.Cuts.{cut-holds}
 use Rattle.state.specs.declared.Exchange.{Exchange}
 use Rattle.state.specs.declared.Port.{Port}
 use Rattle.state.specs.declared.Unit.{Unit}
-use Rattle.state.specs.declared.Standing.the-variants.{Open}
+use Rattle.state.specs.Standing.{Open}
 use Rattle.state.specs.Changes.{emptyExchange, emptyLogin, ownOf, loginAt, exchangeAt}
 use Rattle.state.specs.Kinds.{kindRead}
 use Rattle.state.specs.Tables.{lookupOf}

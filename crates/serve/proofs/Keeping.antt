@@ -9,7 +9,7 @@ use borrow.Author.Tests.{ltb-true}
 use Rattle.state.specs.declared.Login.{Login}
 use Rattle.state.specs.declared.Port.{Port}
 use Rattle.state.specs.declared.Unit.{Unit}
-use Rattle.state.specs.declared.Standing.the-variants.{Open}
+use Rattle.state.specs.Standing.{Open}
 use Rattle.state.specs.Changes.{emptyExchange, loginAt, exchangeAt, withExchange, advanced, isClosed}
 use Rattle.state.specs.Tables.{lookupOf}
 use Rattle.state.proofs.Places.{open-used, open-open}

@@ -9,7 +9,7 @@ use Rattle.state.specs.declared.Exchange.{Exchange}
 use Rattle.state.specs.declared.Login.{Login}
 use Rattle.state.specs.declared.Port.{Port}
 use Rattle.state.specs.declared.Unit.{Unit}
-use Rattle.state.specs.declared.Standing.the-variants.{Open}
+use Rattle.state.specs.Standing.{Open}
 use Rattle.state.specs.Changes.{loginAt, exchangeAt, withLogin, withPlaces, withExchange}
 use Rattle.state.specs.Tables.{lookupOf}
 use Rattle.state.proofs.Places.{exchange-stored, login-stored, login-other, exchange-other}

@@ -14,8 +14,8 @@ use Rattle.refusal.specs.declared.Said.{Said}
 use Rattle.refusal.specs.declared.Said.the-variants as said
 use Rattle.state.specs.declared.Port.{Port}
 use Rattle.state.specs.declared.Unit.{Unit}
-use Rattle.state.specs.declared.Standing.{Standing}
-use Rattle.state.specs.declared.Standing.the-variants as standing
+use Rattle.state.specs.Standing.{Standing}
+use Rattle.state.specs.Standing as standing
 use Rattle.state.specs.Changes.{loginAt}
 use Rattle.state.specs.Tables.{lookupOf}
 use Rattle.serve.specs.Next.{readsMore, placeOf, windowPlace, exchangeOf, Refused, Frame, openStep, stepAt, stepOf, nextAt, nextOf}

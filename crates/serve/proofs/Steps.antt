@@ -11,8 +11,8 @@ use Rattle.tables.specs.Lists.{onFound}
 use Rattle.refusal.specs.declared.Refusal.{Refusal}
 use Rattle.refusal.specs.declared.Refusal.the-variants.{Unproven, BadWindow}
 use Rattle.state.specs.declared.Port.{Port}
-use Rattle.state.specs.declared.Standing.{Standing}
-use Rattle.state.specs.declared.Standing.the-variants as standing
+use Rattle.state.specs.Standing.{Standing}
+use Rattle.state.specs.Standing as standing
 use Rattle.state.specs.Changes.{loginAt}
 use Rattle.state.specs.Tables.{lookupOf}
 use Rattle.serve.specs.Next.{placeOf, windowPlace, exchangeOf, fullOf, Step, Refused, Frame, openStep, stepAt, stepOf}

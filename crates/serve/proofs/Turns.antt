@@ -15,7 +15,7 @@ use Rattle.refusal.specs.declared.Said.the-variants as said
 use Rattle.state.specs.declared.Change.the-variants.{Keep}
 use Rattle.state.specs.declared.Port.{Port}
 use Rattle.state.specs.declared.Unit.{Unit}
-use Rattle.state.specs.declared.Standing.{Standing}
+use Rattle.state.specs.Standing.{Standing}
 use Rattle.state.specs.Changes.{ownOf, hasAddress, loginAt, withExchange}
 use Rattle.state.specs.Tables.{findExchange, standingIn}
 use Rattle.state.proofs.Places.{open-place}
@@ -24,9 +24,9 @@ use Rattle.reply.specs.Reply.{sentOf, writtenOf}
 use Rattle.calls.specs.declared.View.{View}
 use Rattle.calls.specs.declared.Turn.{Turn}
 use Rattle.calls.specs.View.{viewOf}
-use Rattle.calls.specs.Turn.{refusedTurn, AtBelow}
+use Rattle.calls.specs.Turn.{refusedTurn}
 use Rattle.calls.specs.Others.{Another}
-use Rattle.calls.proofs.Views.{at-below, view-unit, view-own, view-seat, view-login, lookup-seen}
+use Rattle.calls.proofs.Views.{view-unit, view-own, view-seat, view-login, lookup-seen}
 use Rattle.calls.proofs.Decisions.{on-cond, on-found, keep-is}
 use Rattle.calls.proofs.Others.{seat-another}
 use Rattle.serve.specs.Next.{windowPlace, exchangeOf, fullOf, sourceOf, Step, Refused, Frame, openStep, stepAt, stepOf, frameBytes, movedOn, nextAt, nextOf, bufferAt, nextBuffer}
@@ -52,10 +52,6 @@ module _ (v : View) (a x start : ℕ) (W : List ℕ) (room : ℕ) where
   -- no other login changes
   pub next-keeps : nextTurn v a x start W room .change ≡ Keep
   next-keeps = turn-cases v a x start W room (λ t. t .change ≡ Keep) (λ _. refl) (λ i j k s. refl)
-
-  -- the place that changes is one of eight
-  pub next-within : AtBelow (v .seat) → AtBelow (nextTurn v a x start W room .at)
-  next-within seat = turn-cases v a x start W room (λ t. AtBelow (t .at)) (λ _. tt) (λ i j k s. at-below (v .seat) seat s)
 
 module _ (u : Unit) (p : Port) (a x start : ℕ) (W : List ℕ) (fine : all (loginFine u (p .address)) (p .logins) ≡ true) where
   abbrev v : View

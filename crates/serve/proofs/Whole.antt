@@ -14,7 +14,7 @@ use Rattle.cover.specs.Cover.{cut}
 use Rattle.state.specs.declared.Exchange.{Exchange}
 use Rattle.state.specs.declared.Port.{Port}
 use Rattle.state.specs.declared.Unit.{Unit}
-use Rattle.state.specs.declared.Standing.the-variants.{Open}
+use Rattle.state.specs.Standing.{Open}
 use Rattle.state.specs.Changes.{emptyExchange, loginAt, withLogin, withExchange, endedAt, advanced}
 use Rattle.state.specs.Kinds.{kindRead, kindInquiryOther, kindCapacity, kindSenseOther}
 use Rattle.state.specs.Tables.{hasId, lookupOf}

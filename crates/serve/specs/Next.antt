@@ -18,8 +18,8 @@ use Rattle.state.specs.declared.Exchange.{Exchange}
 use Rattle.state.specs.declared.Login.{Login}
 use Rattle.state.specs.declared.Port.{Port}
 use Rattle.state.specs.declared.Unit.{Unit}
-use Rattle.state.specs.declared.Standing.{Standing}
-use Rattle.state.specs.declared.Standing.the-variants as standing
+use Rattle.state.specs.Standing.{Standing}
+use Rattle.state.specs.Standing as standing
 use Rattle.state.specs.Changes.{emptyExchange, ownOf, loginAt, exchangeAt, withLogin, withExchange, advanced}
 use Rattle.state.specs.Kinds.{kindRead}
 use Rattle.state.specs.Tables.{lookupOf}

@@ -7,8 +7,8 @@ use Rattle.cover.specs.Cover.{holds}
 use Rattle.refusal.specs.declared.Refusal.{Refusal}
 use Rattle.refusal.specs.declared.Refusal.the-variants.{ShortBuffer, IllFormed, BadSize, NotOurs, BadSource, UnknownForm, Unproven, BadSetup, NoExchange, BadWindow}
 use Rattle.state.specs.declared.Port.{Port}
-use Rattle.state.specs.declared.Standing.{Standing}
-use Rattle.state.specs.declared.Standing.the-variants as standing
+use Rattle.state.specs.Standing.{Standing}
+use Rattle.state.specs.Standing as standing
 use Rattle.state.specs.Changes.{loginAt}
 use Rattle.state.specs.Tables.{lookupOf}
 use Rattle.formed.specs.Formed.{nextBytes}

@@ -11,7 +11,7 @@ use Rattle.refusal.specs.declared.Said.the-variants.{Sent, Refused}
 use Rattle.state.specs.declared.Exchange.{Exchange}
 use Rattle.state.specs.declared.Port.{Port}
 use Rattle.state.specs.declared.Unit.{Unit}
-use Rattle.state.specs.declared.Standing.the-variants.{Open}
+use Rattle.state.specs.Standing.{Open}
 use Rattle.state.specs.Changes.{ownOf, loginAt, withPlaces}
 use Rattle.state.specs.Kinds.{kindRead}
 use Rattle.state.specs.Tables.{lookupOf}

@@ -15,7 +15,7 @@ use Rattle.tables.proofs.Searches.{found-below, found-passes, same-found}
 use Rattle.state.specs.declared.Exchange.{Exchange}
 use Rattle.state.specs.declared.Login.{Login}
 use Rattle.state.specs.declared.Port.{Port}
-use Rattle.state.specs.declared.Standing.the-variants.{Open, NoExchange}
+use Rattle.state.specs.Standing.{Open, NoExchange}
 use Rattle.state.specs.Changes.{emptyExchange, emptyLogin, isUsed, hasAddress, loginAt, exchangeAt, withLogin, withExchange, isClosed}
 use Rattle.state.specs.Tables.{hasId, findLogin, findExchange, loginIn, loginOf, standingIn, lookupOf}
 

@@ -38,8 +38,8 @@ blank name es =
       sequences = 0;
       size = 0;
       address = 0;
-      port = name;
-      node = name;
+      «port_name» = name;
+      «node_name» = name;
       places = es;
     }
 
@@ -83,8 +83,8 @@ withState l proven paired attention es =
       sequences = l .sequences;
       size = l .size;
       address = l .address;
-      port = l .port;
-      node = l .node;
+      «port_name» = l .«port_name»;
+      «node_name» = l .«node_name»;
       places = es;
     }
 

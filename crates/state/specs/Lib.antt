@@ -1,3 +1,4 @@
 pub mod Changes
 pub mod Kinds
+pub mod Standing
 pub mod Tables

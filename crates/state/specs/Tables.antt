@@ -1,6 +1,5 @@
 -- What is found in the tables of a port, the lowest place first.
-use Prim.Native.Nat.{ℕ, _<_}
-use mathlib.Core.Path.{_≡_}
+use Prim.Native.Nat.{ℕ}
 use mathlib.Core.Bool.{Bool, not, _&&_}
 use lib.Dec.{eqb}
 use Rattle.tables.specs.declared.Found.{Found}
@@ -9,8 +8,7 @@ use Rattle.tables.specs.Lists.{first, onFound}
 use Rattle.state.specs.declared.Exchange.{Exchange}
 use Rattle.state.specs.declared.Login.{Login}
 use Rattle.state.specs.declared.Port.{Port}
-use Rattle.state.specs.declared.Standing.{Standing}
-use Rattle.state.specs.declared.Standing.the-variants.{Open, NoExchange, NoLogin}
+use Rattle.state.specs.Standing.{Standing, Open, NoExchange, NoLogin}
 use Rattle.state.specs.Changes.{emptyLogin, isUsed, isClosed, hasAddress, loginAt}
 
 -- a place for a login is free
@@ -62,13 +60,3 @@ placeIn NoLogin = Nothing
 -- that of an address and an OX_ID
 abbrev pub soughtIn : Port → ℕ → ℕ → Found
 soughtIn p a x = placeIn (lookupOf p a x)
-
--- the places that a lookup names are places of the tables
-abbrev pub inTables : Standing → Type 0
-inTables (Open i j) = (i < 8) × (j < 8)
-inTables (NoExchange i) = i < 8
-inTables NoLogin = Unit {0}
-
-pub record LookedUp (p : Port) (a x : ℕ) (r : Standing) : Type 0 where
-  pub is : r ≡ lookupOf p a x
-  pub below : inTables r

@@ -13,7 +13,6 @@ use changes::time_over;
 use changes::unproved;
 pub use searches::all_closed;
 pub use searches::find_exchange;
-pub use searches::find_login;
 pub use searches::free_exchange;
 pub use searches::is_closed;
 pub use searches::is_free;
@@ -29,7 +28,6 @@ pub use stored::put_login;
 pub use stored::set_attention;
 use tables::Found;
 ghost use mathlib.Core.Path.{_≡_};
-ghost use Rattle.state.specs.Tables.{LookedUp};
 ghost use Rattle.state.specs.Changes.{ownOf, changedOf, changedAll};
 
 // A place for an open exchange of a login. What it sends is told by kind; a free place has kind 0.
@@ -82,8 +80,8 @@ pub struct Login {
     pub sequences: u8,
     pub size: u16,
     pub address: u32,
-    pub port: [u8; 8],
-    pub node: [u8; 8],
+    pub port_name: [u8; 8],
+    pub node_name: [u8; 8],
     pub places: [Exchange; 8],
 }
 
@@ -137,13 +135,6 @@ impl Setup {
     pub const MOST_BLOCKS: u64 = 4294967295;
 }
 
-// Where an exchange stands: login and place, the login alone, or no login.
-pub enum Standing {
-    Open(usize, usize),
-    NoExchange(usize),
-    NoLogin,
-}
-
 // What may happen to every login of a table at once.
 pub enum Change {
     // every login stays as it is
@@ -173,20 +164,6 @@ pub fn own_of(p: Port) -> Own
         address: p.address,
         accept: accept,
     }
-}
-
-// Where the exchange of an address and an OX_ID stands.
-pub fn lookup(p: Port, address: u32, ox_id: u16) -> Standing
-    ensures { λ r. ⌜ LookedUp p address «ox_id» r ⌝ }
-{
-    let Found::At(i) = find_login(p, address) else {
-        return Standing::NoLogin;
-    };
-    let l = login_at(p, i);
-    let Found::At(j) = find_exchange(l, ox_id) else {
-        return Standing::NoExchange(i);
-    };
-    Standing::Open(i, j)
 }
 
 // What a change makes of one login. A free place stays free.

@@ -5,7 +5,7 @@ use crate::Port;
 use tables::Found;
 ghost use mathlib.Core.Path.{_≡_};
 ghost use Rattle.tables.specs.Lists.{Within, all};
-ghost use Rattle.state.specs.Tables.{isFree, hasId, findLogin, findExchange, freeExchange};
+ghost use Rattle.state.specs.Tables.{isFree, hasId, findExchange, freeExchange};
 ghost use Rattle.state.specs.Changes.{hasAddress, isClosed};
 
 // Whether a login is used and has this address.
@@ -58,22 +58,6 @@ pub fn all_closed(t: [Exchange; 8]) -> bool
         }
     }
     true
-}
-
-// The lowest place whose login has this address.
-pub fn find_login(p: Port, address: u32) -> Found
-    ensures { λ r. ⌜ Within (findLogin p address) 8 r ⌝ }
-{
-    let t = p.logins;
-    let mut i: usize = 0;
-    while i < Port::LOGINS {
-        let l = t[i];
-        if has_address(l, address) {
-            return Found::At(i);
-        }
-        i += 1;
-    }
-    Found::Nothing
 }
 
 // The lowest place of a login whose exchange is open and has this OX_ID.

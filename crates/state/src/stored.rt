@@ -33,8 +33,8 @@ pub fn empty_login() -> Login
         sequences: 0,
         size: 0,
         address: 0,
-        port: [0; 8],
-        node: [0; 8],
+        port_name: [0; 8],
+        node_name: [0; 8],
         places: [e; 8],
     }
 }

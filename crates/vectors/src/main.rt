@@ -222,8 +222,8 @@ fn print_number(n: u64) {
 // Flags, attention, W19/B1, W20/B1, W18 size and address; then both names.
 fn print_login(l: Login) {
     let a = l.address;
-    let port = l.port;
-    let node = l.node;
+    let port = l.port_name;
+    let node = l.node_name;
     print_byte(l.used);
     print_byte(l.proven);
     print_byte(l.paired);

@@ -33,7 +33,7 @@ returns-6 c = rw (c .before .before .before .before .before .before .before .bef
 
 returns-7 : tie.Need-returns-7
 unfolding judgedBy
-returns-7 c = rw (c .before .before .before .before .before .before .before .before .before .before .before .before .if1 .left, sym (c .before .before .before .before .before .before .before .before .before .before .before .bad-size .ensures) ∙ c .before .before .before .before .before .before .before .before .before .before .if2 .left, eq-eqb _ _ (c .before .before .before .before .before .before .before .before .if3 .left), sym (c .before .before .before .before .before .before .before .bad-source .ensures) ∙ c .before .before .before .before .before .before .if4 .left, sym (c .before .before .before .before .before .unknown-form .ensures) ∙ c .before .before .before .before .if5 .left, sym (c .before .before .before .byte-at .ensures), sym (c .before .before .unproven-call .ensures) ∙ c .before .if6 .left) (ap Passed (c .kind-of .ensures))
+returns-7 c = rw (c .before .before .before .before .before .before .before .before .before .before .before .before .if1 .left, sym (c .before .before .before .before .before .before .before .before .before .before .before .bad-size .ensures) ∙ c .before .before .before .before .before .before .before .before .before .before .if2 .left, eq-eqb _ _ (c .before .before .before .before .before .before .before .before .if3 .left), sym (c .before .before .before .before .before .before .before .bad-source .ensures) ∙ c .before .before .before .before .before .before .if4 .left, sym (c .before .before .before .before .before .unknown-form .ensures) ∙ c .before .before .before .before .if5 .left, sym (c .before .before .before .byte-at .ensures), sym (c .before .before .unproven-call .ensures) ∙ c .before .if6 .left) (ap Passed (c .form-of .ensures))
 
 pub judge-spec : {M : Type 1} → statement M
 judge-spec =

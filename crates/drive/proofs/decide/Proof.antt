@@ -7,19 +7,19 @@ use Rattle.drive.proofs.decide.Tie as tie
 
 returns : tie.Need-returns
 unfolding decisionOf
-returns c = rw (sym (c .before .before .before .kind-of .ensures) ∙ c .before .enum-told .given .1) (c .link .ensures)
+returns c = rw (sym (c .before .before .before .form-of .ensures) ∙ c .before .enum-told .given .1) (c .link .ensures)
 
 returns-2 : tie.Need-returns-2
 unfolding decisionOf
-returns-2 c = rw (sym (c .before .before .before .kind-of .ensures) ∙ c .before .enum-told2 .given .1) (c .answer-only .ensures)
+returns-2 c = rw (sym (c .before .before .before .form-of .ensures) ∙ c .before .enum-told2 .given .1) (c .answer-only .ensures)
 
 returns-3 : tie.Need-returns-3
 unfolding decisionOf
-returns-3 c = rw (sym (c .before .before .before .kind-of .ensures) ∙ c .before .enum-told3 .given .1) (c .abts .ensures)
+returns-3 c = rw (sym (c .before .before .before .form-of .ensures) ∙ c .before .enum-told3 .given .1) (c .abts .ensures)
 
 returns-4 : tie.Need-returns-4
 unfolding decisionOf
-returns-4 c = rw (sym (c .before .before .before .kind-of .ensures) ∙ c .before .enum-told4 .given .1) (c .command .ensures)
+returns-4 c = rw (sym (c .before .before .before .form-of .ensures) ∙ c .before .enum-told4 .given .1) (c .command .ensures)
 
 pub decide-spec : {M : Type 1} → statement M
 decide-spec =

@@ -1,28 +1,28 @@
 -- `recording::tell` meets its contract: a letter an arm. Assumes nothing.
 use borrow.Author.Tests.{ne-eqb}
-use Rattle.recording.specs.Calls.{toldOf}
+use Rattle.recording.specs.Calls.{toldBy}
 use borrow.Author.Needs.{needs}
 use Rattle.recording.proofs.tell.Statement.{statement}
 use Rattle.recording.proofs.tell.Tie as tie
 
 returns : tie.Need-returns
-unfolding toldOf
+unfolding toldBy
 returns c = rw (c .before .match .keys1) (c .tell-setup .ensures)
 
 returns-2 : tie.Need-returns-2
-unfolding toldOf
+unfolding toldBy
 returns-2 c = rw (c .before .match .keys2) (c .tell-frame .ensures)
 
 returns-3 : tie.Need-returns-3
-unfolding toldOf
+unfolding toldBy
 returns-3 c = rw (c .before .match .keys3) (c .tell-next .ensures)
 
 returns-4 : tie.Need-returns-4
-unfolding toldOf
+unfolding toldBy
 returns-4 c = rw (c .before .match .keys4) (c .tell-event .ensures)
 
 returns-5 : tie.Need-returns-5
-unfolding toldOf
+unfolding toldBy
 returns-5 c =
     let m = c .before .match .rest in
     rw (ne-eqb _ _ (m .0 .0 .0 .1), ne-eqb _ _ (m .0 .0 .1), ne-eqb _ _ (m .0 .1), ne-eqb _ _ (m .1)) (c .no-call .ensures)

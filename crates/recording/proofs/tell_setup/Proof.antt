@@ -12,17 +12,17 @@ returns : tie.Need-returns
 unfolding setupCall
 returns c = rw (lt-ltb _ _ (c .before .if1 .taken)) (c .no-call .ensures)
 
-slice-aggregate-setup-of : tie.Need-slice-aggregate-setup-of
-slice-aggregate-setup-of c = sym (length-take-le 152 (c .before .before .before .args .body .now) (c .before .if1 .left))
+slice-aggregate-setup-in : tie.Need-slice-aggregate-setup-in
+slice-aggregate-setup-in c = sym (length-take-le 152 (c .before .before .before .args .body .now) (c .before .if1 .left))
 
-setup-of-requires : tie.Need-setup-of-requires
-setup-of-requires c κs = length-take-le 152 (c .before .before .before .args .body .now) (c .before .if1 .left)
+setup-in-requires : tie.Need-setup-in-requires
+setup-in-requires c κs = length-take-le 152 (c .before .before .before .args .body .now) (c .before .if1 .left)
 
 returns-2 : tie.Need-returns-2
 unfolding setupCall
 returns-2 c =
     let n = c .before in
-    rw (le-ltb _ _ (n .before .before .before .if1 .left)) (rw (n .new .ensures ∙ ap newAnswer (n .before .setup-of .ensures)) at (c .made .ensures))
+    rw (le-ltb _ _ (n .before .before .before .if1 .left)) (rw (n .new .ensures ∙ ap newAnswer (n .before .setup-in .ensures)) at (c .made .ensures))
 
 pub tell-setup-spec : {M : Type 1} → statement M
 tell-setup-spec =
@@ -30,8 +30,8 @@ tell-setup-spec =
     (tie.spec
     (λ c κs. search needs)
     returns
-    slice-aggregate-setup-of
-    setup-of-requires
+    slice-aggregate-setup-in
+    setup-in-requires
     (λ c κs. search needs)
     (λ c κs. search needs)
     returns-2)

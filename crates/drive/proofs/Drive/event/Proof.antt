@@ -10,22 +10,22 @@ use Rattle.calls.specs.declared.Sight.{Sight}
 use Rattle.calls.specs.View.{sightOf}
 use Rattle.drive.specs.declared.Drive.{Drive}
 use Rattle.drive.specs.declared.Event.{Event}
-use Rattle.drive.specs.Drive.{refused, silent, afterEvent, eventAnswer}
+use Rattle.drive.specs.Drive.{refused, nothingSent, afterEvent, eventAnswer}
 use borrow.Author.Needs.{needs}
 use Rattle.drive.proofs.Drive.event.Statement.{statement}
 use Rattle.drive.proofs.Drive.event.Tie as tie
 
 -- by the test of the sight
-by-sight : (d : Drive) (e : Event) {s : Sight} {b : Bool} → s ≡ sightOf (d .unit) (d .port) → s .fine ≡ b → eventAnswer d e ≡ cond b (silent (afterEvent e d)) (refused IllFormed d)
+by-sight : (d : Drive) (e : Event) {s : Sight} {b : Bool} → s ≡ sightOf (d .unit) (d .port) → s .fine ≡ b → eventAnswer d e ≡ cond b (nothingSent (afterEvent e d)) (refused IllFormed d)
 unfolding eventAnswer
-by-sight d e is b = ap (λ (z : Bool). cond z (silent (afterEvent e d)) (refused IllFormed d)) (sym (fine-by (d .unit) (d .port)) ∙ sym (ap (λ (s : Sight). s .fine) is) ∙ b)
+by-sight d e is b = ap (λ (z : Bool). cond z (nothingSent (afterEvent e d)) (refused IllFormed d)) (sym (fine-by (d .unit) (d .port)) ∙ sym (ap (λ (s : Sight). s .fine) is) ∙ b)
 
 returns : tie.Need-returns
 unfolding afterEvent
 returns c =
     let test = c .before .before in
     let a = test .before .before .before .before .args in
-    ap (λ (q : Port). silent (record { unit = a .self .unit; port = q })) (c .change-all .ensures ∙ ap (λ (x : Change). changedAll x (a .self .port)) (c .before .change-of .ensures))
+    ap (λ (q : Port). nothingSent (record { unit = a .self .unit; port = q })) (c .change-all .ensures ∙ ap (λ (x : Change). changedAll x (a .self .port)) (c .before .change-of .ensures))
     ∙ sym (by-sight (a .self) (a .e) (test .before .sight-of .ensures) (test .if1 .taken))
 
 returns-2 : tie.Need-returns-2

@@ -1,14 +1,14 @@
 -- `drive::Drive::new` meets its contract: the setup rules hold or not. Assumes nothing.
 use mathlib.Core.Path.{sym, ap, _∙_}
 use Rattle.refusal.specs.declared.Refusal.the-variants.{BadSetup}
-use Rattle.drive.specs.Drive.{silent, refused, newAnswer}
+use Rattle.drive.specs.Drive.{nothingSent, refused, newAnswer}
 use borrow.Author.Needs.{needs}
 use Rattle.drive.proofs.Drive.new.Statement.{statement}
 use Rattle.drive.proofs.Drive.new.Tie as tie
 
 returns : tie.Need-returns
 unfolding newAnswer
-returns c = rw (sym (c .before .before .setup-rules .ensures) ∙ c .before .if1 .taken) (ap silent (c .made-from .ensures))
+returns c = rw (sym (c .before .before .setup-rules .ensures) ∙ c .before .if1 .taken) (ap nothingSent (c .made-from .ensures))
 
 returns-2 : tie.Need-returns-2
 unfolding newAnswer

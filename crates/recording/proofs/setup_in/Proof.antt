@@ -1,18 +1,18 @@
--- `recording::setup_of` meets its contract: each field from its place, the two arrays copied whole. Assumes nothing.
+-- `recording::setup_in` meets its contract: each field from its place, the two arrays copied whole. Assumes nothing.
 use mathlib.Core.Path.{_≡_, _∙_}
 use Prim.Native.Nat.{_-_}
 use native.Mathlib.Omega.{arith}
 use lib.ListN.{length, take, drop, replicate, length-drop}
 use lib.Seq.{length-take-le}
 use Rattle.wire.proofs.Parts.{rest-is}
-use Rattle.recording.specs.Calls.{setupOf}
+use Rattle.recording.specs.Calls.{setupIn}
 use Rattle.wire.proofs.Fronts.{onto-whole}
 use borrow.Author.Needs.{needs}
-use Rattle.recording.proofs.setup_of.Statement.{statement}
-use Rattle.recording.proofs.setup_of.Tie as tie
+use Rattle.recording.proofs.setup_in.Statement.{statement}
+use Rattle.recording.proofs.setup_in.Tie as tie
 
 returns : tie.Need-returns
-unfolding setupOf
+unfolding setupIn
 returns c =
     let a = c .before .before .before in
     let i = a .before .before .before .before in
@@ -24,8 +24,8 @@ returns c =
     let accept : a .put-front2 .last .0 ≡ drop 40 b = a .put-front2 .ensures ∙ rw (rest-is 40 b) (onto-whole (drop 40 b) (replicate 112 0) back) in
     λ j. record { capacity = c .before .be64 .ensures j; address = c .be32 .ensures j; identity = identity j; accept = accept j }
 
-pub setup-of-spec : {M : Type 1} → statement M
-setup-of-spec =
+pub setup-in-spec : {M : Type 1} → statement M
+setup-in-spec =
     tie.close
     (tie.spec
     (λ c. search needs)

@@ -1,27 +1,27 @@
--- `arrival::kind_of` meets its contract: each test that was made is one of the definition. Assumes nothing.
+-- `arrival::form_of` meets its contract: each test that was made is one of the definition. Assumes nothing.
 use borrow.Author.Tests.{ne-eqb}
-use Rattle.arrival.specs.Arrival.{kindOf}
-use Rattle.arrival.proofs.kind_of.Statement.{statement}
-use Rattle.arrival.proofs.kind_of.Tie as tie
+use Rattle.arrival.specs.Arrival.{formOf}
+use Rattle.arrival.proofs.form_of.Statement.{statement}
+use Rattle.arrival.proofs.form_of.Tie as tie
 
 returns : tie.Need-returns
-unfolding kindOf
+unfolding formOf
 returns c = rw (c .match .keys1)
 
 returns-2 : tie.Need-returns-2
-unfolding kindOf
+unfolding formOf
 returns-2 c = rw (c .match .keys2)
 
 returns-3 : tie.Need-returns-3
-unfolding kindOf
+unfolding formOf
 returns-3 c = rw (c .match .keys3)
 
 returns-4 : tie.Need-returns-4
-unfolding kindOf
+unfolding formOf
 returns-4 c = rw (ne-eqb _ _ (c .match .rest .0 .0 .1), ne-eqb _ _ (c .match .rest .0 .1), ne-eqb _ _ (c .match .rest .1))
 
-pub kind-of-spec : {M : Type 1} → statement M
-kind-of-spec =
+pub form-of-spec : {M : Type 1} → statement M
+form-of-spec =
     tie.close
     (tie.spec
     returns
