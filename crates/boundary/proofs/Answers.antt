@@ -36,7 +36,7 @@ use Rattle.arrival.specs.Arrival.{shortBuffer}
 use Rattle.drive.specs.declared.Answer.{Answer}
 use Rattle.drive.specs.declared.Drive.{Drive}
 use Rattle.drive.specs.declared.Event.{Event}
-use Rattle.drive.specs.Drive.{refused, silent, changeOf, afterEvent, eventAnswer}
+use Rattle.drive.specs.Drive.{refused, nothingSent, changeOf, afterEvent, eventAnswer}
 use Rattle.drive.specs.Entry.{frameIn, frameInBuffer, nextFrame}
 use Rattle.drive.specs.Turn.{refusalOf, passedTurn, nextOutTurn, answerTo}
 use Rattle.drive.proofs.Turns.{passed-formed, frame-turn, RefusedBy, frame-refused, next-out-turn, next-out-keeps}
@@ -150,7 +150,7 @@ module _ (d : Drive) (e : Event) where
   abbrev reached : Port
   reached = reachedOf (d .port) (sight .keys) (changeOf e)
 
-  happens : (fine : Bool) → wellFormed (d .unit) (d .port) ≡ fine → Tells (cond fine (silent (afterEvent e d)) (refused IllFormed d)) (codeOf (happenedSaid fine)) (withPort d (cond fine reached (d .port)))
+  happens : (fine : Bool) → wellFormed (d .unit) (d .port) ≡ fine → Tells (cond fine (nothingSent (afterEvent e d)) (refused IllFormed d)) (codeOf (happenedSaid fine)) (withPort d (cond fine reached (d .port)))
   unfolding afterEvent
   happens true w = (refl, ap (withPort d) (reached-changed (d .unit) (d .port) w (changeOf e)))
   happens false w = (refl, refl)

@@ -17,7 +17,7 @@ use Rattle.formed.specs.declared.Key.{Key}
 use Rattle.formed.proofs.Key as Ke
 use Rattle.formed.proofs.Key.Laws as Ke′
 use Rattle.formed.proofs.Keys.{noKey}
-use Rattle.boundary.specs.Settled.{freeKey, spared}
+use Rattle.boundary.specs.Settled.{freeKey, sparedKeys}
 use Rattle.boundary.proofs.Elements.{array-set}
 
 -- the machine value of a key, the type of eight, and their machine value
@@ -50,7 +50,7 @@ blank-are = (map keyVal blank, ((refl, refl), (is-none, (is-none, (is-none, (is-
 is-free : Is Ke.the-row freeKey (keyVal freeKey ∷ [])
 is-free = LL.owes Ke.the-type Ke′.the-laws freeKey ((refl, lit< tt), tt)
 
-pub are-spared : (ks : List Key) (f : Found) → Is K8 ks (kvals ks) → Is K8 (spared ks f) (kvals (spared ks f))
+pub are-spared : (ks : List Key) (f : Found) → Is K8 ks (kvals ks) → Is K8 (sparedKeys ks f) (kvals (sparedKeys ks f))
 are-spared ks (At i) is = array-set Ke.the-row keyVal (LL.tells Ke.the-type Ke′.the-laws) 8 ks _ is i freeKey is-free
 are-spared ks Nothing is = is
 

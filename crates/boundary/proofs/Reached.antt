@@ -20,7 +20,7 @@ use Rattle.state.specs.Changes.{noLogin, withLogins, withLogin, changedOf}
 use Rattle.formed.specs.declared.Key.{Key}
 use Rattle.formed.proofs.Keys.{noKey}
 use Rattle.calls.specs.Turn.{storedAt}
-use Rattle.boundary.specs.Settled.{freeKey, spared, reaches, NextReached, reachedBy, reachedOf}
+use Rattle.boundary.specs.Settled.{freeKey, sparedKeys, reaches, NextReached, reachedBy, reachedOf}
 
 -- ls are the logins now, and whole what they are to be
 pub record Reached (c : Change) (keys : List Key) (whole ls : List Login) (i : ℕ) : Type 0 where
@@ -77,7 +77,7 @@ reached-spare c (x ∷ keys) (l ∷ ls) zero k m = refl
 reached-spare c (x ∷ keys) (l ∷ ls) (suc i) k m = ap (λ (ys : List Login). cond (reaches c x) (changedOf c l) l ∷ ys) (reached-spare c keys ls i k m)
 
 -- so the keys may be without that of the place that is stored last
-pub spared-last : (p : Port) (keys : List Key) (c : Change) (l : Login) (f : Found) → storedAt f l (reachedOf p (spared keys f) c) ≡ storedAt f l (reachedOf p keys c)
+pub spared-last : (p : Port) (keys : List Key) (c : Change) (l : Login) (f : Found) → storedAt f l (reachedOf p (sparedKeys keys f) c) ≡ storedAt f l (reachedOf p keys c)
 unfolding withLogin reachedOf
 spared-last p keys c l (At i) = ap (withLogins p) (reached-spare c keys (p .logins) i freeKey l)
 spared-last p keys c l Nothing = refl

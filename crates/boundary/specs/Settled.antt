@@ -25,9 +25,9 @@ abbrev pub freeKey : Key
 freeKey = record { id = 1 }
 
 -- the keys with a free place's at a place
-abbrev pub spared : List Key → Found → List Key
-spared keys (At i) = set keys i freeKey
-spared keys Nothing = keys
+abbrev pub sparedKeys : List Key → Found → List Key
+sparedKeys keys (At i) = set keys i freeKey
+sparedKeys keys Nothing = keys
 
 -- a change reaches a login of this key: none where all stay, the login of an address, or every place that is not free
 abbrev pub reaches : Change → Key → Bool

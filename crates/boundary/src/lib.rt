@@ -35,7 +35,7 @@ ghost use Rattle.calls.specs.Turn.{storedAt, AtBelow};
 ghost use Rattle.drive.specs.Drive.{changeOf, eventAnswer};
 ghost use Rattle.drive.specs.Entry.{frameIn, frameInBuffer, nextFrame, nextFrameBuffer};
 ghost use Rattle.boundary.specs.Boundary.{codeOf, Tells, makeAnswer};
-ghost use Rattle.boundary.specs.Settled.{reaches, NextReached, spared, reachedOf, settledOf, happenedSaid, happenedOf};
+ghost use Rattle.boundary.specs.Settled.{reaches, NextReached, sparedKeys, reachedOf, settledOf, happenedSaid, happenedOf};
 
 // Makes a drive in the lent state, from a setup.
 #[no_mangle]
@@ -229,7 +229,7 @@ fn place_or_none(f: Found) -> usize
 
 // The keys with a free place's at a place.
 fn spare(keys: [Key; 8], at: Found) -> [Key; 8]
-    ensures { λ r. ⌜ r ≡ spared keys at ⌝ }
+    ensures { λ r. ⌜ r ≡ sparedKeys keys at ⌝ }
 {
     let mut k = keys;
     let i = place_or_none(at);

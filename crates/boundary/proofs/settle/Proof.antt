@@ -55,7 +55,7 @@ use Rattle.calls.specs.Turn.{storedAt}
 use Rattle.calls.proofs.Turn as Tn
 use Rattle.calls.proofs.Turn.Laws as Tn′
 use Rattle.boundary.specs.Boundary.{codeOf}
-use Rattle.boundary.specs.Settled.{spared, reachedOf, settledOf}
+use Rattle.boundary.specs.Settled.{sparedKeys, reachedOf, settledOf}
 use Rattle.boundary.proofs.Keyed.{K8, k8, kvals, kval, are-spared}
 use Rattle.boundary.proofs.Lending.{tval}
 use Rattle.boundary.proofs.Lent.{pval}
@@ -85,7 +85,7 @@ abbrev stayed : Stays (f.ended .signature .params) (f.ended .kept)
 stayed = (stay-ref (0 ∷ []) tt (plain (λ _. Po.the-row)), (stay-none (λ _. K8) yes, (stay-none (λ _. Tn.the-row) yes, tt)))
 
 -- the place that is stored last is not changed before
-settles : (h : Port) (keys : List Key) (t : Turn) → storedAt (t .at) (t .login) (reachedOf h (spared keys (t .at)) (t .change)) ≡ settledOf h keys t
+settles : (h : Port) (keys : List Key) (t : Turn) → storedAt (t .at) (t .login) (reachedOf h (sparedKeys keys (t .at)) (t .change)) ≡ settledOf h keys t
 unfolding settledOf
 settles h keys t = spared-last h keys (t .change) (t .login) (t .at)
 
@@ -94,8 +94,8 @@ module _ {M : Type 1} (𝓤 : URA M) (H : Heap 𝓤) (A : Atoms 𝓤) (mem : Mem
   abbrev S : Contract 𝓤
   S = tripleOf 𝓤 H A s.signature (s.spec 𝓤 H A mem run)
 
-  spare-of : (ks : List Key) (x : Found) (k : List Key) → ent 𝓤 (ensured 𝓤 H A s.ended (s.clauses 𝓤 H A mem run) tt (ks, (x, tt)) tt k) (fact 𝓤 (k ≡ spared ks x))
-  spare-of ks x k = exE 𝓤 _ (λ ws. snd∗ 𝓤 (sem 𝓤 H A (lasts s.ended tt (ks, (x, tt)) ws)) (fact 𝓤 (k ≡ spared ks x)))
+  spare-of : (ks : List Key) (x : Found) (k : List Key) → ent 𝓤 (ensured 𝓤 H A s.ended (s.clauses 𝓤 H A mem run) tt (ks, (x, tt)) tt k) (fact 𝓤 (k ≡ sparedKeys ks x))
+  spare-of ks x k = exE 𝓤 _ (λ ws. snd∗ 𝓤 (sem 𝓤 H A (lasts s.ended tt (ks, (x, tt)) ws)) (fact 𝓤 (k ≡ sparedKeys ks x)))
 
   abbrev to-spare : List Key → Found → S .Ghost
   to-spare ks x = ((tt, tt, tt, (ks, (x, tt)), (kvals ks, (fval x ∷ [], tt))), tt)
@@ -122,7 +122,7 @@ module _ {M : Type 1} (𝓤 : URA M) (H : Heap 𝓤) (A : Atoms 𝓤) (W : Given
 
   -- the keys that `reach` goes by, the port that it leaves, and the port that `store` leaves
   abbrev others : List Key
-  others = spared keys (t .at)
+  others = sparedKeys keys (t .at)
 
   abbrev h₁ : Port
   h₁ = reachedOf h others (t .change)

@@ -10,17 +10,17 @@ use Rattle.tables.specs.declared.Found.{Found}
 use Rattle.tables.specs.declared.Found.the-variants.{At, Nothing}
 use Rattle.tables.specs.Lists.{onFound}
 use Rattle.formed.specs.declared.Key.{Key}
-use Rattle.boundary.specs.Settled.{freeKey, spared}
+use Rattle.boundary.specs.Settled.{freeKey, sparedKeys}
 use borrow.Author.Needs.{needs}
 use Rattle.boundary.proofs.spare.Statement.{statement}
 use Rattle.boundary.proofs.spare.Tie as tie
 
 module _ (keys : List Key) (n : ℕ) where
-  spares : (f : Found) → n ≡ onFound f (λ i. i) 8 → n < 8 → set keys n freeKey ≡ spared keys f
+  spares : (f : Found) → n ≡ onFound f (λ i. i) 8 → n < 8 → set keys n freeKey ≡ sparedKeys keys f
   spares (At i) e h = ap (λ (j : ℕ). set keys j freeKey) e
   spares Nothing e h = absurd (lt-irrefl n (omega (arith, e, h)))
 
-  spares-none : length keys ≡ 8 → (f : Found) → n ≡ onFound f (λ i. i) 8 → 8 ≤ n → keys ≡ spared keys f
+  spares-none : length keys ≡ 8 → (f : Found) → n ≡ onFound f (λ i. i) 8 → 8 ≤ n → keys ≡ sparedKeys keys f
   spares-none long (At i) e h = sym (set-out keys i freeKey (omega (arith, long, e, h)))
   spares-none long Nothing e h = refl
 
