@@ -1,4 +1,4 @@
--- What every function of the boundary does alike: the machine values of a drive, of its parts and of what is said, and the call of `code`. Assumes nothing.
+-- What every function of the boundary does alike: the machine values of a drive, of its parts and of what is said, a drive with another port, and the call of `code`. Assumes nothing.
 use mathlib.Core.Path.{_≡_}
 use Prim.Native.Nat.{ℕ}
 use mathlib.Core.List.{List, [], _∷_}
