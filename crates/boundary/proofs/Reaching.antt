@@ -15,7 +15,7 @@ use ghost.Atoms.{Atoms}
 use contract.Monad.{Fun, fact}
 use types.Kit.{Given, Item, ‵, _$_, _∵_, !, qed, fjoin, done}
 use types.Part.{whole}
-use denote.RattleType.{RattleType, owns}
+use denote.RattleType.{owns}
 use denote.Laws.{Is}
 use denote.Builtin.{u64, unit}
 use denote.Array.{array-makes}
@@ -41,23 +41,15 @@ use Rattle.calls.proofs.Turn.Laws as Tn′
 use Rattle.boundary.specs.Boundary.{codeOf}
 use Rattle.boundary.specs.Settled.{reachedOf}
 use Rattle.boundary.proofs.Keyed.{K8}
-use Rattle.boundary.proofs.Lending.{tval}
+use Rattle.boundary.proofs.Lending.{tval, cval, Left, Storing}
 use Rattle.boundary.proofs.Lent.{pval}
 use Rattle.boundary.proofs.Onward.{Loan, Kept, lends-to, takes-back}
 use Rattle.boundary.proofs.reach as r
-use Rattle.boundary.proofs.store as s
-
--- the machine value of a change
-abbrev pub cval : Change → Val
-cval c = EL.val Ch.the-type Ch′.the-laws c
 
 module _ {M : Type 1} (𝓤 : URA M) (H : Heap 𝓤) (A : Atoms 𝓤) (mem : Memory → SProp 𝓤) (run : Routine → Fun 𝓤) where
-  -- the contracts of `reach` and of `store`
+  -- the contract of `reach`
   abbrev pub Reaching : Contract 𝓤
   Reaching = tripleOf 𝓤 H A r.signature (r.spec 𝓤 H A mem run)
-
-  abbrev pub Storing : Contract 𝓤
-  Storing = tripleOf 𝓤 H A s.signature (s.spec 𝓤 H A mem run)
 
   module _ (W : Given 𝓤 H A) (b o : ℕ) where
     -- a port's cell, whatever it holds, and that of a port
@@ -70,10 +62,6 @@ module _ {M : Type 1} (𝓤 : URA M) (H : Heap 𝓤) (A : Atoms 𝓤) (mem : Mem
     -- what the holder keeps while the loan stands
     abbrev pub Keeps : Loan → SProp 𝓤
     Keeps y = Kept Po.the-type Po′.the-laws Po′.the-plain 𝓤 H A W b o held-at y
-
-    -- what is known after a call that tells something and leaves a port
-    abbrev Left : (R : RattleType) → R .Denot → Port → Val → Type 0
-    Left R told last u = Is R told (u ∷ []) × Is Po.the-row last (pval last ∷ [])
 
     module _ (h : Port) where
       -- the port as a loan has it
@@ -99,10 +87,10 @@ module _ {M : Type 1} (𝓤 : URA M) (H : Heap 𝓤) (A : Atoms 𝓤) (mem : Mem
 
       -- `store`
       module _ (t : Turn) where
-        abbrev pub to-store : Loan → Storing .Ghost
+        abbrev pub to-store : Loan → (Storing 𝓤 H A mem run) .Ghost
         to-store y = (((y .0 ∷ [], tt), (fullShare, tt), tt, (port y, (t, tt)), (vptr b o ∷ [], (tval t ∷ [], tt))), tt)
 
-        pub lends-store : Is Po.the-row h (pval h ∷ []) → Is Tn.the-row t (tval t ∷ []) → ent 𝓤 (H .at fullShare (rawTy Po′.mir) b o (pval h)) (H .⇛ (ex 𝓤 (λ (y : Loan). sep 𝓤 (Storing .pre (to-store y)) (Keeps y))))
+        pub lends-store : Is Po.the-row h (pval h ∷ []) → Is Tn.the-row t (tval t ∷ []) → ent 𝓤 (H .at fullShare (rawTy Po′.mir) b o (pval h)) (H .⇛ (ex 𝓤 (λ (y : Loan). sep 𝓤 ((Storing 𝓤 H A mem run) .pre (to-store y)) (Keeps y))))
         lends-store was is-t = lends-to Po.the-type Po′.the-laws Po′.the-plain 𝓤 H A W b o held-at (owns (Tn.the-row ∷ []) (t, tt) (tval t ∷ [], tt)) h (qed W [] ∵ nothing ! $ owned ! Tn.the-row (Is Tn.the-row) (LL.makes Tn.the-type Tn′.the-plain 𝓤 H A) t _ is-t $ fjoin ! $ done !) was (whole !)
 
         abbrev last : Port
@@ -112,5 +100,5 @@ module _ {M : Type 1} (𝓤 : URA M) (H : Heap 𝓤) (A : Atoms 𝓤) (mem : Mem
         abbrev pub Stored : Val → Type 0
         Stored = Left u64 (codeOf (t .said)) last
 
-        pub store-back : (y : Loan) (u : Val) → ent 𝓤 (sep 𝓤 (Storing .post (to-store y) u) (Keeps y)) (H .⇛ (sep 𝓤 (H .at fullShare (rawTy Po′.mir) b o (pval last)) (fact 𝓤 (Stored u))))
+        pub store-back : (y : Loan) (u : Val) → ent 𝓤 (sep 𝓤 ((Storing 𝓤 H A mem run) .post (to-store y) u) (Keeps y)) (H .⇛ (sep 𝓤 (H .at fullShare (rawTy Po′.mir) b o (pval last)) (fact 𝓤 (Stored u))))
         store-back y u = takes-back Po.the-type Po′.the-laws Po′.the-plain 𝓤 H A W b o held-at u64 (codeOf (t .said)) last (λ k p. (k ≡ codeOf (t .said)) × (p ≡ last)) (λ _ _ e. e) (Unit {0} × Unit {0}) (fsep ftrue ftrue) y u

@@ -59,10 +59,10 @@ use Rattle.calls.proofs.Sight.Laws as Si′
 use Rattle.boundary.specs.Boundary.{codeOf}
 use Rattle.boundary.specs.Settled.{reachedOf, happenedSaid, happenedOf}
 use Rattle.boundary.proofs.Keyed.{k8, held}
-use Rattle.boundary.proofs.Lending.{lends-code, code-back}
+use Rattle.boundary.proofs.Lending.{cval, lends-code, code-back}
 use Rattle.boundary.proofs.Lent.{pval, sval, N, to-code}
 use Rattle.boundary.proofs.Onward.{Loan}
-use Rattle.boundary.proofs.Reaching.{cval, Reaching, port-cell, Keeps, to-reach, Reached, lends-reach, reach-back}
+use Rattle.boundary.proofs.Reaching.{Reaching, port-cell, Keeps, to-reach, Reached, lends-reach, reach-back}
 use Rattle.boundary.proofs.Sighting.{sight-val, sight-keys}
 use Rattle.boundary.proofs.code.Symbol as n-def
 use Rattle.boundary.proofs.code.Symbol.{name as #boundary·code}

@@ -72,7 +72,7 @@ use Rattle.boundary.proofs.Keyed.{K8, k8, kvals, kval}
 use Rattle.boundary.proofs.Lent.{pval, word, rf}
 use Rattle.boundary.proofs.Logins.{lval, stores, logins-long, table-8, login-is, reads, is-after}
 use Rattle.boundary.proofs.Reached.{Reached, reached-starts, reached-skip, reached-store, reached-out}
-use Rattle.boundary.proofs.Reaching.{cval}
+use Rattle.boundary.proofs.Lending.{cval}
 use Rattle.boundary.proofs.next_reached as r
 use Rattle.boundary.proofs.next_reached.Symbol as r-def
 use Rattle.boundary.proofs.next_reached.Symbol.{name as #boundary·next-reached}

@@ -57,11 +57,11 @@ use Rattle.calls.proofs.Turn.Laws as Tn′
 use Rattle.boundary.specs.Boundary.{codeOf}
 use Rattle.boundary.specs.Settled.{sparedKeys, reachedOf, settledOf}
 use Rattle.boundary.proofs.Keyed.{K8, k8, kvals, kval, are-spared}
-use Rattle.boundary.proofs.Lending.{tval}
+use Rattle.boundary.proofs.Lending.{tval, cval, Storing}
 use Rattle.boundary.proofs.Lent.{pval}
 use Rattle.boundary.proofs.Onward.{Loan}
 use Rattle.boundary.proofs.Reached.{spared-last}
-use Rattle.boundary.proofs.Reaching.{cval, Reaching, Storing, port-cell, Keeps, to-reach, lends-reach, Reached, reach-back, to-store, lends-store, Stored, store-back}
+use Rattle.boundary.proofs.Reaching.{Reaching, port-cell, Keeps, to-reach, lends-reach, Reached, reach-back, to-store, lends-store, Stored, store-back}
 use Rattle.boundary.proofs.spare as s
 use Rattle.boundary.proofs.spare.Symbol as s-def
 use Rattle.boundary.proofs.spare.Symbol.{name as #boundary·spare}
