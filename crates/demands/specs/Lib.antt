@@ -1,3 +1,4 @@
+pub mod Contracts
 pub mod Driven
 pub mod Refusals
 pub mod Login
