@@ -22,9 +22,6 @@ use Rattle.frame.specs.Head.{Fits, headerOf, headerBytes}
 use Rattle.frame.proofs.Trips.{write-read, read-write}
 use Rattle.state.specs.declared.Setup.{Setup}
 use Rattle.formed.specs.Formed.{setupRules, wellFormed}
-use Rattle.reply.specs.declared.Reply.the-variants.{Reject}
-use Rattle.link.specs.Link.{linkOf}
-use Rattle.link.specs.Login.{ended}
 use Rattle.refusal.specs.declared.Refusal.{Refusal}
 use Rattle.refusal.specs.declared.Refusal.the-variants.{IllFormed, BadSetup}
 use Rattle.refusal.specs.declared.Said.the-variants.{Sent, Refused}
@@ -43,14 +40,14 @@ use Rattle.serve.specs.Whole.{Piece}
 use Rattle.demands.specs.Contracts.{OneReply}
 use Rattle.demands.specs.Driven.{Driven}
 use Rattle.demands.specs.Refusals.{appliesOut}
-use Rattle.demands.specs.Login.{LoginIn}
+use Rattle.demands.specs.Login.{LoginIn, PortLogin}
 use Rattle.demands.specs.Reading.{Reads, OpenRead, Delivered, freed, Comes}
 use Rattle.demands.specs.Numbers.{KnownNumbers}
 use Rattle.demands.proofs.Contracts.{one-reply}
 use Rattle.demands.proofs.Reach.{driven-fine}
 use Rattle.demands.proofs.Refusals.{frame-first, frame-refuses, next-first, next-refuses, next-unchanged}
 use Rattle.demands.proofs.Lengths.{frame-long, next-long}
-use Rattle.demands.proofs.Login.{rejected-ends, rejected-keeps}
+use Rattle.demands.proofs.Login.{login-is}
 use Rattle.demands.proofs.Reading.{reads-whole, reads-come}
 use Rattle.demands.proofs.Numbers.{known-numbers}
 
@@ -119,13 +116,11 @@ header-bytes = write-read
 pub header-fields : (h : Header) (rest : List ℕ) → Fits h → headerOf (headerBytes h ++ rest) ≡ h
 header-fields = read-write
 
--- A port login that is not refused but rejected, with whatever reason: of right size it has ended the sender's login and exchanges all the same, of wrong size the drive is as it was.
-pub login-ends : (d : Drive) (f l : List ℕ) (r x : ℕ) → LoginIn d f l → linkOf (d .port) (headerOf f) f .reply ≡ Reject r x → length f ≡ 140
-    → frameIn d f (length l) .drive ≡ record { unit = d .unit; port = ended (d .port) (headerOf f) }
-login-ends d f l r x p = rejected-ends d f l p r x
-
-pub login-keeps : (d : Drive) (f l : List ℕ) (r x : ℕ) → LoginIn d f l → linkOf (d .port) (headerOf f) f .reply ≡ Reject r x → (length f ≡ 140 → ⊥) → frameIn d f (length l) .drive ≡ d
-login-keeps d f l r x p = rejected-keeps d f l p r x
+-- A port login that is not refused, over the bytes of the lent buffer and both ways: ACC stands there, byte for byte, exactly where the size is right, every word test passes and a place is free once the
+-- sender's login has ended, and the new login is stored at that place; LS_RJT with a reason exactly where the reason is the first that applies, and of right size the sender's login has ended all the same,
+-- of wrong size the drive is as it was. Later bytes are unchanged, the length is told, and there is no third answer. The accept words are 112 bytes, as above.
+pub port-login : (d : Drive) (f l : List ℕ) → LoginIn d f l → length (d .port .accept) ≡ 112 → PortLogin d f l
+port-login = login-is
 
 -- A whole READ, read off the lent buffers: the unit's bytes from its first block on, to the smaller of wanted and FCP_DL, each once and in order, each frame at its OFFSET
 -- with its number modulo 65,536 as SEQ_CNT, then FCP_RSP with status 00h and the residual, and the place freed. Whatever windows are cut from the unit, and whatever the buffers hold.

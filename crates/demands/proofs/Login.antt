@@ -1,59 +1,139 @@
--- A port login that is not refused is accepted or rejected at the entry exactly as document 01 says, with the stated reason. Assumes nothing.
-use mathlib.Core.Path.{_≡_, ap, _∙_}
-use mathlib.Core.List.{List}
-use Prim.Native.Nat.{ℕ}
-use lib.ListN.{length}
-use borrow.Author.Tests.{eq-eqb, ne-eqb}
+-- A port login that is not refused is accepted or rejected at the entry exactly as document 01 says, with the stated reason, and the bytes in the lent buffer tell which. Assumes nothing.
+use mathlib.Core.Path.{_≡_, refl, sym, ap, _∙_, subst}
+use mathlib.Core.Logic.{_⊎_, inl, inr}
+use mathlib.Core.List.{List, append-nil}
+use Prim.Native.Nat.{ℕ, _≤_, _<_}
+use native.Mathlib.Omega.{arith}
+use lib.ListN.{length, drop, getD}
+use lib.Seq.{take-append-seam, drop-at, getD-take}
+use borrow.Author.Tests.{eqb-true, ltb-false}
 use Rattle.wire.specs.Bytes.{onto}
-use Rattle.frame.specs.Head.{headerOf}
+use Rattle.wire.proofs.Fronts.{onto-fits}
+use Rattle.frame.specs.declared.Header.{Header}
+use Rattle.frame.specs.Head.{headerOf, headerBytes}
 use Rattle.params.specs.Words.{paramsOf}
-use Rattle.state.specs.Changes.{withLogin}
+use Rattle.state.specs.declared.Port.{Port}
+use Rattle.state.specs.Changes.{ownOf, withLogin}
+use Rattle.refusal.specs.declared.Said.the-variants.{Sent}
 use Rattle.reply.specs.declared.Reply.the-variants as reply
 use Rattle.reply.specs.declared.Accepted.the-variants as accepted
+use Rattle.reply.specs.Payload.{shortBytes, loginBytes, rejectBytes}
+use Rattle.reply.specs.Reply.{answerHead, filled, bytesOf}
 use Rattle.calls.specs.Turn.{Decided, decidedAs}
 use Rattle.link.specs.Link.{newLogin, linkOf}
 use Rattle.link.specs.Login.{ended, leftBy, Accepts, Rejects}
-use Rattle.link.proofs.Exactly.{accepts, accepts-only, rejects, rejects-only}
+use Rattle.link.proofs.Exactly.{accepts, rejects, no-third}
 use Rattle.arrival.specs.Arrival.{formOf}
+use Rattle.arrival.proofs.Passes.{Passes, passed}
 use Rattle.drive.specs.declared.Drive.{Drive}
-use Rattle.drive.specs.declared.Answer.{Answer}
 use Rattle.drive.specs.Entry.{answered, decidedIn, replyBytes, frameIn, frameInBuffer}
-use Rattle.demands.specs.Login.{LoginIn}
+use Rattle.demands.specs.Login.{LoginIn, Begins, loginHeader, accBytes, rjtBytes, PortLogin}
 use Rattle.demands.proofs.Refusals.{frame-answers}
 
-module _ (d : Drive) (f l : List ℕ) (p : LoginIn d f l) where
-  -- the answer and the buffer are those of the link services' reply
-  pub login-answered : (frameIn d f (length l) ≡ answered d (headerOf f) (linkOf (d .port) (headerOf f) f)) × (frameInBuffer d f l ≡ onto (replyBytes d (headerOf f) (linkOf (d .port) (headerOf f) f)) l)
+-- a list has the bytes that it begins with
+begun : (bs l : List ℕ) (i : ℕ) → Begins bs l → i < length bs → getD l i 0 ≡ getD bs i 0
+begun bs l i b h = sym (getD-take (length bs) l i 0 h) ∙ ap (λ (m : List ℕ). getD m i 0) b
+
+-- bytes laid over the front of a list stand there, and what follows them is as it was
+laid : (bs l : List ℕ) (n : ℕ) → length bs ≡ n → n ≤ length l → Begins bs (onto bs l) × (drop n (onto bs l) ≡ drop n l)
+laid bs l n e h =
+    let is = onto-fits bs l (omega arith) in
+    rw is (take-append-seam bs (drop (length bs) l), drop-at bs (drop (length bs) l) n e ∙ ap (λ (m : ℕ). drop m l) e)
+
+module _ (d : Drive) (f l : List ℕ) (p : LoginIn d f l) (words : length (d .port .accept) ≡ 112) where
+  abbrev port : Port
+  port = d .port
+
+  abbrev head : Header
+  head = headerOf f
+
+  abbrev after : List ℕ
+  after = frameInBuffer d f l
+
+  -- these n bytes are sent, and this port is left
+  abbrev Answers : List ℕ → ℕ → Port → Type 0
+  Answers bs n q = Begins bs after × (drop n after ≡ drop n l) × (frameIn d f (length l) ≡ record { said = Sent n; drive = record { unit = d .unit; port = q } })
+
+  passes : Passes (d .unit) port head f (length l)
+  passes = passed (d .unit) port head f (length l) (p .passed)
+
+  -- the answer and the buffer, where the link services decide so and these are the bytes of the reply
+  login-answers : (bs : List ℕ) (n : ℕ) (r : Decided) → n ≤ 140 → length bs ≡ n → replyBytes d head r ≡ bs → linkOf port head f ≡ r → Answers bs n (r .port)
   unfolding formOf
-  login-answered =
+  login-answers bs n r few long is e =
       let t = frame-answers d f l (p .passed) in
-      let is : decidedIn d f ≡ linkOf (d .port) (headerOf f) f = rw (p .link) in
-      (t .0 ∙ ap (answered d (headerOf f)) is, t .1 ∙ ap (λ (r : Decided). onto (replyBytes d (headerOf f) r) l) is)
+      let linked : decidedIn d f ≡ linkOf port head f = rw (p .link) in
+      let decided = linked ∙ e in
+      let stands = laid bs l n long (let b = ltb-false (length l) 2136 (passes .long) in omega arith) in
+      let buffer : after ≡ onto bs l = t .1 ∙ ap (λ (s : Decided). onto (replyBytes d head s) l) decided ∙ ap (λ (b : List ℕ). onto b l) is in
+      let said : length (replyBytes d head r) ≡ n = ap length is ∙ long in
+      (rw buffer (stands .0), rw buffer (stands .1), t .0 ∙ ap (answered d head) decided ∙ rw said)
 
-  -- accepted, and stored at the lowest free place: where the size is right, every word test passes and a place is free once the sender's own login has ended
-  pub login-accepts : (a : Accepts (d .port) (headerOf f) f)
-      → frameIn d f (length l) ≡ answered d (headerOf f) (decidedAs (reply.Accept accepted.Login) (withLogin (ended (d .port) (headerOf f)) (a .place) (newLogin (headerOf f .«s_id») (paramsOf f 28))))
-  login-accepts a = login-answered .0 ∙ ap (answered d (headerOf f)) (accepts (d .port) (headerOf f) f (p .plogi) a)
+  -- the frame was sent to our address, which is the reply's S_ID
+  header-is : answerHead head 0x23 0x01 0x990000 0xff ≡ loginHeader d f
+  unfolding answerHead
+  header-is = rw (eqb-true (head .«d_id») (port .address) (passes .here))
 
-  pub login-accepts-only : linkOf (d .port) (headerOf f) f .reply ≡ reply.Accept accepted.Login → Accepts (d .port) (headerOf f) f
-  login-accepts-only = accepts-only (d .port) (headerOf f) f (p .plogi)
+  acc-is : (q : Port) → replyBytes d head (decidedAs (reply.Accept accepted.Login) q) ≡ accBytes d f
+  unfolding replyBytes ownOf bytesOf filled loginBytes shortBytes
+  acc-is q = rw (header-is, words, append-nil (port .accept))
 
-  -- rejected with this reason: exactly where its size is wrong, a word test fails and none before it, or no place is free; of right size the sender's login has ended all the same
-  pub login-rejects : (r x : ℕ) → Rejects (d .port) (headerOf f) f r x → linkOf (d .port) (headerOf f) f ≡ decidedAs (reply.Reject r x) (leftBy (d .port) (headerOf f) f)
-  login-rejects = rejects (d .port) (headerOf f) f (p .plogi)
+  rjt-is : (r x : ℕ) (q : Port) → replyBytes d head (decidedAs (reply.Reject r x) q) ≡ rjtBytes d f r x
+  unfolding replyBytes bytesOf filled rejectBytes
+  rjt-is r x q = rw header-is
 
-  pub login-rejects-only : (r x : ℕ) → linkOf (d .port) (headerOf f) f .reply ≡ reply.Reject r x → Rejects (d .port) (headerOf f) f r x
-  login-rejects-only = rejects-only (d .port) (headerOf f) f (p .plogi)
+  acc-long : length (accBytes d f) ≡ 140
+  unfolding headerBytes
+  acc-long = let n = words in omega arith
 
-  -- rejected, with whatever reason: the drive after it
-  rejected-drive : (r x : ℕ) → linkOf (d .port) (headerOf f) f .reply ≡ reply.Reject r x → frameIn d f (length l) .drive ≡ record { unit = d .unit; port = leftBy (d .port) (headerOf f) f }
-  rejected-drive r x e = ap (λ (a : Answer). a .drive) (login-answered .0 ∙ ap (answered d (headerOf f)) (login-rejects r x (login-rejects-only r x e)))
+  rjt-long : (r x : ℕ) → length (rjtBytes d f r x) ≡ 32
+  unfolding headerBytes
+  rjt-long r x = refl
 
-  -- of right size, the drive with the sender's login ended
-  pub rejected-ends : (r x : ℕ) → linkOf (d .port) (headerOf f) f .reply ≡ reply.Reject r x → length f ≡ 140
-      → frameIn d f (length l) .drive ≡ record { unit = d .unit; port = ended (d .port) (headerOf f) }
-  rejected-ends r x e size = rejected-drive r x e ∙ rw (eq-eqb (length f) 140 size)
+  login-accepts : (a : Accepts port head f) → Answers (accBytes d f) 140 (withLogin (ended port head) (a .place) (newLogin (head .«s_id») (paramsOf f 28)))
+  login-accepts a = login-answers (accBytes d f) 140 _ (omega arith) acc-long (acc-is _) (accepts port head f (p .plogi) a)
 
-  -- of wrong size, the drive as it was
-  pub rejected-keeps : (r x : ℕ) → linkOf (d .port) (headerOf f) f .reply ≡ reply.Reject r x → (length f ≡ 140 → ⊥) → frameIn d f (length l) .drive ≡ d
-  rejected-keeps r x e size = rejected-drive r x e ∙ rw (ne-eqb (length f) 140 size)
+  login-rejects : (r x : ℕ) → Rejects port head f r x → Answers (rjtBytes d f r x) 32 (leftBy port head f)
+  login-rejects r x a = login-answers (rjtBytes d f r x) 32 _ (omega arith) (rjt-long r x) (rjt-is r x _) (rejects port head f (p .plogi) r x a)
+
+  -- where the buffer begins with ACC, byte 24 is 02h; where with LS_RJT, it is 01h, and bytes 29 and 30 are the reason and the explanation
+  acc-code : Begins (accBytes d f) after → getD after 24 0 ≡ 0x02
+  unfolding headerBytes
+  acc-code b = begun (accBytes d f) after 24 b (let n = acc-long in omega arith)
+
+  rjt-codes : (r x : ℕ) → Begins (rjtBytes d f r x) after → (getD after 24 0 ≡ 0x01) × (getD after 29 0 ≡ r) × (getD after 30 0 ≡ x)
+  unfolding headerBytes
+  rjt-codes r x b =
+      let at : (i : ℕ) → i < 32 → getD after i 0 ≡ getD (rjtBytes d f r x) i 0 = λ i. begun (rjtBytes d f r x) after i b in
+      (at 24 (omega arith), at 29 (omega arith), at 30 (omega arith))
+
+  -- so it does not begin with both
+  not-both : (r x : ℕ) → Begins (accBytes d f) after → Begins (rjtBytes d f r x) after → ⊥
+  not-both r x a b = let m = acc-code a in let n = rjt-codes r x b .0 in omega arith
+
+  login-accepts-only : Begins (accBytes d f) after → Accepts port head f
+  login-accepts-only b = by (no-third port head f (p .plogi))
+    where
+      by : Accepts port head f ⊎ ((r : ℕ) × (x : ℕ) × Rejects port head f r x) → Accepts port head f
+      by (inl a) = a
+      by (inr (r, x, a)) = absurd (not-both r x b (login-rejects r x a .0))
+
+  login-rejects-only : (r x : ℕ) → Begins (rjtBytes d f r x) after → Rejects port head f r x
+  login-rejects-only r x b = by (no-third port head f (p .plogi))
+    where
+      by : Accepts port head f ⊎ ((s : ℕ) × (y : ℕ) × Rejects port head f s y) → Rejects port head f r x
+      by (inl a) = absurd (not-both r x (login-accepts a .0) b)
+      by (inr (s, y, a)) =
+          let here = rjt-codes r x b in
+          let there = rjt-codes s y (login-rejects s y a .0) in
+          subst (λ (m : ℕ). Rejects port head f r m) (sym (there .2) ∙ here .2) (subst (λ (m : ℕ). Rejects port head f m y) (sym (there .1) ∙ here .1) a)
+
+  pub login-is : PortLogin d f l
+  login-is =
+      record {
+        accepts = login-accepts;
+        accepts-only = login-accepts-only;
+        rejects = login-rejects;
+        rejects-only = login-rejects-only;
+        no-third = no-third port head f (p .plogi);
+      }

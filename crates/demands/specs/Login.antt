@@ -1,16 +1,73 @@
--- The port logins that reach the link services: the theorems on what is accepted and rejected speak of these.
+-- A port login that reaches the link services: the bytes of its two answers, and when each of them stands in the lent buffer (document 01, "Header and reply headers" and "Link services").
 use mathlib.Core.Path.{_≡_}
-use mathlib.Core.List.{List}
+use mathlib.Core.Logic.{_⊎_}
+use mathlib.Core.List.{List, [], _∷_, _++_}
 use Prim.Native.Nat.{ℕ}
-use lib.ListN.{length, getD}
+use lib.ListN.{length, take, drop, getD}
 use Rattle.tables.specs.Firsts.{NoneOf}
-use Rattle.frame.specs.Head.{headerOf}
+use Rattle.frame.specs.declared.Header.{Header}
+use Rattle.frame.specs.Head.{headerOf, headerBytes}
+use Rattle.params.specs.Words.{paramsOf}
+use Rattle.state.specs.Changes.{withLogin}
+use Rattle.refusal.specs.declared.Said.the-variants.{Sent}
 use Rattle.refusal.specs.Refusal.{frameOrder}
+use Rattle.link.specs.Link.{newLogin}
+use Rattle.link.specs.Login.{ended, leftBy, Accepts, Rejects}
 use Rattle.arrival.specs.Arrival.{appliesIn}
 use Rattle.drive.specs.declared.Drive.{Drive}
+use Rattle.drive.specs.Entry.{frameIn, frameInBuffer}
 
 -- a PLOGI that is not refused: none of 1 to 7 applies to the frame f, with the buffer l lent, and it is a link request (R_CTL 22h) of code "PLOGI 03h"
 pub record LoginIn (d : Drive) (f l : List ℕ) : Type 0 where
   pub passed : NoneOf (appliesIn (d .unit) (d .port) (headerOf f) f (length l)) frameOrder
   pub link : headerOf f .«r_ctl» ≡ 0x22
   pub plogi : getD f 24 0 ≡ 3
+
+-- "the reply stands at the front of the buffer": l begins with the bytes bs
+abbrev pub Begins : List ℕ → List ℕ → Type 0
+Begins bs l = take (length bs) l ≡ bs
+
+-- "Replies: addresses swapped, OX_ID echoed, RX_ID FFFFh, the rest 0 but for: .. ACC, LS_RJT | 23 01 | 990000 | FF"; the drive's own address is S_ID
+abbrev pub loginHeader : Drive → List ℕ → Header
+loginHeader d f =
+    record {
+      «r_ctl» = 0x23;
+      «d_id» = headerOf f .«s_id»;
+      reserved = 0;
+      «s_id» = d .port .address;
+      protocol = 0x01;
+      «f_ctl» = 0x990000;
+      «seq_id» = 0xff;
+      «df_ctl» = 0;
+      «seq_cnt» = 0;
+      «ox_id» = headerOf f .«ox_id»;
+      «rx_id» = 0xffff;
+      offset = 0;
+    }
+
+-- "ACC is 02 00 00 00 and the setup words"
+abbrev pub accBytes : Drive → List ℕ → List ℕ
+accBytes d f = headerBytes (loginHeader d f) ++ (0x02 ∷ 0x00 ∷ 0x00 ∷ 0x00 ∷ d .port .accept)
+
+-- "LS_RJT is 01 00 00 00, then 00, reason, explanation, 00"
+abbrev pub rjtBytes : Drive → List ℕ → ℕ → ℕ → List ℕ
+rjtBytes d f r x = headerBytes (loginHeader d f) ++ (0x01 ∷ 0x00 ∷ 0x00 ∷ 0x00 ∷ 0x00 ∷ r ∷ x ∷ 0x00 ∷ [])
+
+-- what becomes of the PLOGI f at the drive d, where the buffer l is lent; "its length .. in the answer, later bytes unchanged"
+pub record PortLogin (d : Drive) (f l : List ℕ) : Type 0 where
+  -- "Accepted: the lowest free place keeps address, names, W18 size, W19/B1, W20/B1, proven, unpaired, attention 29h", once the sender's login has ended; ACC is sent, of 140 bytes
+  pub accepts : (a : Accepts (d .port) (headerOf f) f)
+      → Begins (accBytes d f) (frameInBuffer d f l)
+      × (drop 140 (frameInBuffer d f l) ≡ drop 140 l)
+      × (frameIn d f (length l) ≡ record { said = Sent 140; drive = record { unit = d .unit; port = withLogin (ended (d .port) (headerOf f)) (a .place) (newLogin (headerOf f .«s_id») (paramsOf f 28)) } })
+  -- "(demand 2's exactly-when)": ACC stands in the buffer only so
+  pub accepts-only : Begins (accBytes d f) (frameInBuffer d f l) → Accepts (d .port) (headerOf f) f
+  -- "Of right size, it ends the sender's login and exchanges first, accepted or not"; LS_RJT with this reason and explanation is sent, of 32 bytes
+  pub rejects : (r x : ℕ) → Rejects (d .port) (headerOf f) f r x
+      → Begins (rjtBytes d f r x) (frameInBuffer d f l)
+      × (drop 32 (frameInBuffer d f l) ≡ drop 32 l)
+      × (frameIn d f (length l) ≡ record { said = Sent 32; drive = record { unit = d .unit; port = leftBy (d .port) (headerOf f) f } })
+  -- and LS_RJT with this reason and explanation only so
+  pub rejects-only : (r x : ℕ) → Begins (rjtBytes d f r x) (frameInBuffer d f l) → Rejects (d .port) (headerOf f) f r x
+  -- "accepted or not": always one of the two
+  pub no-third : Accepts (d .port) (headerOf f) f ⊎ ((r : ℕ) × (x : ℕ) × Rejects (d .port) (headerOf f) f r x)

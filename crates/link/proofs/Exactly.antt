@@ -1,6 +1,7 @@
 -- A port login is accepted exactly when its size is right, every word test passes and a place is free once the sender's own login has ended;
 -- else it is rejected, with the stated reason, and of right size the sender's login has ended all the same. Both directions, for every frame with PLOGI's code. Assumes nothing.
-use mathlib.Core.Path.{_≡_, refl, sym, ap, _∙_, subst}
+use mathlib.Core.Path.{_≡_, refl, ap, _∙_, subst}
+use mathlib.Core.Logic.{_⊎_, inl, inr}
 use mathlib.Core.Bool.{Bool, true, false}
 use mathlib.Core.List.{List}
 use Prim.Native.Nat.{ℕ}
@@ -19,7 +20,6 @@ use Rattle.params.proofs.Exactly.{accepted, accepts-then, rejected, rejects-the
 use Rattle.state.specs.declared.Port.{Port}
 use Rattle.state.specs.Changes.{withLogin}
 use Rattle.state.specs.Tables.{freeLogin}
-use Rattle.reply.specs.declared.Reply.{Reply}
 use Rattle.reply.specs.declared.Reply.the-variants as reply
 use Rattle.reply.specs.declared.Accepted.the-variants as accepted
 use Rattle.calls.specs.Turn.{Decided, decidedAs}
@@ -55,48 +55,40 @@ module _ (p : Port) (h : Header) (f : List ℕ) (plogi : getD f 24 0 ≡ 3) wher
   rejects r x (no-place e t n) = of-full e (accepts-then (paramsOf f 28) t) n
 
   -- there is no third answer
-  data Answered : Reply → Type 0 where
-    yes : Accepts p h f → Answered (reply.Accept accepted.Login)
-    no : (r x : ℕ) → Rejects p h f r x → Answered (reply.Reject r x)
-
-  answered : Answered (linkOf p h f .reply)
-  answered = by-size (eqb (length f) 140) refl
+  pub no-third : Accepts p h f ⊎ ((r : ℕ) × (x : ℕ) × Rejects p h f r x)
+  no-third = by-size (eqb (length f) 140) refl
     where
-      by-room : length f ≡ 140 → verdictOf (paramsOf f 28) ≡ verdict.Accept → (g : Found) → freeLogin (ended p h) ≡ g → Answered (linkOf p h f .reply)
-      by-room e v (At i) n =
-          let a : Accepts p h f = record { size = e; tests = accepted (paramsOf f 28) v; place = i; free = n } in
-          subst Answered (sym (ap (λ (d : Decided). d .reply) (accepts a))) (yes a)
-      by-room e v Nothing n =
-          let a : Rejects p h f 0x09 0x29 = no-place e (accepted (paramsOf f 28) v) n in
-          subst Answered (sym (ap (λ (d : Decided). d .reply) (rejects 0x09 0x29 a))) (no 0x09 0x29 a)
+      by-room : length f ≡ 140 → verdictOf (paramsOf f 28) ≡ verdict.Accept → (g : Found) → freeLogin (ended p h) ≡ g → Accepts p h f ⊎ ((r : ℕ) × (x : ℕ) × Rejects p h f r x)
+      by-room e v (At i) n = inl (record { size = e; tests = accepted (paramsOf f 28) v; place = i; free = n })
+      by-room e v Nothing n = inr (0x09, 0x29, no-place e (accepted (paramsOf f 28) v) n)
 
-      by-test : length f ≡ 140 → (v : Verdict) → verdictOf (paramsOf f 28) ≡ v → Answered (linkOf p h f .reply)
+      by-test : length f ≡ 140 → (v : Verdict) → verdictOf (paramsOf f 28) ≡ v → Accepts p h f ⊎ ((r : ℕ) × (x : ℕ) × Rejects p h f r x)
       by-test e verdict.Accept v = by-room e v (freeLogin (ended p h)) refl
-      by-test e (verdict.Reject t) v =
-          let a : Rejects p h f (reasonOf t .reason) (reasonOf t .explanation) = test-fails e t (rejected (paramsOf f 28) t v) in
-          subst Answered (sym (ap (λ (d : Decided). d .reply) (rejects _ _ a))) (no _ _ a)
+      by-test e (verdict.Reject t) v = inr (reasonOf t .reason, reasonOf t .explanation, test-fails e t (rejected (paramsOf f 28) t v))
 
-      by-size : (b : Bool) → eqb (length f) 140 ≡ b → Answered (linkOf p h f .reply)
+      by-size : (b : Bool) → eqb (length f) 140 ≡ b → Accepts p h f ⊎ ((r : ℕ) × (x : ℕ) × Rejects p h f r x)
       by-size true e = by-test (eqb-true (length f) 140 e) (verdictOf (paramsOf f 28)) refl
-      by-size false e =
-          let a : Rejects p h f 0x03 0x00 = wrong-size (eqb-false (length f) 140 e) in
-          subst Answered (sym (ap (λ (d : Decided). d .reply) (rejects 0x03 0x00 a))) (no 0x03 0x00 a)
+      by-size false e = inr (0x03, 0x00, wrong-size (eqb-false (length f) 140 e))
+
+  reply-of : {d : Decided} → linkOf p h f ≡ d → linkOf p h f .reply ≡ d .reply
+  reply-of = ap (λ (d : Decided). d .reply)
 
   -- accepted only so
   pub accepts-only : linkOf p h f .reply ≡ reply.Accept accepted.Login → Accepts p h f
-  accepts-only e = by (linkOf p h f .reply) answered e
+  accepts-only e = by no-third
     where
-      by : (r : Reply) → Answered r → r ≡ reply.Accept accepted.Login → Accepts p h f
-      by r (yes a) q = a
-      by r (no x y a) q = let z : _≡_ {A = ℕ} 0 1 = cc in absurd (omega arith)
+      by : Accepts p h f ⊎ ((r : ℕ) × (x : ℕ) × Rejects p h f r x) → Accepts p h f
+      by (inl a) = a
+      by (inr (r, x, a)) = let q = reply-of (rejects r x a) in let z : _≡_ {A = ℕ} 0 1 = cc in absurd (omega arith)
 
   -- rejected with this reason only so
   pub rejects-only : (r x : ℕ) → linkOf p h f .reply ≡ reply.Reject r x → Rejects p h f r x
-  rejects-only r x e = by (linkOf p h f .reply) answered e
+  rejects-only r x e = by no-third
     where
-      by : (s : Reply) → Answered s → s ≡ reply.Reject r x → Rejects p h f r x
-      by s (yes a) q = let z : _≡_ {A = ℕ} 0 1 = cc in absurd (omega arith)
-      by s (no y z a) q =
+      by : Accepts p h f ⊎ ((y : ℕ) × (z : ℕ) × Rejects p h f y z) → Rejects p h f r x
+      by (inl a) = let q = reply-of (accepts a) in let z : _≡_ {A = ℕ} 0 1 = cc in absurd (omega arith)
+      by (inr (y, z, a)) =
+          let q = reply-of (rejects y z a) in
           let i : y ≡ r = cc in
           let j : z ≡ x = cc in
           subst (λ (m : ℕ). Rejects p h f r m) j (subst (λ (m : ℕ). Rejects p h f m z) i a)
