@@ -85,8 +85,8 @@ enum jhartupal_attention {
 
 /* A place for an open exchange. Where kind is 0 it is free, and nothing is asked of its other fields. */
 struct jhartupal_exchange {
-    uint64_t start;    /* READ: the first block */
-    uint32_t blocks;   /* READ: how many, 1 to 65,535, all of them on the unit */
+    uint64_t start;    /* READ: the first block; of any other kind 0 */
+    uint32_t blocks;   /* READ: how many, 1 to 65,535, all of them on the unit; of any other kind 0 */
     uint32_t wanted;   /* bytes that the command wants; of a READ 512 for each block */
     uint32_t expected; /* bytes that the host expects, FCP_DL: not 0. The smaller of both is sent */
     uint32_t sent;     /* bytes sent: the next frame starts at byte sent % 512 of block start + sent / 512 */

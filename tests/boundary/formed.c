@@ -30,21 +30,22 @@ static bool words_pass(const uint8_t *words) {
         && w[77] != 0 && w[81] == 1;
 }
 
-/* "each exchange is one an accepted command could open" */
+/* "each exchange is one an accepted command could open": of the commands only READ(10) names blocks, and the others leave both fields 0 */
 static bool could_open(const struct jhartupal_exchange *e, uint64_t capacity) {
+    bool no_blocks = e->start == 0 && e->blocks == 0;
     switch (e->kind) {
     case JHARTUPAL_READ: /* READ(10): "address not below capacity, or address plus count above it" is refused; "count x 512" */
         return 1 <= e->blocks && e->blocks <= JHARTUPAL_MOST_READ && e->wanted == JHARTUPAL_BLOCK * e->blocks && e->start < capacity && e->blocks <= capacity - e->start;
     case JHARTUPAL_INQUIRY: /* INQUIRY: "36 or byte 4 if smaller", and so of another LUN */
     case JHARTUPAL_INQUIRY_OTHER_UNIT:
-        return 1 <= e->wanted && e->wanted <= 36;
+        return no_blocks && 1 <= e->wanted && e->wanted <= 36;
     case JHARTUPAL_READ_CAPACITY: /* READ CAPACITY: "8" */
-        return e->wanted == 8;
+        return no_blocks && e->wanted == 8;
     case JHARTUPAL_SENSE_NONE: /* REQUEST SENSE: "18 or byte 4 if smaller", with 00/00/00, 29h, 2Fh, or of another LUN */
     case JHARTUPAL_SENSE_RESET:
     case JHARTUPAL_SENSE_CLEARED:
     case JHARTUPAL_SENSE_OTHER_UNIT:
-        return 1 <= e->wanted && e->wanted <= 18;
+        return no_blocks && 1 <= e->wanted && e->wanted <= 18;
     default:
         return false;
     }

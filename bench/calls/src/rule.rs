@@ -79,6 +79,10 @@ impl Exchange {
         self.kind != 0
     }
 
+    fn no_blocks(&self) -> bool {
+        self.start == 0 && self.blocks == 0
+    }
+
     fn wanted_fits(&self, capacity: u64) -> bool {
         match self.kind {
             1 => {
@@ -88,9 +92,9 @@ impl Exchange {
                     && self.start < capacity
                     && blocks <= capacity - self.start
             }
-            2 | 3 => (1..=36).contains(&self.wanted),
-            4 => self.wanted == 8,
-            5..=8 => (1..=18).contains(&self.wanted),
+            2 | 3 => self.no_blocks() && (1..=36).contains(&self.wanted),
+            4 => self.no_blocks() && self.wanted == 8,
+            5..=8 => self.no_blocks() && (1..=18).contains(&self.wanted),
             _ => false,
         }
     }

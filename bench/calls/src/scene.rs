@@ -87,6 +87,14 @@ pub fn read(from: u32, ox_id: u16, blocks: u16) -> Vec<u8> {
     command(from, ox_id, &[0x28, 0, a, b, c, d, 0, hi, lo, 0], 512 * u32::from(blocks))
 }
 
+/// INQUIRY, READ CAPACITY and REQUEST SENSE, each with its own OX_ID.
+fn made_data(from: u32) -> [Vec<u8>; 3] {
+    let inquiry = command(from, 0x1000, &[0x12, 0, 0, 0, 36, 0], 36);
+    let capacity = command(from, 0x1001, &[0x25, 0, 0, 0, 0, 0, 0, 0, 0, 0], 8);
+    let sense = command(from, 0x1002, &[0x03, 0, 0, 0, 18, 0], 18);
+    [inquiry, capacity, sense]
+}
+
 /// A frame that the drive does not take: refusal 6.
 pub fn unknown(from: u32) -> Vec<u8> {
     frame(0x01, 0x08, from, 0x0300, &[0; 32])
@@ -122,6 +130,15 @@ impl Both {
             for ox_id in 0..8 {
                 b.does(&Call::frame(read(host, 0x1000 + ox_id, 256)));
             }
+        }
+        b
+    }
+
+    /// A drive with one login of this size, and exchanges of made data open.
+    pub fn made(size: u16) -> Both {
+        let mut b = Both::one(size);
+        for frame in made_data(HOSTS[0]) {
+            b.does(&Call::frame(frame));
         }
         b
     }

@@ -117,13 +117,17 @@ fn formed() {
     println!("well_formed in plain Rust over references (rule.rs): empty {empty:.1} ns, full {full:.1} ns.");
 }
 
-/// Every byte of a full drive is changed in turn: drive and `rule` must agree whether it is still well formed. How many were tried.
+/// Every byte of a full drive, and of one with made data to send, is changed in turn: drive and `rule` must agree whether it is still well formed.
+/// How many were tried.
 fn changed() -> usize {
-    let full = Both::full(2048).drive;
+    changed_from(Both::full(2048).drive) + changed_from(Both::made(2048).drive)
+}
+
+fn changed_from(good: State) -> usize {
     let mut tried = 0;
     for at in 0..std::mem::size_of::<State>() {
         for value in [0x00, 0x01, 0x2F, 0x80, 0xFF] {
-            let mut d = full;
+            let mut d = good;
             // SAFETY: any bytes are a state
             unsafe { *(&raw mut d).cast::<u8>().add(at) = value };
             let fine = rule::well_formed(&d.unit, &d.port);

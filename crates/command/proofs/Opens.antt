@@ -10,7 +10,7 @@ use Rattle.tables.proofs.Bools.{or-left, or-right}
 use Rattle.state.specs.declared.Exchange.{Exchange}
 use Rattle.state.specs.declared.Unit.{Unit}
 use Rattle.state.specs.Kinds.{kindFree, kindRead, kindInquiry, kindInquiryOther, kindCapacity, kindSenseNone, kindSenseReset, kindSenseCleared, kindSenseOther}
-use Rattle.formed.specs.Formed.{total, framesOf, readFits, wantedFits, openable, sentFits}
+use Rattle.formed.specs.Formed.{total, framesOf, readFits, madeFits, wantedFits, openable, sentFits}
 use Rattle.command.specs.declared.Range.{Range}
 use Rattle.command.specs.declared.Operation.{Operation}
 use Rattle.command.specs.declared.Operation.the-variants.{TestUnitReady, RequestSense, Inquiry, ReadCapacity, Read, Write, Unknown}
@@ -41,19 +41,19 @@ module _ (u : Unit) where
     small-opens kind wanted most h e n = rw (le-leb 1 expected (omega arith), e, le-leb 1 wanted (omega arith), le-leb wanted most h)
 
     sense-fits : (b a r : Bool) (w : ℕ) → wantedFits u (fresh ox expected (cond b kindSenseOther (cond a kindSenseNone (cond r kindSenseReset kindSenseCleared))) w 0 0) ≡ (leb 1 w && leb w 18)
-    unfolding wantedFits
+    unfolding wantedFits madeFits
     sense-fits true a r w = refl
     sense-fits false true r w = refl
     sense-fits false false true w = refl
     sense-fits false false false w = refl
 
     inquiry-fits : (b : Bool) (w : ℕ) → wantedFits u (fresh ox expected (cond b kindInquiry kindInquiryOther) w 0 0) ≡ (leb 1 w && leb w 36)
-    unfolding wantedFits
+    unfolding wantedFits madeFits
     inquiry-fits true w = refl
     inquiry-fits false w = refl
 
     capacity-opens : Opens (fresh ox expected kindCapacity 8 0 0)
-    unfolding Opens wantedFits
+    unfolding Opens wantedFits madeFits
     capacity-opens n = rw (le-leb 1 expected (omega arith))
 
     -- test 7 lets only blocks of the unit through

@@ -6,7 +6,7 @@ use Rattle.address.specs.Address.{validAddress}
 use Rattle.params.specs.Words.{paramsOf, sizeFails, zeroName, verdictOf, setupPasses}
 use Rattle.state.specs.Changes.{ownOf, loginAt, exchangeAt, withLogin, withExchange, hasAddress, endedOf, changedAll}
 use Rattle.state.specs.Tables.{hasId, findLogin, freeLogin, findExchange, freeExchange, loginOf, lookupOf}
-use Rattle.formed.specs.Formed.{setupRules, setupOf, readFits, wantedFits, sentFits, exchangeFine, apartId, paramsFine, flagsFine, addressFine, usedFine, loginFine, apartAddress, wellFormed}
+use Rattle.formed.specs.Formed.{setupRules, setupOf, readFits, madeFits, wantedFits, sentFits, exchangeFine, apartId, paramsFine, flagsFine, addressFine, usedFine, loginFine, apartAddress, wellFormed}
 use Rattle.reply.specs.Payload.{shortBytes, loginBytes, pairBytes, rejectBytes, statusBytes, codeBytes, senseBytes}
 use Rattle.reply.specs.Reply.{answerHead, dataHead, filled, bytesOf}
 use Rattle.residual.specs.Residual.{residualOf}
@@ -23,7 +23,7 @@ use Rattle.drive.specs.Entry.{replyBytes, frameIn, frameInBuffer, nextFrame, ne
 use Rattle.demands.specs.Numbers.{KnownNumbers}
 
 pub known-numbers : KnownNumbers
-unfolding frameIn frameInBuffer replyBytes headerOf headerBytes badSize badSource knownPair unknownForm spared unprovenLogin formOf validAddress madeFrom wellFormed setupRules setupOf setupPasses paramsOf sizeFails zeroName verdictOf loginFine usedFine flagsFine addressFine paramsFine exchangeFine apartId apartAddress wantedFits readFits sentFits findLogin freeLogin findExchange freeExchange loginOf hasAddress hasId loginAt exchangeAt withLogin withExchange endedOf changedAll bytesOf filled onto answerHead dataHead shortBytes loginBytes pairBytes rejectBytes statusBytes codeBytes senseBytes residualOf linkOf sizeOf plogiOf outcomeOf newLogin serviceOf prliOf pairFine pageFine cmndOf malformed taskFor taskOf otherUnit attends inquiryField capacityField range10 decodedOf beyond testedBy askedOf refusedWith toldOf openedOf executeOf commandedAt commandOf nextFrame nextFrameBuffer lookupOf hasMore readsMore coverOf placeOf frameOf nextReply nextExchange sourceOf windowPlace ownOf askedBy openStep stepOf frameBytes movedOn nextOf nextBuffer
+unfolding frameIn frameInBuffer replyBytes headerOf headerBytes badSize badSource knownPair unknownForm spared unprovenLogin formOf validAddress madeFrom wellFormed setupRules setupOf setupPasses paramsOf sizeFails zeroName verdictOf loginFine usedFine flagsFine addressFine paramsFine exchangeFine apartId apartAddress wantedFits readFits madeFits sentFits findLogin freeLogin findExchange freeExchange loginOf hasAddress hasId loginAt exchangeAt withLogin withExchange endedOf changedAll bytesOf filled onto answerHead dataHead shortBytes loginBytes pairBytes rejectBytes statusBytes codeBytes senseBytes residualOf linkOf sizeOf plogiOf outcomeOf newLogin serviceOf prliOf pairFine pageFine cmndOf malformed taskFor taskOf otherUnit attends inquiryField capacityField range10 decodedOf beyond testedBy askedOf refusedWith toldOf openedOf executeOf commandedAt commandOf nextFrame nextFrameBuffer lookupOf hasMore readsMore coverOf placeOf frameOf nextReply nextExchange sourceOf windowPlace ownOf askedBy openStep stepOf frameBytes movedOn nextOf nextBuffer
 known-numbers =
     record {
       frame-20 = refl;

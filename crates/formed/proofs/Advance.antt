@@ -14,7 +14,7 @@ use Rattle.state.specs.declared.Exchange.{Exchange}
 use Rattle.state.specs.declared.Unit.{Unit}
 use Rattle.state.specs.Changes.{advanced, isClosed}
 use Rattle.state.specs.Kinds.{kindRead, kindInquiryOther, kindCapacity, kindSenseOther}
-use Rattle.formed.specs.Formed.{total, nextBytes, framesOf, readFits, wantedFits, openable, sentFits, exchangeFine}
+use Rattle.formed.specs.Formed.{total, nextBytes, framesOf, readFits, madeWants, madeFits, wantedFits, openable, sentFits, exchangeFine}
 
 -- a whole number of full frames, and then one more of n bytes
 frames-at : (q full : ℕ) → 0 < full → framesOf (q * full) full ≡ q
@@ -177,16 +177,28 @@ is-read u e k h = read-parts u e (rw (eq-eqb (e .kind) kindRead k) at h)
 read-small : (u : Unit) (e : Exchange) → readFits u e ≡ true → e .wanted < 4294967296
 read-small u e h = let r = read-parts u e h in omega arith
 
+made-wants : (e : Exchange) → madeFits e ≡ true → madeWants e ≡ true
+unfolding madeFits
+made-wants e h = and-right (eqb (e .start) 0 && eqb (e .blocks) 0) (madeWants e) h
+
+-- what is wanted of made data
+pub is-made : (u : Unit) (e : Exchange) → eqb (e .kind) kindRead ≡ false → wantedFits u e ≡ true → madeWants e ≡ true
+unfolding wantedFits
+is-made u e k h = made-wants e (rw k at h)
+
 pub wanted-small : (u : Unit) (e : Exchange) → wantedFits u e ≡ true → e .wanted < 4294967296
 unfolding wantedFits
 wanted-small u e =
-    cond-small (eqb (e .kind) kindRead) _ _ (e .wanted) (read-small u e)
-    (cond-small (leb (e .kind) kindInquiryOther) _ _ (e .wanted) (λ h. most 36 (and-right (leb 1 (e .wanted)) (leb (e .wanted) 36) h) (omega arith))
-    (cond-small (eqb (e .kind) kindCapacity) _ _ (e .wanted) (λ h. let i : e .wanted ≡ 8 = eqb-true (e .wanted) 8 h in omega arith)
-    (λ h. most 18 (and-right (leb (e .kind) kindSenseOther && leb 1 (e .wanted)) (leb (e .wanted) 18) h) (omega arith))))
+    cond-small (eqb (e .kind) kindRead) _ _ (e .wanted) (read-small u e) (λ h. made (made-wants e h))
   where
     most : (n : ℕ) → leb (e .wanted) n ≡ true → n < 4294967296 → e .wanted < 4294967296
     most n h l = let i : e .wanted ≤ n = leb-true (e .wanted) n h in omega arith
+
+    made : madeWants e ≡ true → e .wanted < 4294967296
+    made =
+        cond-small (leb (e .kind) kindInquiryOther) _ _ (e .wanted) (λ h. most 36 (and-right (leb 1 (e .wanted)) (leb (e .wanted) 36) h) (omega arith))
+        (cond-small (eqb (e .kind) kindCapacity) _ _ (e .wanted) (λ h. let i : e .wanted ≡ 8 = eqb-true (e .wanted) 8 h in omega arith)
+        (λ h. most 18 (and-right (leb (e .kind) kindSenseOther && leb 1 (e .wanted)) (leb (e .wanted) 18) h) (omega arith)))
 
 -- what is asked of an open exchange
 pub record Running (u : Unit) (full paired : ℕ) (e : Exchange) : Type 0 where
@@ -211,7 +223,7 @@ running u full paired e op fine =
 -- an open exchange that is fine is fine after its next data frame
 pub advance-fine : (u : Unit) (full paired : ℕ) (e : Exchange) → 0 < full → isClosed e ≡ false → e .sent < total e → exchangeFine u full paired e ≡ true
     → exchangeFine u full paired (advanced e (nextBytes full e)) ≡ true
-unfolding exchangeFine wantedFits readFits
+unfolding exchangeFine wantedFits readFits madeFits
 advance-fine u full paired e pos op short fine =
     let r = running u full paired e op fine in
     let w = wanted-small u e (r .wanted) in

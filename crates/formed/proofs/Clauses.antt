@@ -12,7 +12,7 @@ use Rattle.state.specs.declared.Login.{Login}
 use Rattle.state.specs.declared.Port.{Port}
 use Rattle.state.specs.declared.Unit.{Unit}
 use Rattle.state.specs.Changes.{emptyExchange, emptyLogin, ownOf}
-use Rattle.formed.specs.Formed.{setupRules, setupOf, readFits, wantedFits, sentFits, exchangeFine, apartId, paramsFine, flagsFine, addressFine, usedFine, loginFine, apartAddress, wellFormed}
+use Rattle.formed.specs.Formed.{setupRules, setupOf, readFits, madeFits, wantedFits, sentFits, exchangeFine, apartId, paramsFine, flagsFine, addressFine, usedFine, loginFine, apartAddress, wellFormed}
 
 -- a unit of this capacity
 abbrev pub unitOf : ℕ → Unit
@@ -74,6 +74,10 @@ reading start blocks wanted expected sent count = exchange 1 0x1234 start blocks
 -- an exchange of another kind, of OX_ID 1235h
 abbrev pub other : (kind wanted expected sent count : ℕ) → Exchange
 other kind wanted expected sent count = exchange kind 0x1235 0 0 wanted expected sent count
+
+-- the same with a start and blocks, of which nothing was sent
+abbrev pub placed : (kind start blocks wanted : ℕ) → Exchange
+placed kind start blocks wanted = exchange kind 0x1235 start blocks wanted 36 0 0
 
 -- two exchanges at the first places of a login, and none at the others
 abbrev pub two : Exchange → Exchange → List Exchange
@@ -143,7 +147,7 @@ pub setup-clauses :
     × (setup 100 0xef 255 1 busy ≡ true)  -- W19/B1 may be any other
     × (setup 100 0xef 1 0 busy ≡ false)  -- "W20/B1 not 0"
     × (setup 100 0xef 1 2 busy ≡ false)  -- "with W20/B1 = 01h"
-unfolding wellFormed setupRules setupOf ownOf validAddress setupPasses paramsOf verdictOf sizeFails zeroName loginFine usedFine flagsFine addressFine paramsFine exchangeFine wantedFits readFits sentFits apartId apartAddress
+unfolding wellFormed setupRules setupOf ownOf validAddress setupPasses paramsOf verdictOf sizeFails zeroName loginFine usedFine flagsFine addressFine paramsFine exchangeFine wantedFits readFits madeFits sentFits apartId apartAddress
 setup-clauses = (refl, refl, refl, refl, refl, refl, refl, refl, refl, refl, refl, refl)
 
 -- the flags and the attention of a login, and its address
@@ -168,7 +172,7 @@ pub login-clauses :
     × (both stale stale ≡ true)  -- of free places nothing is asked
     × (both stale (at 0x01 0x01) ≡ true)  -- nor of them beside a login
     × (one (flagged 0 1 1 0 busy) ≡ false)  -- but that they hold no open exchange
-unfolding wellFormed setupRules setupOf ownOf validAddress setupPasses paramsOf verdictOf sizeFails zeroName loginFine usedFine flagsFine addressFine paramsFine exchangeFine wantedFits readFits sentFits apartId apartAddress
+unfolding wellFormed setupRules setupOf ownOf validAddress setupPasses paramsOf verdictOf sizeFails zeroName loginFine usedFine flagsFine addressFine paramsFine exchangeFine wantedFits readFits madeFits sentFits apartId apartAddress
 login-clauses = (refl, refl, refl, refl, refl, refl, refl, refl, refl, refl, refl, refl, refl, refl, refl, refl, refl, refl, refl, refl)
 
 -- "stored parameters pass the PLOGI rules"; idle where another size would break what is asked of the bytes sent
@@ -186,7 +190,7 @@ pub parameter-clauses :
     × (one (stored name name 256 0 1 busy) ≡ false)  -- "W19/B1 not 0"
     × (one (stored name name 256 1 0 busy) ≡ false)  -- "W20/B1 not 0"
     × (one (stored name name 256 255 255 busy) ≡ true)  -- W20/B1 = 01h is asked of the setup alone
-unfolding wellFormed setupRules setupOf ownOf validAddress setupPasses paramsOf verdictOf sizeFails zeroName loginFine usedFine flagsFine addressFine paramsFine exchangeFine wantedFits readFits sentFits apartId apartAddress
+unfolding wellFormed setupRules setupOf ownOf validAddress setupPasses paramsOf verdictOf sizeFails zeroName loginFine usedFine flagsFine addressFine paramsFine exchangeFine wantedFits readFits madeFits sentFits apartId apartAddress
 parameter-clauses = (refl, refl, refl, refl, refl, refl, refl, refl, refl, refl, refl, refl, refl)
 
 -- where exchanges stand, and "each exchange is one an accepted command could open"
@@ -223,8 +227,34 @@ pub exchange-clauses :
     × (opened halfway (other 8 1 36 0 0) ≡ true)  -- with 05/25/00, the least
     × (opened halfway (other 8 19 36 0 0) ≡ false)  -- with 05/25/00, one more than 18
     × (opened halfway (other 8 0 36 0 0) ≡ false)  -- and not nothing
-unfolding wellFormed setupRules setupOf ownOf validAddress setupPasses paramsOf verdictOf sizeFails zeroName loginFine usedFine flagsFine addressFine paramsFine exchangeFine wantedFits readFits sentFits apartId apartAddress
+unfolding wellFormed setupRules setupOf ownOf validAddress setupPasses paramsOf verdictOf sizeFails zeroName loginFine usedFine flagsFine addressFine paramsFine exchangeFine wantedFits readFits madeFits sentFits apartId apartAddress
 exchange-clauses = (refl, refl, refl, refl, refl, refl, refl, refl, refl, refl, refl, refl, refl, refl, refl, refl, refl, refl, refl, refl, refl, refl, refl, refl, refl, refl, refl, refl, refl, refl, refl, refl)
+
+-- "each exchange is one an accepted command could open": only READ(10) names blocks, and every other kind has start and blocks 0
+pub made-clauses :
+    (opened halfway (placed 2 0 0 36) ≡ true)  -- INQUIRY
+    × (opened halfway (placed 2 1 0 36) ≡ false)  -- a start
+    × (opened halfway (placed 2 0 1 36) ≡ false)  -- a block
+    × (opened halfway (placed 3 0 0 36) ≡ true)  -- INQUIRY for another LUN
+    × (opened halfway (placed 3 1 0 36) ≡ false)  -- a start
+    × (opened halfway (placed 3 0 1 36) ≡ false)  -- a block
+    × (opened halfway (placed 4 0 0 8) ≡ true)  -- READ CAPACITY
+    × (opened halfway (placed 4 1 0 8) ≡ false)  -- a start
+    × (opened halfway (placed 4 0 1 8) ≡ false)  -- a block
+    × (opened halfway (placed 5 0 0 18) ≡ true)  -- REQUEST SENSE with 00/00/00
+    × (opened halfway (placed 5 1 0 18) ≡ false)  -- a start
+    × (opened halfway (placed 5 0 1 18) ≡ false)  -- a block
+    × (opened halfway (placed 6 0 0 18) ≡ true)  -- with 06/29/00
+    × (opened halfway (placed 6 1 0 18) ≡ false)  -- a start
+    × (opened halfway (placed 6 0 1 18) ≡ false)  -- a block
+    × (opened halfway (placed 7 0 0 18) ≡ true)  -- with 06/2F/00
+    × (opened halfway (placed 7 1 0 18) ≡ false)  -- a start
+    × (opened halfway (placed 7 0 1 18) ≡ false)  -- a block
+    × (opened halfway (placed 8 0 0 18) ≡ true)  -- with 05/25/00
+    × (opened halfway (placed 8 1 0 18) ≡ false)  -- a start
+    × (opened halfway (placed 8 0 1 18) ≡ false)  -- a block
+unfolding wellFormed setupRules setupOf ownOf validAddress setupPasses paramsOf verdictOf sizeFails zeroName loginFine usedFine flagsFine addressFine paramsFine exchangeFine wantedFits readFits madeFits sentFits apartId apartAddress
+made-clauses = (refl, refl, refl, refl, refl, refl, refl, refl, refl, refl, refl, refl, refl, refl, refl, refl, refl, refl, refl, refl, refl)
 
 -- "with bytes sent at most its total and, short of it, a whole number of full frames", and the count of the data frames sent
 pub sent-clauses :
@@ -242,5 +272,5 @@ pub sent-clauses :
     × (large 65535 33553920 16777216 0 ≡ true)  -- "going round at 65,536": 65,536 frames sent
     × (large 65535 33553920 33553920 65534 ≡ true)  -- and 131,070
     × (large 65535 33553920 33553920 65535 ≡ false)  -- one more
-unfolding wellFormed setupRules setupOf ownOf validAddress setupPasses paramsOf verdictOf sizeFails zeroName loginFine usedFine flagsFine addressFine paramsFine exchangeFine wantedFits readFits sentFits apartId apartAddress
+unfolding wellFormed setupRules setupOf ownOf validAddress setupPasses paramsOf verdictOf sizeFails zeroName loginFine usedFine flagsFine addressFine paramsFine exchangeFine wantedFits readFits madeFits sentFits apartId apartAddress
 sent-clauses = (refl, refl, refl, refl, refl, refl, refl, refl, refl, refl, refl, refl, refl, refl)

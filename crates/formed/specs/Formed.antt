@@ -40,13 +40,20 @@ unfoldable pub readFits : Unit → Exchange → Bool
 readFits u e =
     leb 1 (e .blocks) && leb (e .blocks) 65535 && eqb (e .wanted) (512 * e .blocks) && ltb (e .start) (u .capacity) && leb (e .start + e .blocks) (u .capacity)
 
--- "Wanted: .. 18 or byte 4 if smaller ..; 36 or byte 4 if smaller ..; 8; count × 512": what a command of the exchange's kind wants, and there is no other kind
-unfoldable pub wantedFits : Unit → Exchange → Bool
-wantedFits u e =
-    cond (eqb (e .kind) kindRead) (readFits u e)
-    (cond (leb (e .kind) kindInquiryOther) (leb 1 (e .wanted) && leb (e .wanted) 36)
+-- "Wanted: .. 18 or byte 4 if smaller ..; 36 or byte 4 if smaller ..; 8": what a command of the exchange's kind wants of made data, and there is no other kind
+abbrev pub madeWants : Exchange → Bool
+madeWants e =
+    cond (leb (e .kind) kindInquiryOther) (leb 1 (e .wanted) && leb (e .wanted) 36)
     (cond (eqb (e .kind) kindCapacity) (eqb (e .wanted) 8)
-    (leb (e .kind) kindSenseOther && leb 1 (e .wanted) && leb (e .wanted) 18)))
+    (leb (e .kind) kindSenseOther && leb 1 (e .wanted) && leb (e .wanted) 18))
+
+-- "each exchange is one an accepted command could open": only READ(10) names blocks, so start and blocks of every other are 0
+unfoldable pub madeFits : Exchange → Bool
+madeFits e = eqb (e .start) 0 && eqb (e .blocks) 0 && madeWants e
+
+-- a READ, or an exchange of made data
+unfoldable pub wantedFits : Unit → Exchange → Bool
+wantedFits u e = cond (eqb (e .kind) kindRead) (readFits u e) (madeFits e)
 
 -- "each exchange is one an accepted command could open"
 abbrev pub openable : Unit → Exchange → Bool

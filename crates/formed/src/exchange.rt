@@ -11,7 +11,7 @@ ghost use Prim.Native.Nat.{_≤_, _<_};
 ghost use mathlib.Core.Bool.{_&&_};
 ghost use mathlib.Core.List.{map};
 ghost use lib.Dec.{leb};
-ghost use Rattle.formed.specs.Formed.{fullFrame, total, readFits, wantedFits, sentFits, exchangeFine};
+ghost use Rattle.formed.specs.Formed.{fullFrame, total, readFits, madeFits, wantedFits, sentFits, exchangeFine};
 ghost use Rattle.formed.specs.Keys.{exchangeKey};
 
 // The bytes of a full data frame to a login of this W18 size.
@@ -56,11 +56,14 @@ fn read_fits(u: Unit, e: Exchange) -> bool
     }
 }
 
-fn wanted_fits(u: Unit, e: Exchange) -> bool
-    ensures { λ r. ⌜ r ≡ wantedFits u e ⌝ }
+fn made_fits(e: Exchange) -> bool
+    ensures { λ r. ⌜ r ≡ madeFits e ⌝ }
 {
-    if e.kind == Exchange::READ {
-        return read_fits(u, e);
+    if e.start != 0 {
+        return false;
+    }
+    if e.blocks != 0 {
+        return false;
     }
     if e.kind <= Exchange::INQUIRY_OTHER_UNIT {
         return within(e.wanted, 36);
@@ -72,6 +75,16 @@ fn wanted_fits(u: Unit, e: Exchange) -> bool
         within(e.wanted, 18)
     } else {
         false
+    }
+}
+
+fn wanted_fits(u: Unit, e: Exchange) -> bool
+    ensures { λ r. ⌜ r ≡ wantedFits u e ⌝ }
+{
+    if e.kind == Exchange::READ {
+        read_fits(u, e)
+    } else {
+        made_fits(e)
     }
 }
 

@@ -20,7 +20,7 @@ use Rattle.state.specs.Kinds.{kindRead, kindInquiryOther, kindCapacity, kindSen
 use Rattle.state.specs.Tables.{hasId, lookupOf}
 use Rattle.state.proofs.Places.{open-has, exchange-stored, login-stored, lookup-same, login-twice, exchange-twice}
 use Rattle.formed.specs.Formed.{fullFrame, total, nextBytes, framesOf, wantedFits, wellFormed}
-use Rattle.formed.proofs.Advance.{Reads, is-read, sent-within, no-frames, frames-then, then-sent}
+use Rattle.formed.proofs.Advance.{Reads, is-read, is-made, sent-within, no-frames, frames-then, then-sent}
 use Rattle.residual.specs.Residual.{residualOf}
 use Rattle.reply.specs.declared.DataFrame.{DataFrame}
 use Rattle.reply.specs.declared.Response.{Response}
@@ -202,9 +202,9 @@ made-case false true kind n x y z lx ly lz h = let m : n ≡ 8 = eqb-true n 8 h 
 made-case false false kind n x y z lx ly lz h = let m : n ≤ 18 = leb-true n 18 (and-right (leb kind kindSenseOther && leb 1 n) (leb n 18) h) in omega arith
 
 made-enough : (u : Unit) (e : Exchange) → length (u .identity) ≡ 28 → eqb (e .kind) kindRead ≡ false → wantedFits u e ≡ true → total e ≤ length (madeBytes u (e .kind))
-unfolding wantedFits madeBytes inquiryBytes capacityBytes senseBytes
+unfolding madeBytes inquiryBytes capacityBytes senseBytes
 made-enough u e long other h =
-    let m = made-case (leb (e .kind) kindInquiryOther) (eqb (e .kind) kindCapacity) (e .kind) (e .wanted) (inquiryBytes (u .identity) (e .kind)) (capacityBytes (u .capacity)) (senseBytes (senseOf (e .kind))) (rw long) refl refl (rw other at h) in
+    let m = made-case (leb (e .kind) kindInquiryOther) (eqb (e .kind) kindCapacity) (e .kind) (e .wanted) (inquiryBytes (u .identity) (e .kind)) (capacityBytes (u .capacity)) (senseBytes (senseOf (e .kind))) (rw long) refl refl (is-made u e other h) in
     omega arith
 
 -- the same of made data: all frames of an INQUIRY, a READ CAPACITY or a REQUEST SENSE

@@ -43,7 +43,7 @@ impl Drive {
         None
     }
 
-    /// "each exchange is one an accepted command could open"
+    /// "each exchange is one an accepted command could open". Only READ(10) has an address and a count: of made data `Source` holds neither.
     fn could_open(&self, e: &Exchange) -> bool {
         let sense = |attention| match attention {
             Attention::None => [0, 0],
