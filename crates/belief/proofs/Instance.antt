@@ -27,10 +27,12 @@ use Rattle.drive.specs.Others as calls
 use Rattle.drive.proofs.Made.{event-answered}
 use Rattle.drive.proofs.Keeping.{frame-kept, next-frame-kept, event-fine}
 use Rattle.drive.proofs.Others.{others-record, own-record}
-use Rattle.belief.specs.Side.{Held, Laws}
+use Rattle.belief.specs.Host.{none, other}
+use Rattle.belief.specs.Side.{Held, Unasked, Laws}
 use Rattle.belief.specs.Demand3.{Demand3}
-use Rattle.belief.specs.Wire.{Others, frame, answer, next, others, Ending, power-on, time-over, afterEnding, ends, theDrive}
+use Rattle.belief.specs.Wire.{heardNext, Others, frame, answer, next, others, Ending, power-on, time-over, afterEnding, ends, theDrive}
 use Rattle.belief.proofs.Keep.{demand3}
+use Rattle.belief.proofs.Heard.{own-heard, others-unheard}
 use Rattle.belief.proofs.Takes.{host-takes}
 
 -- a next frame comes out only where there is a login
@@ -48,6 +50,16 @@ sent-held d a x start W room = by (shortBuffer room) (wellFormed (d .unit) (d .p
     by false true e =
         let m = next-only (d .unit) (d .port) a x start W e in
         found-held (d .port) a (m .i) (open-place (d .port) a x (m .i) (m .j) (m .stands))
+
+-- a next frame is heard where one comes out, and changes no record
+given-unasked : (t : Bool) (r r′ : Record) → (t ≡ true → Held r) → r′ ≡ r → Unasked r (cond t other none) r′
+given-unasked true r r′ h e = (h refl, e)
+given-unasked false r r′ h e = e
+
+call-unasked : (a : ℕ) (d : Drive) → wellFormed (d .unit) (d .port) ≡ true → (x start : ℕ) (W l : List ℕ)
+    → Unasked (recordOf (d .port) a) (heardNext a d a x start W l) (recordOf (nextFrame d a x start W (length l) .drive .port) a)
+call-unasked a d w x start W l =
+    rw (own-heard a d w x start W l) (given-unasked (isSent (nextFrame d a x start W (length l) .said)) _ _ (sent-held d a x start W (length l)) (own-record d a x start W (length l)))
 
 -- whatever other ports send, and whatever is sent to them, this host's record stays
 pass-record : (a : ℕ) (d : Drive) (x : Others a) → wellFormed (d .unit) (d .port) ≡ true → recordOf (others d x .port) a ≡ recordOf (d .port) a
@@ -93,9 +105,8 @@ drive-laws a =
       reset-wf = λ d w. event-fine d LoopReset w;
       lapse-wf = λ d x w. ending-fine d x w;
       takes = λ d f w. host-takes a d w (f .bytes) (f .buffer) (f .request) (f .makes);
-      calls = λ d c w. own-record d a (c .ox) (c .start) (c .window) (length (c .buffer));
-      speaks-held = λ d c w e. sent-held d a (c .ox) (c .start) (c .window) (length (c .buffer)) e;
-      passes = λ d x w. pass-record a d x w;
+      calls = λ d c w. call-unasked a d w (c .ox) (c .start) (c .window) (c .buffer);
+      passes = λ d x w. rw (others-unheard a d w x) (pass-record a d x w);
       resets = λ d w. reset-doubts a d w;
       lapses = λ d x w. ending-record a d x w;
     }
