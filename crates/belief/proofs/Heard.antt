@@ -5,7 +5,7 @@ use mathlib.Core.Bool.{Bool, true, false, cond, not}
 use mathlib.Core.List.{List, []}
 use lib.Dec.{eqb}
 use lib.ListN.{length}
-use borrow.Author.Tests.{ltb-false, eq-eqb, ne-eqb}
+use borrow.Author.Tests.{ltb-false, eqb-true, eq-eqb, ne-eqb}
 use Rattle.frame.specs.Head.{headerOf}
 use Rattle.refusal.specs.declared.Refusal.the-variants.{ShortBuffer, IllFormed}
 use Rattle.refusal.specs.declared.Said.{Said}
@@ -22,14 +22,14 @@ use Rattle.arrival.specs.Arrival.{shortBuffer, formOf}
 use Rattle.arrival.proofs.Passes.{Passes, passes}
 use Rattle.drive.specs.declared.Drive.{Drive}
 use Rattle.drive.specs.Drive.{refused}
-use Rattle.drive.specs.Entry.{decidedIn, replyBytes, nextAnswer, nextFrame, nextFrameBuffer}
+use Rattle.drive.specs.Entry.{decidedIn, replyBytes, frameIn, nextAnswer, nextFrame, nextFrameBuffer}
 use Rattle.drive.proofs.Ways.{frame-cases}
 use Rattle.drive.proofs.Keeping.{source-valid}
 use Rattle.demands.proofs.Judges.{small-address}
 use Rattle.demands.proofs.Decoding.{named-small}
 use Rattle.demands.proofs.Refusals.{frame-refuses, frame-answers}
 use Rattle.belief.specs.Host.{none, other}
-use Rattle.belief.specs.Wire.{heardOf, heardIn, heardNext, Others, frame, answer, next, othersHeard}
+use Rattle.belief.specs.Wire.{heardOf, heardIn, heardNext, Others, frame, answer, next, elsewhere, ToOthers, othersHeard}
 use Rattle.belief.proofs.Reading.{sounds, quiet, reads}
 
 -- a next frame is data or a response
@@ -56,6 +56,12 @@ module _ (a : ℕ) (d : Drive) where
   unfolding formOf
   done-unheard f l r =
       frame-cases d f (length l) (λ _. heardIn a d f l ≡ none) (λ x i. rw (frame-refuses d f l x i .0)) (λ s. passed-heard f l s ∙ rw r (quiet (eqb (headerOf f .«s_id») a) false))
+
+  -- a frame to another port is refused: nothing is heard of it, and nothing changes
+  pub elsewhere-refused : (f l : List ℕ) → (headerOf f .«d_id» ≡ d .port .address → ⊥) → (frameIn d f (length l) .drive ≡ d) × (heardIn a d f l ≡ none)
+  elsewhere-refused f l n =
+      frame-cases d f (length l) (λ r. (r .drive ≡ d) × (heardIn a d f l ≡ none)) (λ x i. (refl, rw (frame-refuses d f l x i .0)))
+      (λ s. absurd (n (eqb-true (headerOf f .«d_id») (d .port .address) (s .here))))
 
   module _ (w : wellFormed (d .unit) (d .port) ≡ true) (b x start : ℕ) (W l : List ℕ) where
     -- what is heard of a call for the next frame to address b
@@ -89,8 +95,9 @@ module _ (a : ℕ) (d : Drive) where
 pub own-heard : (a : ℕ) (d : Drive) (w : wellFormed (d .unit) (d .port) ≡ true) (x start : ℕ) (W l : List ℕ) → heardNext a d a x start W l ≡ cond (isSent (nextFrame d a x start W (length l) .said)) other none
 own-heard a d w x start W l = next-heard a d w a x start W l ∙ rw (eq-eqb a a refl)
 
--- nothing that another port's call draws is heard by the host
-pub others-unheard : (a : ℕ) (d : Drive) → wellFormed (d .unit) (d .port) ≡ true → (x : Others a) → othersHeard d x ≡ none
-others-unheard a d w (frame f l known n) = frame-unheard a d f l n
-others-unheard a d w (answer f l known r) = done-unheard a d f l r
-others-unheard a d w (next b x start W l n) = next-unheard a d w b x start W l n
+-- nothing that another port's call draws is heard by the host, nor that its own frame to another port draws
+pub others-unheard : (a : ℕ) (d : Drive) → wellFormed (d .unit) (d .port) ≡ true → (x : Others a) → ToOthers d x → othersHeard d x ≡ none
+others-unheard a d w (frame f l known n) m = frame-unheard a d f l n
+others-unheard a d w (answer f l known r) m = done-unheard a d f l r
+others-unheard a d w (next b x start W l n) m = next-unheard a d w b x start W l n
+others-unheard a d w (elsewhere f l) m = elsewhere-refused a d f l m .1

@@ -83,9 +83,9 @@ module _ (D : Side) (demand : Demand3 D) where
 
   -- One that sends a host that is logged in a LOGO which it did not ask for, say in answer to another port's command, is kept out: where the LOGO is lost the login must stand, where it arrives it must not.
   pub demand-no-logo : (s : D .State) (f : D .Sent) (l : Kept) (x : D .Else) → D .Wf s →
-      D .asks f ≡ plogi l → D .answer s f ≡ acc → D .says (D .take s f) x ≡ dlogo → ⊥
-  demand-no-logo s f l x k q a e =
+      D .asks f ≡ plogi l → D .answer s f ≡ acc → D .Aside (D .take s f) x → D .says (D .take s f) x ≡ dlogo → ⊥
+  demand-no-logo s f l x k q a m e =
       let r = D .login (D .pass (D .take s f) x) in
-      let lost : held false true l ≡ r = then-fine s f l (pass x false) k q a tt refl in
-      let arrived : out ≡ r = subst (λ (y : Answer). Agrees (received y (sure (held false true l))) r) e (then-fine s f l (pass x true) k q a tt refl) in
+      let lost : held false true l ≡ r = then-fine s f l (pass x false) k q a m refl in
+      let arrived : out ≡ r = subst (λ (y : Answer). Agrees (received y (sure (held false true l))) r) e (then-fine s f l (pass x true) k q a m refl) in
       subst Held (lost ∙ sym arrived) tt

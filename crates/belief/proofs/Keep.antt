@@ -8,7 +8,7 @@ use Rattle.link.specs.Record.{Kept, Record, out, held, proved, paired, unpaired
 use Rattle.belief.specs.Host.{Belief, unsure, sure, Request, plogi, pdisc, logo, adisc, prli, prlo, rrq, command, abts}
 use Rattle.belief.specs.Host.{Answer, none, acc, rjt, dlogo, other, same, think, May, MayOut, hears, afterPlogi, afterLogo, afterLink, received}
 use Rattle.belief.specs.Side.{Side, Laws, Held, Paired, OnPlogi, OnLogo, OnLink, OnCommand, Meets, Unasked}
-use Rattle.belief.specs.Demand3.{Fate, lost, mute, heard, Event, send, next, pass, reset, lapse, forget, World, sees, arrives, step, run, Follows, Keeps, loss, Free, NoLapse, Agrees, Fine, some, reachesHost, start, History, Demand3}
+use Rattle.belief.specs.Demand3.{Fate, lost, mute, heard, Event, send, next, pass, foreign, reset, lapse, forget, World, sees, arrives, step, run, Follows, Keeps, loss, Free, NoLapse, Agrees, Fine, some, reachesHost, start, History, Demand3}
 
 -- The invariant. d: a loss of memory may have come since the last frame that reached the host.
 abbrev Fits : Bool → Belief → Record → Type 0
@@ -243,6 +243,7 @@ free-without-lapse D [] w q = tt
 free-without-lapse D (send f x ∷ h) w q = (refl, free-without-lapse D h (step D w (send f x)) q)
 free-without-lapse D (next c b ∷ h) w q = (refl, free-without-lapse D h (step D w (next c b)) q)
 free-without-lapse D (pass x b ∷ h) w q = (refl, free-without-lapse D h (step D w (pass x b)) q)
+free-without-lapse D (foreign a ∷ h) w q = (refl, free-without-lapse D h w q)
 free-without-lapse D (reset ∷ h) w q = (refl, free-without-lapse D h (step D w reset) q)
 free-without-lapse D (lapse x ∷ h) w q = absurd q
 free-without-lapse D (forget ∷ h) w q = (refl, free-without-lapse D h (step D w forget) q)
@@ -274,9 +275,10 @@ module _ (D : Side) (laws : Laws D) where
     fits = on-unasked b (D .speaks (w .drive) c) d (w .belief) (D .login (w .drive)) (D .login (D .call (w .drive) c)) (laws .calls (w .drive) c (g .formed)) (g .fits);
   }
   stepped (pass x b) d w m g = record {
-    formed = laws .pass-wf (w .drive) x (g .formed);
-    fits = on-unasked b (D .says (w .drive) x) d (w .belief) (D .login (w .drive)) (D .login (D .pass (w .drive) x)) (laws .passes (w .drive) x (g .formed)) (g .fits);
+    formed = laws .pass-wf (w .drive) x (g .formed) m;
+    fits = on-unasked b (D .says (w .drive) x) d (w .belief) (D .login (w .drive)) (D .login (D .pass (w .drive) x)) (laws .passes (w .drive) x (g .formed) m) (g .fits);
   }
+  stepped (foreign a) d w m g = g
   stepped reset d w m g = record {
     formed = laws .reset-wf (w .drive) (g .formed);
     fits = after-reset d (w .belief) (D .login (w .drive)) (D .login (D .reset (w .drive))) (laws .resets (w .drive) (g .formed)) (g .fits);
@@ -329,6 +331,7 @@ module _ (D : Side) (laws : Laws D) where
   wake (send f y) w x u v = wakes (D .asks f) (sees y (D .answer (w .drive) f)) (w .belief) x u v
   wake (next c b) w x u v = wakes-unasked (arrives b (D .speaks (w .drive) c)) (w .belief) x u v
   wake (pass y b) w x u v = wakes-unasked (arrives b (D .says (w .drive) y)) (w .belief) x u v
+  wake (foreign a) w x u v = absurd (awake (w .belief) x u v)
   wake reset w x u v = absurd (awake (think doubted (w .belief)) x (ap (think doubted) u) v)
   wake (lapse y) w x u v = absurd (awake (w .belief) x u v)
   wake forget w x u v = absurd (awake unsure x refl v)

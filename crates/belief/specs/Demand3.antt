@@ -16,6 +16,8 @@ pub data Event (D : Side) : Type 0 where
   -- a next frame for this host is called for, or else is called; what that leaves for the host the loop delivers (true) or loses (false)
   next : D .Call → Bool → Event D
   pass : D .Else → Bool → Event D
+  -- a frame of another port reaches the host, whatever it sounds like
+  foreign : Answer → Event D
   reset : Event D
   lapse : D .Lapse → Event D
   -- the host grows unsure of itself
@@ -45,6 +47,8 @@ abbrev pub step : (D : Side) → World D → Event D → World D
 step D w (send f x) = record { drive = lands D x (w .drive) f; belief = hears (D .asks f) (sees x (D .answer (w .drive) f)) (w .belief) }
 step D w (next c b) = record { drive = D .call (w .drive) c; belief = received (arrives b (D .speaks (w .drive) c)) (w .belief) }
 step D w (pass x b) = record { drive = D .pass (w .drive) x; belief = received (arrives b (D .says (w .drive) x)) (w .belief) }
+-- "all from other ports, change nothing"
+step D w (foreign a) = w
 step D w reset = record { drive = D .reset (w .drive); belief = think doubted (w .belief) }
 step D w (lapse x) = record { drive = D .lapse (w .drive) x; belief = w .belief }
 step D w forget = record { drive = w .drive; belief = unsure }
@@ -57,7 +61,8 @@ run D w (e ∷ h) = run D (step D w e) h
 abbrev pub Follows : (D : Side) → World D → Event D → Type 0
 Follows D w (send f x) = May (w .belief) (D .asks f)
 Follows D w (next c b) = Unit {0}
-Follows D w (pass x b) = Unit {0}
+Follows D w (pass x b) = D .Aside (w .drive) x
+Follows D w (foreign a) = Unit {0}
 Follows D w reset = Unit {0}
 Follows D w (lapse x) = Unit {0}
 Follows D w forget = Unit {0}
@@ -71,6 +76,7 @@ abbrev pub loss : (D : Side) → World D → Event D → Bool
 loss D w (send f x) = false
 loss D w (next c b) = false
 loss D w (pass x b) = false
+loss D w (foreign a) = false
 loss D w reset = false
 loss D w (lapse x) = D .loses (w .drive) x
 loss D w forget = false
@@ -86,6 +92,7 @@ NoLapse D [] = Unit {0}
 NoLapse D (send f x ∷ h) = NoLapse D h
 NoLapse D (next c b ∷ h) = NoLapse D h
 NoLapse D (pass x b ∷ h) = NoLapse D h
+NoLapse D (foreign a ∷ h) = NoLapse D h
 NoLapse D (reset ∷ h) = NoLapse D h
 NoLapse D (lapse x ∷ h) = ⊥
 NoLapse D (forget ∷ h) = NoLapse D h
@@ -110,6 +117,7 @@ abbrev pub gets : (D : Side) → World D → Event D → Answer
 gets D w (send f x) = sees x (D .answer (w .drive) f)
 gets D w (next c b) = arrives b (D .speaks (w .drive) c)
 gets D w (pass x b) = arrives b (D .says (w .drive) x)
+gets D w (foreign a) = none
 gets D w reset = none
 gets D w (lapse x) = none
 gets D w forget = none

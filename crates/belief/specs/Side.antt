@@ -20,8 +20,10 @@ pub record Side : Type 1 where
   pub Call : Type 0
   pub speaks : State → Call → Answer
   pub call : State → Call → State
-  -- all that else may happen: frames of other ports, next frames to other ports, calls of every kind that are refused; what this host is to hear of it, since a drive may send to whom it likes; the next state
+  -- all that else may happen: frames of other ports, frames to other ports, next frames to these, calls of every kind that are refused
   pub Else : Type 0
+  -- that it is none of the host's requests to the drive; what the host is to hear of it, since a drive may send to whom it likes; the next state
+  pub Aside : State → Else → Type 0
   pub says : State → Else → Answer
   pub pass : State → Else → State
   pub reset : State → State
@@ -90,14 +92,14 @@ Unasked r other r′ = Held r × (r′ ≡ r)
 pub record Laws (D : Side) : Type 0 where
   pub take-wf : (s : D .State) (f : D .Sent) → D .Wf s → D .Wf (D .take s f)
   pub call-wf : (s : D .State) (c : D .Call) → D .Wf s → D .Wf (D .call s c)
-  pub pass-wf : (s : D .State) (x : D .Else) → D .Wf s → D .Wf (D .pass s x)
+  pub pass-wf : (s : D .State) (x : D .Else) → D .Wf s → D .Aside s x → D .Wf (D .pass s x)
   pub reset-wf : (s : D .State) → D .Wf s → D .Wf (D .reset s)
   pub lapse-wf : (s : D .State) (x : D .Lapse) → D .Wf s → D .Wf (D .lapse s x)
   -- a frame of the host
   pub takes : (s : D .State) (f : D .Sent) → D .Wf s → Meets (D .login s) (D .asks f) (D .answer s f) (D .login (D .take s f))
   -- a next frame, and all else
   pub calls : (s : D .State) (c : D .Call) → D .Wf s → Unasked (D .login s) (D .speaks s c) (D .login (D .call s c))
-  pub passes : (s : D .State) (x : D .Else) → D .Wf s → Unasked (D .login s) (D .says s x) (D .login (D .pass s x))
+  pub passes : (s : D .State) (x : D .Else) → D .Wf s → D .Aside s x → Unasked (D .login s) (D .says s x) (D .login (D .pass s x))
   pub resets : (s : D .State) → D .Wf s → D .login (D .reset s) ≡ doubted (D .login s)
   -- a loss of memory ends the login, and what is none leaves the record as it was
   pub lapses : (s : D .State) (x : D .Lapse) → D .Wf s → D .login (D .lapse s x) ≡ cond (D .loses s x) out (D .login s)

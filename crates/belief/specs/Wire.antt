@@ -74,22 +74,32 @@ pub record ForHost : Type 0 where
   pub window : List ℕ
   pub buffer : List ℕ
 
--- what else happens: "other ports sending what they like" under other addresses, next frames to these, and answers (23h) of any port
+-- what else happens: "other ports sending what they like" under other addresses, next frames to these, answers (23h) of any port, and frames to other ports, of this host too
 pub data Others (a : ℕ) : Type 0 where
   frame : (f buffer : List ℕ) → AllBytes f → (headerOf f .«s_id» ≡ a → ⊥) → Others a
   answer : (f buffer : List ℕ) → AllBytes f → headerOf f .«r_ctl» ≡ 0x23 → Others a
   next : (b ox start : ℕ) (window buffer : List ℕ) → (b ≡ a → ⊥) → Others a
+  elsewhere : (f buffer : List ℕ) → Others a
+
+-- a frame to another port has another D_ID than the drive's address
+abbrev pub ToOthers : {a : ℕ} → Drive → Others a → Type 0
+ToOthers d (frame f l k n) = Unit {0}
+ToOthers d (answer f l k r) = Unit {0}
+ToOthers d (next b x start W l n) = Unit {0}
+ToOthers d (elsewhere f l) = headerOf f .«d_id» ≡ d .port .address → ⊥
 
 abbrev pub others : {a : ℕ} → Drive → Others a → Drive
 others d (frame f l k n) = frameIn d f (length l) .drive
 others d (answer f l k r) = frameIn d f (length l) .drive
 others d (next b x start W l n) = nextFrame d b x start W (length l) .drive
+others d (elsewhere f l) = frameIn d f (length l) .drive
 
 -- what the host hears of it
 abbrev pub othersHeard : {a : ℕ} → Drive → Others a → Answer
 othersHeard {a} d (frame f l k n) = heardIn a d f l
 othersHeard {a} d (answer f l k r) = heardIn a d f l
 othersHeard {a} d (next b x start W l n) = heardNext a d b x start W l
+othersHeard {a} d (elsewhere f l) = heardIn a d f l
 
 -- the events that end logins: "until the drive powers on or its verification time runs out"
 pub data Ending : Type 0 where
@@ -120,6 +130,7 @@ theDrive a =
       speaks = λ d c. heardNext a d a (c .ox) (c .start) (c .window) (c .buffer);
       call = λ d c. nextFrame d a (c .ox) (c .start) (c .window) (length (c .buffer)) .drive;
       Else = Others a;
+      Aside = ToOthers;
       says = othersHeard;
       pass = others;
       reset = λ d. eventAnswer d LoopReset .drive;
