@@ -9,7 +9,6 @@ use borrow.Author.Tests.{ltb-false, eqb-true, eq-eqb, ne-eqb}
 use Rattle.frame.specs.Head.{headerOf}
 use Rattle.refusal.specs.declared.Refusal.the-variants.{ShortBuffer, IllFormed}
 use Rattle.refusal.specs.declared.Said.{Said}
-use Rattle.state.specs.declared.Exchange.{Exchange}
 use Rattle.state.specs.Changes.{ownOf}
 use Rattle.formed.specs.Formed.{wellFormed}
 use Rattle.serve.specs.Next.{hasMore, nextReply, sourceOf, askedBy, exchangeOf, fullOf, Step, Refused, Frame, stepOf, frameBytes, nextAt, nextOf, bufferAt, nextBuffer}

@@ -5,3 +5,4 @@ pub mod Heard
 pub mod Takes
 pub mod Instance
 pub mod Histories
+pub mod Marked
