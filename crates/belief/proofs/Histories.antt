@@ -47,7 +47,7 @@ sentKept = keptFrom (paramsOf (plogi 0x01 2048) 28)
 abbrev pub buffer : List ℕ
 buffer = replicate 2136 0x5a
 
-pub logs-in : FromHost 0x01
+unfoldable pub logs-in : FromHost 0x01
 unfolding headerOf headerBytes
 logs-in =
     record {
@@ -58,7 +58,7 @@ logs-in =
       makes = (record { form = record { routing = refl; source = refl }; coded = refl; sized = refl }, refl);
     }
 
-pub pairs : FromHost 0x01
+unfoldable pub pairs : FromHost 0x01
 unfolding headerOf headerBytes
 pairs =
     record {
@@ -70,7 +70,7 @@ pairs =
     }
 
 -- TEST UNIT READY
-pub asks : FromHost 0x01
+unfoldable pub asks : FromHost 0x01
 unfolding headerOf headerBytes
 asks =
     record {

@@ -4,9 +4,9 @@ use mathlib.Core.Path.{_≡_, refl, sym, _∙_, ap, subst}
 use mathlib.Core.Bool.{true, false}
 use mathlib.Core.List.{[], _∷_}
 use Rattle.link.specs.Record.{Kept, out, held}
-use Rattle.belief.specs.Host.{Belief, unsure, sure, Request, plogi, logo, Answer, acc, rjt, MayOut, hears}
+use Rattle.belief.specs.Host.{Belief, unsure, sure, Request, plogi, logo, Answer, acc, rjt, dlogo, MayOut, hears, received}
 use Rattle.belief.specs.Side.{Side, Laws, Held, OnPlogi, OnLogo, Meets}
-use Rattle.belief.specs.Demand3.{send, heard, lapse, some, Agrees, Demand3}
+use Rattle.belief.specs.Demand3.{Event, send, pass, heard, lapse, World, step, Follows, loss, Agrees, Fine, some, Demand3}
 
 module _ (D : Side) (laws : Laws D) where
   -- the record after an accepted PLOGI, and after an accepted LOGO
@@ -62,11 +62,30 @@ module _ (D : Side) (demand : Demand3 D) where
       D .asks f ≡ plogi l → D .answer s f ≡ rjt → D .login (D .take s f) ≡ D .login s → ⊥
   demand-drops-old s f l k h q a e = subst Sure-held (ap sure (sym e) ∙ sym (answered s f (plogi l) rjt k q a tt refl)) h
 
+  -- an accepted PLOGI from the start, and one event more that is no loss of memory
+  abbrev logged : D .State → D .Sent → Belief → World D
+  logged s f b = record { drive = D .take s f; belief = b }
+
+  then-fine : (s : D .State) (f : D .Sent) (l : Kept) (e : Event D) → D .Wf s → D .asks f ≡ plogi l → D .answer s f ≡ acc →
+      Follows D (logged s f (sure (held false true l))) e → loss D (logged s f (sure (held false true l))) e ≡ false → Fine D (step D (logged s f (sure (held false true l))) e)
+  then-fine s f l e k q a m n =
+      let m′ : MayOut (D .asks f) = subst MayOut (sym q) tt in
+      let b : hears (D .asks f) (D .answer s f) unsure ≡ sure (held false true l) = ap (λ (y : Request). hears y (D .answer s f) unsure) q ∙ ap (λ (y : Answer). hears (plogi l) y unsure) a in
+      let m₂ = subst (λ (y : Belief). Follows D (logged s f y) e) (sym b) m in
+      let n₂ = subst (λ (y : Belief). loss D (logged s f y) e ≡ false) (sym b) n in
+      subst (λ (y : Belief). Fine D (step D (logged s f y) e)) b
+      (demand .sure-until s [] (send f heard) (e ∷ []) (held false true l) (record { formed = k; first = tt; then = m′; last = (m₂, tt) }) refl b (n₂, tt))
+
   -- What is no loss of memory leaves the login of an accepted PLOGI: a drive that ends it then is kept out too.
   pub demand-remembers : (s : D .State) (f : D .Sent) (l : Kept) (x : D .Lapse) → D .Wf s →
       D .asks f ≡ plogi l → D .answer s f ≡ acc → D .loses (D .take s f) x ≡ false → held false true l ≡ D .login (D .lapse (D .take s f) x)
-  demand-remembers s f l x k q a n =
-      let m : MayOut (D .asks f) = subst MayOut (sym q) tt in
-      let b : hears (D .asks f) (D .answer s f) unsure ≡ sure (held false true l) = ap (λ (y : Request). hears y (D .answer s f) unsure) q ∙ ap (λ (y : Answer). hears (plogi l) y unsure) a in
-      subst (λ (y : Belief). Agrees y (D .login (D .lapse (D .take s f) x))) b
-      (demand .sure-until s [] (send f heard) (lapse x ∷ []) (held false true l) (record { formed = k; first = tt; then = m; last = (tt, tt) }) refl b (n, tt))
+  demand-remembers s f l x k q a n = then-fine s f l (lapse x) k q a tt n
+
+  -- One that sends a host that is logged in a LOGO which it did not ask for, say in answer to another port's command, is kept out: where the LOGO is lost the login must stand, where it arrives it must not.
+  pub demand-no-logo : (s : D .State) (f : D .Sent) (l : Kept) (x : D .Else) → D .Wf s →
+      D .asks f ≡ plogi l → D .answer s f ≡ acc → D .Aside (D .take s f) x → D .says (D .take s f) x ≡ dlogo → ⊥
+  demand-no-logo s f l x k q a m e =
+      let r = D .login (D .pass (D .take s f) x) in
+      let lost : held false true l ≡ r = then-fine s f l (pass x false) k q a m refl in
+      let arrived : out ≡ r = subst (λ (y : Answer). Agrees (received y (sure (held false true l))) r) e (then-fine s f l (pass x true) k q a m refl) in
+      subst Held (lost ∙ sym arrived) tt

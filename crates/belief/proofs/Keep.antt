@@ -6,9 +6,9 @@ use mathlib.Core.List.{List, [], _∷_}
 use mathlib.Core.Logic.{_⊎_, inl, inr}
 use Rattle.link.specs.Record.{Kept, Record, out, held, proved, paired, unpaired, doubted}
 use Rattle.belief.specs.Host.{Belief, unsure, sure, Request, plogi, pdisc, logo, adisc, prli, prlo, rrq, command, abts}
-use Rattle.belief.specs.Host.{Answer, none, acc, rjt, dlogo, other, same, think, May, MayOut, hears, afterPlogi, afterLogo, afterLink, afterCommand}
-use Rattle.belief.specs.Side.{Side, Laws, Held, Paired, OnPlogi, OnLogo, OnLink, OnCommand, Meets}
-use Rattle.belief.specs.Demand3.{Fate, lost, mute, heard, Event, send, next, pass, reset, lapse, forget, World, sees, step, run, Follows, Keeps, loss, Free, NoLapse, Agrees, Fine, both, some, reachesHost, start, History, Demand3}
+use Rattle.belief.specs.Host.{Answer, none, acc, rjt, dlogo, other, same, think, May, MayOut, hears, afterPlogi, afterLogo, afterLink, received}
+use Rattle.belief.specs.Side.{Side, Laws, Held, Paired, OnPlogi, OnLogo, OnLink, OnCommand, Meets, Unasked}
+use Rattle.belief.specs.Demand3.{Fate, lost, mute, heard, Event, send, next, pass, foreign, reset, lapse, forget, World, sees, arrives, step, run, Follows, Keeps, loss, Free, NoLapse, Agrees, Fine, some, reachesHost, start, History, Demand3}
 
 -- The invariant. d: a loss of memory may have come since the last frame that reached the host.
 abbrev Fits : Bool → Belief → Record → Type 0
@@ -46,11 +46,13 @@ module _ where
   moved d (sure x) r r′ e (inr p) = inr (p .0, e ∙ p .1)
 
   -- where there is a login, memory was not lost
-  firm : (t d : Bool) (b : Belief) (r : Record) → (t ≡ true → Held r) → Fits d b r → Fits (clear t d) b r
-  firm false d b r h p = p
-  firm true d unsure r h p = tt
-  firm true d (sure x) r h (inl p) = inl p
-  firm true d (sure x) r h (inr p) = absurd (no-login r (p .1) (h refl))
+  firm : (d : Bool) (b : Belief) (r : Record) → Held r → Fits d b r → Fits false b r
+  firm d unsure r h p = tt
+  firm d (sure x) r h (inl p) = inl p
+  firm d (sure x) r h (inr p) = absurd (no-login r (p .1) h)
+
+  to-held : (d : Bool) (b : Belief) (r r′ : Record) → Held r × (r′ ≡ r) → Fits d b r → Fits false b r′
+  to-held d b r r′ h p = moved false b r r′ (h .1) (firm d b r (h .0) p)
 
   on-plogi : (l : Kept) (a : Answer) (d : Bool) (b : Belief) (r r′ : Record) → OnPlogi l a r′ → Fits (clear (some a) d) (afterPlogi l a b) r′
   on-plogi l none d b r r′ h = tt
@@ -74,17 +76,17 @@ module _ where
   on-link : (f : Record → Record) (a : Answer) (d : Bool) (b : Belief) (r r′ : Record) → OnLink f r a r′ → Fits d b r → Fits (clear (some a) d) (afterLink f a b) r′
   on-link f none d b r r′ h p = tt
   on-link f acc d b r r′ h p = thought f d b r r′ (h .0) (h .1) p
-  on-link f rjt d b r r′ h p = moved false b r r′ (h .1) (firm true d b r (λ t. h .0) p)
+  on-link f rjt d b r r′ h p = to-held d b r r′ h p
   on-link f dlogo d b r r′ h p = let e : Fits false (sure out) r′ = inl (sym h) in e
   on-link f other d b r r′ h p = absurd h
 
   -- a host that is sure of a pairing
-  on-command : (a : Answer) (d : Bool) (x r r′ : Record) → Paired x → OnCommand r a r′ → Fits d (sure x) r → Fits (clear (some a) d) (afterCommand a (sure x)) r′
+  on-command : (a : Answer) (d : Bool) (x r r′ : Record) → Paired x → OnCommand r a r′ → Fits d (sure x) r → Fits (clear (some a) d) (received a (sure x)) r′
   on-command none d x r r′ k h p = moved d (sure x) r r′ h p
   on-command acc d x r r′ k h p = absurd h
   on-command rjt d x r r′ k h p = absurd h
   on-command dlogo d x r r′ k h p = inl (sym (h .1))
-  on-command other d x r r′ k h p = moved false (sure x) r r′ (h .1) (firm true d (sure x) r (λ t. h .0) p)
+  on-command other d x r r′ k h p = to-held d (sure x) r r′ h p
 
   -- the same, and the host gets to see no answer
   on-command-mute : (a : Answer) (d : Bool) (x r r′ : Record) → Paired x → OnCommand r a r′ → Fits d (sure x) r → Fits d (sure x) r′
@@ -109,7 +111,7 @@ module _ where
   abort (sure (held false true l)) m = m
   abort (sure (held true true l)) m = m
 
-  commanded : (a : Answer) (d : Bool) (b : Belief) (r r′ : Record) → May b command → OnCommand r a r′ → Fits d b r → Fits (clear (some a) d) (afterCommand a b) r′
+  commanded : (a : Answer) (d : Bool) (b : Belief) (r r′ : Record) → May b command → OnCommand r a r′ → Fits d b r → Fits (clear (some a) d) (received a b) r′
   commanded a d unsure r r′ m h p = absurd m
   commanded a d (sure x) r r′ m h p = on-command a d x r r′ (pairing x m) h p
 
@@ -153,6 +155,22 @@ module _ where
   request-lost command d b r p = p
   request-lost abts d b r p = p
 
+  -- a frame that the host did not ask for: it leaves the record, lost or not
+  unasked-stays : (a : Answer) (r r′ : Record) → Unasked r a r′ → r′ ≡ r
+  unasked-stays none r r′ h = h
+  unasked-stays acc r r′ h = h .1
+  unasked-stays rjt r r′ h = h .1
+  unasked-stays dlogo r r′ h = h .1 ∙ sym (h .0)
+  unasked-stays other r r′ h = h .1
+
+  on-unasked : (x : Bool) (a : Answer) (d : Bool) (b : Belief) (r r′ : Record) → Unasked r a r′ → Fits d b r → Fits (clear (some (arrives x a)) d) (received (arrives x a) b) r′
+  on-unasked false a d b r r′ h p = moved d b r r′ (unasked-stays a r r′ h) p
+  on-unasked true none d b r r′ h p = moved d b r r′ h p
+  on-unasked true acc d b r r′ h p = to-held d b r r′ h p
+  on-unasked true rjt d b r r′ h p = to-held d b r r′ h p
+  on-unasked true dlogo d b r r′ h p = let e : Fits false (sure out) r′ = inl (sym (h .1)) in e
+  on-unasked true other d b r r′ h p = to-held d b r r′ h p
+
   -- both sides see a loop reset
   after-reset : (d : Bool) (b : Belief) (r r′ : Record) → r′ ≡ doubted r → Fits d b r → Fits d (think doubted b) r′
   after-reset d unsure r r′ e p = tt
@@ -192,6 +210,13 @@ module _ where
   wakes q dlogo b x e h = refl
   wakes q other b x e h = refl
 
+  wakes-unasked : (a : Answer) (b : Belief) (x : Record) → b ≡ unsure → received a b ≡ sure x → some a ≡ true
+  wakes-unasked none b x e h = absurd (awake b x e h)
+  wakes-unasked acc b x e h = refl
+  wakes-unasked rjt b x e h = refl
+  wakes-unasked dlogo b x e h = refl
+  wakes-unasked other b x e h = refl
+
   -- an answered PLOGI or LOGO
   settles : (q : Request) (a : Answer) (b : Belief) (r r′ : Record) → MayOut q → some a ≡ true → Meets r q a r′ → hears q a b ≡ sure r′
   settles (plogi l) none b r r′ m t h = absurd (false≢true t)
@@ -212,16 +237,13 @@ module _ where
   settles command a b r r′ m t h = absurd m
   settles abts a b r r′ m t h = absurd m
 
-both-right : (b t : Bool) → both b t ≡ true → t ≡ true
-both-right true t e = e
-both-right false t e = absurd (false≢true e)
-
 -- where the drive neither powers on nor its verification time runs out, no memory is lost
 pub free-without-lapse : (D : Side) (h : List (Event D)) (w : World D) → NoLapse D h → Free D w h
 free-without-lapse D [] w q = tt
 free-without-lapse D (send f x ∷ h) w q = (refl, free-without-lapse D h (step D w (send f x)) q)
 free-without-lapse D (next c b ∷ h) w q = (refl, free-without-lapse D h (step D w (next c b)) q)
-free-without-lapse D (pass x ∷ h) w q = (refl, free-without-lapse D h (step D w (pass x)) q)
+free-without-lapse D (pass x b ∷ h) w q = (refl, free-without-lapse D h (step D w (pass x b)) q)
+free-without-lapse D (foreign a ∷ h) w q = (refl, free-without-lapse D h (step D w (foreign a)) q)
 free-without-lapse D (reset ∷ h) w q = (refl, free-without-lapse D h (step D w reset) q)
 free-without-lapse D (lapse x ∷ h) w q = absurd q
 free-without-lapse D (forget ∷ h) w q = (refl, free-without-lapse D h (step D w forget) q)
@@ -250,13 +272,13 @@ module _ (D : Side) (laws : Laws D) where
   stepped (send f x) d w m g = sent f x d w m g
   stepped (next c b) d w m g = record {
     formed = laws .call-wf (w .drive) c (g .formed);
-    fits = moved (later w d (next c b)) (w .belief) (D .login (w .drive)) (D .login (D .call (w .drive) c)) (laws .calls (w .drive) c (g .formed))
-        (firm (reachesHost D w (next c b)) d (w .belief) (D .login (w .drive)) (λ t. laws .speaks-held (w .drive) c (g .formed) (both-right b (D .speaks (w .drive) c) t)) (g .fits));
+    fits = on-unasked b (D .speaks (w .drive) c) d (w .belief) (D .login (w .drive)) (D .login (D .call (w .drive) c)) (laws .calls (w .drive) c (g .formed)) (g .fits);
   }
-  stepped (pass x) d w m g = record {
-    formed = laws .pass-wf (w .drive) x (g .formed);
-    fits = moved d (w .belief) (D .login (w .drive)) (D .login (D .pass (w .drive) x)) (laws .passes (w .drive) x (g .formed)) (g .fits);
+  stepped (pass x b) d w m g = record {
+    formed = laws .pass-wf (w .drive) x (g .formed) m;
+    fits = on-unasked b (D .says (w .drive) x) d (w .belief) (D .login (w .drive)) (D .login (D .pass (w .drive) x)) (laws .passes (w .drive) x (g .formed) m) (g .fits);
   }
+  stepped (foreign a) d w m g = g
   stepped reset d w m g = record {
     formed = laws .reset-wf (w .drive) (g .formed);
     fits = after-reset d (w .belief) (D .login (w .drive)) (D .login (D .reset (w .drive))) (laws .resets (w .drive) (g .formed)) (g .fits);
@@ -307,8 +329,9 @@ module _ (D : Side) (laws : Laws D) where
 
   wake : (e : Event D) (w : World D) (x : Record) → w .belief ≡ unsure → (step D w e) .belief ≡ sure x → reachesHost D w e ≡ true
   wake (send f y) w x u v = wakes (D .asks f) (sees y (D .answer (w .drive) f)) (w .belief) x u v
-  wake (next c b) w x u v = absurd (awake (w .belief) x u v)
-  wake (pass y) w x u v = absurd (awake (w .belief) x u v)
+  wake (next c b) w x u v = wakes-unasked (arrives b (D .speaks (w .drive) c)) (w .belief) x u v
+  wake (pass y b) w x u v = wakes-unasked (arrives b (D .says (w .drive) y)) (w .belief) x u v
+  wake (foreign a) w x u v = absurd (awake (w .belief) x u v)
   wake reset w x u v = absurd (awake (think doubted (w .belief)) x (ap (think doubted) u) v)
   wake (lapse y) w x u v = absurd (awake (w .belief) x u v)
   wake forget w x u v = absurd (awake unsure x refl v)

@@ -1,7 +1,7 @@
--- What the host reads off the front of the buffer is the kind of the reply. Assumes nothing.
+-- What the host reads off the front of the buffer is the kind of the reply, and whom it is for the sender that it answers. Assumes nothing.
 use Prim.Native.Nat.{ℕ, _+_, _≤_, _<_}
 use mathlib.Core.Path.{_≡_, refl, ap, _∙_}
-use mathlib.Core.Bool.{false, cond}
+use mathlib.Core.Bool.{Bool, true, false, cond}
 use mathlib.Core.List.{List, [], _++_}
 use native.Mathlib.Decide.{decLe}
 use native.Mathlib.Omega.{arith}
@@ -9,10 +9,12 @@ use lib.Dec.{eqb}
 use lib.ListN.{length, getD, take, drop, List·getD-append}
 use lib.Seq.{length-take-le, getD-take}
 use borrow.Author.Tests.{ne-eqb}
-use Rattle.wire.specs.Bytes.{onto}
+use Rattle.wire.specs.Bytes.{num, onto}
+use Rattle.wire.proofs.Digits.{num-bytes}
 use Rattle.wire.proofs.Fronts.{onto-fits}
 use Rattle.frame.specs.declared.Header.{Header}
 use Rattle.frame.specs.Head.{headerBytes}
+use Rattle.refusal.specs.declared.Said.the-variants.{Sent}
 use Rattle.state.specs.declared.Own.{Own}
 use Rattle.reply.specs.declared.Accepted.{Accepted}
 use Rattle.reply.specs.declared.Accepted.the-variants as accepted
@@ -21,7 +23,7 @@ use Rattle.reply.specs.declared.Reply.the-variants as reply
 use Rattle.reply.specs.Payload.{shortBytes, loginBytes, addressBytes, pairBytes, unpairBytes, acceptedBytes, rejectBytes}
 use Rattle.reply.specs.Reply.{answerHead, logoutHead, dataHead, filled, bytesOf}
 use Rattle.belief.specs.Host.{Answer, none, acc, rjt, dlogo, other}
-use Rattle.belief.specs.Wire.{soundOf}
+use Rattle.belief.specs.Wire.{soundOf, heardOf}
 
 -- a byte that was laid over the front
 onto-at : (p l : List ℕ) (i : ℕ) → i < length p → i < length l → getD (onto p l) i 0 ≡ getD p i 0
@@ -49,6 +51,10 @@ module _ (B l : List ℕ) (room : 2136 ≤ length l) (some : 24 ≤ length B) wh
   first-byte : getD (onto B l) 0 0 ≡ getD B 0 0
   first-byte = onto-at B l 0 (omega arith) (omega arith)
 
+  -- D_ID
+  named-bytes : num 3 (onto B l) 1 ≡ num 3 B 1
+  named-bytes = rw (onto-at B l 1 (omega arith) (omega arith), onto-at B l 2 (omega arith) (omega arith), onto-at B l 3 (omega arith) (omega arith))
+
   code-byte : 25 ≤ length B → getD (onto B l) 24 0 ≡ getD B 24 0
   code-byte h = onto-at B l 24 (omega arith) (omega arith)
 
@@ -65,6 +71,10 @@ module _ (g : Header) (P : List ℕ) where
   head-first : getD (headerBytes g ++ P) 0 0 ≡ g .«r_ctl»
   unfolding headerBytes
   head-first = refl
+
+  head-named : g .«d_id» < 256 → num 3 (headerBytes g ++ P) 1 ≡ g .«d_id»
+  unfolding headerBytes
+  head-named small = num-bytes 3 (g .«d_id») (omega arith)
 
   head-code : getD (headerBytes g ++ P) 24 0 ≡ getD P 0 0
   unfolding headerBytes
@@ -103,14 +113,26 @@ module _ (g : Header) (P l : List ℕ) (room : 2136 ≤ length l) where
   framed-other : (r : ℕ) → g .«r_ctl» ≡ r → eqb r 0x23 ≡ false → eqb r 0x22 ≡ false → soundOf (length (headerBytes g ++ P)) (onto (headerBytes g ++ P) l) ≡ other
   framed-other r e a b = read-other (headerBytes g ++ P) l room long r (head-first g P ∙ e) a b
 
--- the host reads each reply as it sounds
-pub reads : (o : Own) (h : Header) (r : Reply) (l : List ℕ) → 2136 ≤ length l → soundOf (length (bytesOf o h r [])) (onto (bytesOf o h r []) l) ≡ sounds r
+  framed-named : (a : ℕ) → g .«d_id» < 256 → (s : Answer) → soundOf (length (headerBytes g ++ P)) (onto (headerBytes g ++ P) l) ≡ s
+      → heardOf a (Sent (length (headerBytes g ++ P))) (onto (headerBytes g ++ P) l) ≡ cond (eqb (g .«d_id») a) s none
+  framed-named a small s e = rw (named-bytes (headerBytes g ++ P) l room long ∙ head-named g P small, e)
+
+-- nothing is heard of what is not sent, whatever stands in the buffer
+pub quiet : (b c : Bool) → cond b none none ≡ cond c none none
+quiet true true = refl
+quiet true false = refl
+quiet false true = refl
+quiet false false = refl
+
+-- "addresses swapped": the host of address a reads each reply to a frame of its own as it sounds, and none to one of another sender
+pub reads : (a : ℕ) (o : Own) (h : Header) (r : Reply) (source l : List ℕ) → 2136 ≤ length l → h .«s_id» < 256
+    → heardOf a (Sent (length (bytesOf o h r source))) (onto (bytesOf o h r source) l) ≡ cond (eqb (h .«s_id») a) (sounds r) none
 unfolding bytesOf answerHead logoutHead dataHead
-reads o h reply.Nothing l room = refl
-reads o h (reply.Accept a) l room = framed-done _ _ l room 0x02 refl (accept-first (o .address) (o .accept) a)
-reads o h (reply.Reject r e) l room = framed-done _ _ l room 0x01 refl (reject-first r e)
-reads o h reply.Logout l room = framed-logout _ _ l room refl
-reads o h reply.AbortAccept l room = framed-other _ _ l room 0x84 refl refl refl
-reads o h reply.AbortReject l room = framed-other _ _ l room 0x85 refl refl refl
-reads o h (reply.Respond x) l room = framed-other _ _ l room 0x07 refl refl refl
-reads o h (reply.Data x) l room = framed-other _ _ l room 0x01 refl refl refl
+reads a o h reply.Nothing source l room small = quiet (eqb (num 3 (onto [] l) 1) a) (eqb (h .«s_id») a)
+reads a o h (reply.Accept k) source l room small = framed-named _ _ l room a small acc (framed-done _ _ l room 0x02 refl (accept-first (o .address) (o .accept) k))
+reads a o h (reply.Reject r e) source l room small = framed-named _ _ l room a small rjt (framed-done _ _ l room 0x01 refl (reject-first r e))
+reads a o h reply.Logout source l room small = framed-named _ _ l room a small dlogo (framed-logout _ _ l room refl)
+reads a o h reply.AbortAccept source l room small = framed-named _ _ l room a small other (framed-other _ _ l room 0x84 refl refl refl)
+reads a o h reply.AbortReject source l room small = framed-named _ _ l room a small other (framed-other _ _ l room 0x85 refl refl refl)
+reads a o h (reply.Respond x) source l room small = framed-named _ _ l room a small other (framed-other _ _ l room 0x07 refl refl refl)
+reads a o h (reply.Data x) source l room small = framed-named _ _ l room a small other (framed-other _ _ l room 0x01 refl refl refl)

@@ -6,7 +6,7 @@ use mathlib.Core.List.{List}
 use native.Mathlib.Omega.{arith}
 use lib.Dec.{eqb}
 use lib.ListN.{length, getD}
-use borrow.Author.Tests.{ltb-false, eq-eqb}
+use borrow.Author.Tests.{eq-eqb}
 use Rattle.tables.specs.declared.Found.{Found}
 use Rattle.tables.specs.declared.Found.the-variants.{At, Nothing}
 use Rattle.tables.specs.Lists.{onFound, pairs}
@@ -19,7 +19,7 @@ use Rattle.params.specs.Words.{paramsOf}
 use Rattle.state.specs.declared.Login.{Login}
 use Rattle.state.specs.declared.Port.{Port}
 use Rattle.state.specs.declared.Change.the-variants.{EndLogin}
-use Rattle.state.specs.Changes.{ownOf, loginAt, changedAll}
+use Rattle.state.specs.Changes.{loginAt, changedAll}
 use Rattle.state.specs.Tables.{findLogin, loginIn, loginOf}
 use Rattle.formed.specs.Formed.{apartAddress, wellFormed}
 use Rattle.formed.proofs.Parts.{formed-parts}
@@ -39,13 +39,14 @@ use Rattle.arrival.specs.declared.Form.{Form}
 use Rattle.arrival.specs.Arrival.{formOf}
 use Rattle.arrival.proofs.Passes.{Passes, passes}
 use Rattle.drive.specs.declared.Drive.{Drive}
-use Rattle.drive.specs.Entry.{decidedOf, decidedIn, replyBytes, frameIn, frameInBuffer}
+use Rattle.drive.specs.Entry.{decidedOf, decidedIn, frameIn}
 use Rattle.drive.proofs.Ways.{frame-cases}
 use Rattle.demands.proofs.Refusals.{frame-refuses, frame-answers}
 use Rattle.belief.specs.Host.{Request, plogi, pdisc, logo, adisc, prli, prlo, rrq, command, abts, none}
 use Rattle.belief.specs.Side.{OnPlogi, OnLogo, OnLink, OnCommand, Meets}
-use Rattle.belief.specs.Wire.{Linked, Makes, heardOf}
-use Rattle.belief.proofs.Reading.{sounds, reads}
+use Rattle.belief.specs.Wire.{Linked, Makes, heardIn}
+use Rattle.belief.proofs.Reading.{sounds}
+use Rattle.belief.proofs.Heard.{passed-heard}
 
 -- each reply as the host hears it
 after-plogi : (q : Params) (k : Kept) → k ≡ keptFrom q → (x : Reply) (r : Record) → AfterPlogi q x r → OnPlogi k (sounds x) r
@@ -154,12 +155,8 @@ module _ (d : Drive) (w : wellFormed (d .unit) (d .port) ≡ true) (f l : List �
   apart = formed-parts w .addresses
 
   -- what comes back of a frame that passes, and the port after it
-  passed-hears : Passes (d .unit) p h f (length l)
-      → (heardOf (frameIn d f (length l) .said) (frameInBuffer d f l) ≡ sounds (decidedIn d f .reply)) × (frameIn d f (length l) .drive .port ≡ decidedIn d f .port)
-  unfolding replyBytes
-  passed-hears s =
-      let t = frame-answers d f l (passes (d .unit) p h f (length l) s) in
-      rw (t .0, t .1) (reads (ownOf p) h (decidedIn d f .reply) l (ltb-false (length l) 2136 (s .long)), refl)
+  passed-hears : Passes (d .unit) p h f (length l) → (heardIn from d f l ≡ sounds (decidedIn d f .reply)) × (frameIn d f (length l) .drive .port ≡ decidedIn d f .port)
+  passed-hears s = (passed-heard from d f l s ∙ rw (eq-eqb from from refl), rw (frame-answers d f l (passes (d .unit) p h f (length l) s) .0))
 
   -- a link request
   module _ (code size : ℕ) (is : Linked from f code size) (right : sizeOf code ≡ size) where
@@ -216,9 +213,9 @@ module _ (d : Drive) (w : wellFormed (d .unit) (d .port) ≡ true) (f l : List �
   decided-meets abts k e x =
       rw (e ∙ ap formOf (x .routing)) (after-abort (recordOf p from) (abtsOf p from (h .«ox_id») (h .«rx_id») .reply) (recordOf (abtsOf p from (h .«ox_id») (h .«rx_id») .port) from) (abts-reply p from (h .«ox_id») (h .«rx_id»)) (abts-record p from (h .«ox_id») (h .«rx_id»)))
 
-  frame-meets : (q : Request) → Makes from f q → Meets (recordOf p from) q (heardOf (frameIn d f (length l) .said) (frameInBuffer d f l)) (recordOf (frameIn d f (length l) .drive .port) from)
+  frame-meets : (q : Request) → Makes from f q → Meets (recordOf p from) q (heardIn from d f l) (recordOf (frameIn d f (length l) .drive .port) from)
   frame-meets q x =
-      frame-cases d f (length l) (λ _. Meets (recordOf p from) q (heardOf (frameIn d f (length l) .said) (frameInBuffer d f l)) (recordOf (frameIn d f (length l) .drive .port) from))
+      frame-cases d f (length l) (λ _. Meets (recordOf p from) q (heardIn from d f l) (recordOf (frameIn d f (length l) .drive .port) from))
       (λ y i. rw (frame-refuses d f l y i .0) (refused-meets (recordOf p from) q)) (λ s. let t = passed-hears s in rw (t .0, t .1) (decided-meets q (formOf (h .«r_ctl»)) refl x))
 
 -- whose frame it is
@@ -235,8 +232,8 @@ source-of a f abts m = m .source
 
 -- the law of a host's frame
 pub host-takes : (a : ℕ) (d : Drive) → wellFormed (d .unit) (d .port) ≡ true → (f l : List ℕ) (q : Request) → Makes a f q
-    → Meets (recordOf (d .port) a) q (heardOf (frameIn d f (length l) .said) (frameInBuffer d f l)) (recordOf (frameIn d f (length l) .drive .port) a)
+    → Meets (recordOf (d .port) a) q (heardIn a d f l) (recordOf (frameIn d f (length l) .drive .port) a)
 host-takes a d w f l q m =
     let s = source-of a f q m in
-    subst (λ (x : ℕ). Meets (recordOf (d .port) x) q (heardOf (frameIn d f (length l) .said) (frameInBuffer d f l)) (recordOf (frameIn d f (length l) .drive .port) x)) s
+    subst (λ (x : ℕ). Meets (recordOf (d .port) x) q (heardIn x d f l) (recordOf (frameIn d f (length l) .drive .port) x)) s
     (frame-meets d w f l q (subst (λ (x : ℕ). Makes x f q) (sym s) m))

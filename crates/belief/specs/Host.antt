@@ -17,7 +17,7 @@ pub data Request : Type 0 where
   command abts : Request
 
 -- What can come back. `none`: nothing comes back, since the drive refused the frame or took it in silence.
--- `dlogo`: a LOGO by the drive. `other`: BA_ACC, BA_RJT, FCP_RSP.
+-- `dlogo`: a LOGO by the drive. `other`: BA_ACC, BA_RJT, FCP_DATA, FCP_RSP.
 pub data Answer : Type 0 where
   none acc rjt dlogo other : Answer
 
@@ -111,13 +111,14 @@ afterLink f rjt b = b
 afterLink f dlogo b = sure out
 afterLink f other b = b
 
--- Commands and ABTS: silence says nothing. (That a host may also grow unsure at any time is the event `forget`.)
-abbrev pub afterCommand : Answer → Belief → Belief
-afterCommand none b = b
-afterCommand acc b = b
-afterCommand rjt b = b
-afterCommand dlogo b = sure out
-afterCommand other b = b
+-- A frame that answers no link request: "LOGO .. received: out"; "other frames .. change nothing". After a command or ABTS silence says nothing.
+-- (That a host may also grow unsure at any time is the event `forget`.)
+abbrev pub received : Answer → Belief → Belief
+received none b = b
+received acc b = b
+received rjt b = b
+received dlogo b = sure out
+received other b = b
 
 -- by the kind of the request
 abbrev pub hears : Request → Answer → Belief → Belief
@@ -128,5 +129,5 @@ hears adisc a b = afterLink proved a b
 hears prli a b = afterLink paired a b
 hears prlo a b = afterLink unpaired a b
 hears rrq a b = afterLink same a b
-hears command a b = afterCommand a b
-hears abts a b = afterCommand a b
+hears command a b = received a b
+hears abts a b = received a b

@@ -11,17 +11,20 @@ pub record Side : Type 1 where
   pub Wf : State → Type 0
   -- the login record for the host's address
   pub login : State → Record
-  -- a frame of this host as it arrives, with the buffer that the port lends; what it asks; the answer; the next state
+  -- a frame of this host as it arrives, with the buffer that the port lends; what it asks; what the host is to hear of it; the next state
   pub Sent : Type 0
   pub asks : Sent → Request
   pub answer : State → Sent → Answer
   pub take : State → Sent → State
-  -- a call for the next frame to this host: does one come out; the next state
+  -- a call for the next frame to this host: what the host is to hear of it; the next state
   pub Call : Type 0
-  pub speaks : State → Call → Bool
+  pub speaks : State → Call → Answer
   pub call : State → Call → State
-  -- all that else may happen: frames of other ports, next frames to other ports, calls of every kind that are refused
+  -- all that else may happen: frames of other ports, frames to other ports, next frames to these, calls of every kind that are refused
   pub Else : Type 0
+  -- that it is none of the host's requests to the drive; what the host is to hear of it, since a drive may send to whom it likes; the next state
+  pub Aside : State → Else → Type 0
+  pub says : State → Else → Answer
   pub pass : State → Else → State
   pub reset : State → State
   -- events that may lose memory: whether this host's login is lost by one, and the next state
@@ -78,19 +81,25 @@ Meets r rrq a r′ = OnLink same r a r′
 Meets r command a r′ = OnCommand r a r′
 Meets r abts a r′ = OnCommand r a r′
 
+-- What a call that is no frame of the host may leave for it: nothing changes, and what is sent goes to a host that is logged in, or is a LOGO to one that is out, since the loop may lose it.
+abbrev pub Unasked : Record → Answer → Record → Type 0
+Unasked r none r′ = r′ ≡ r
+Unasked r acc r′ = Held r × (r′ ≡ r)
+Unasked r rjt r′ = Held r × (r′ ≡ r)
+Unasked r dlogo r′ = (r ≡ out) × (r′ ≡ out)
+Unasked r other r′ = Held r × (r′ ≡ r)
+
 pub record Laws (D : Side) : Type 0 where
   pub take-wf : (s : D .State) (f : D .Sent) → D .Wf s → D .Wf (D .take s f)
   pub call-wf : (s : D .State) (c : D .Call) → D .Wf s → D .Wf (D .call s c)
-  pub pass-wf : (s : D .State) (x : D .Else) → D .Wf s → D .Wf (D .pass s x)
+  pub pass-wf : (s : D .State) (x : D .Else) → D .Wf s → D .Aside s x → D .Wf (D .pass s x)
   pub reset-wf : (s : D .State) → D .Wf s → D .Wf (D .reset s)
   pub lapse-wf : (s : D .State) (x : D .Lapse) → D .Wf s → D .Wf (D .lapse s x)
   -- a frame of the host
   pub takes : (s : D .State) (f : D .Sent) → D .Wf s → Meets (D .login s) (D .asks f) (D .answer s f) (D .login (D .take s f))
-  -- a next frame changes no record, and comes out only where there is a login
-  pub calls : (s : D .State) (c : D .Call) → D .Wf s → D .login (D .call s c) ≡ D .login s
-  pub speaks-held : (s : D .State) (c : D .Call) → D .Wf s → D .speaks s c ≡ true → Held (D .login s)
-  -- nothing else touches this host's record
-  pub passes : (s : D .State) (x : D .Else) → D .Wf s → D .login (D .pass s x) ≡ D .login s
+  -- a next frame, and all else
+  pub calls : (s : D .State) (c : D .Call) → D .Wf s → Unasked (D .login s) (D .speaks s c) (D .login (D .call s c))
+  pub passes : (s : D .State) (x : D .Else) → D .Wf s → D .Aside s x → Unasked (D .login s) (D .says s x) (D .login (D .pass s x))
   pub resets : (s : D .State) → D .Wf s → D .login (D .reset s) ≡ doubted (D .login s)
   -- a loss of memory ends the login, and what is none leaves the record as it was
   pub lapses : (s : D .State) (x : D .Lapse) → D .Wf s → D .login (D .lapse s x) ≡ cond (D .loses s x) out (D .login s)

@@ -13,11 +13,10 @@ use Rattle.formed.specs.Formed.{wellFormed}
 use Rattle.link.specs.Record.{Record, out, held, keptFrom, recordOf}
 use Rattle.refusal.specs.declared.Said.{Said}
 use Rattle.refusal.specs.declared.Said.the-variants.{Sent, Refused}
-use Rattle.serve.specs.Whole.{isSent}
 use Rattle.drive.specs.declared.Drive.{Drive}
 use Rattle.drive.specs.declared.Event.the-variants.{LoopReset, TimeOver, PowerOn}
 use Rattle.drive.specs.Drive.{eventAnswer}
-use Rattle.drive.specs.Entry.{frameIn, frameInBuffer, nextFrame}
+use Rattle.drive.specs.Entry.{frameIn, frameInBuffer, nextFrame, nextFrameBuffer}
 use Rattle.belief.specs.Host.{Request, plogi, pdisc, logo, adisc, prli, prlo, rrq, command, abts, Answer, none, acc, rjt, dlogo, other}
 use Rattle.belief.specs.Side.{Side}
 
@@ -56,10 +55,17 @@ pub record FromHost (a : ℕ) : Type 0 where
 abbrev pub soundOf : ℕ → List ℕ → Answer
 soundOf n l = cond (eqb n 0) none (cond (eqb (getD l 0 0) 0x23) (cond (eqb (getD l 24 0) 0x02) acc rjt) (cond (eqb (getD l 0 0) 0x22) dlogo other))
 
--- nothing comes back of a frame that is refused
-abbrev pub heardOf : Said → List ℕ → Answer
-heardOf (Sent n) l = soundOf n l
-heardOf (Refused x) l = none
+-- what the host of address a hears of a call of the drive, whoever's it is: the frame at the front of the buffer where its D_ID, bytes 1 to 3, is a; of a refused call nothing
+abbrev pub heardOf : ℕ → Said → List ℕ → Answer
+heardOf a (Sent n) l = cond (eqb (num 3 l 1) a) (soundOf n l) none
+heardOf a (Refused x) l = none
+
+-- of a frame in, and of a next frame of the exchange of address b and OX_ID x
+abbrev pub heardIn : ℕ → Drive → List ℕ → List ℕ → Answer
+heardIn a d f l = heardOf a (frameIn d f (length l) .said) (frameInBuffer d f l)
+
+abbrev pub heardNext : ℕ → Drive → ℕ → ℕ → ℕ → List ℕ → List ℕ → Answer
+heardNext a d b x start W l = heardOf a (nextFrame d b x start W (length l) .said) (nextFrameBuffer d b x start W l)
 
 -- a call for the next frame to the host, with any window and buffer
 pub record ForHost : Type 0 where
@@ -68,16 +74,32 @@ pub record ForHost : Type 0 where
   pub window : List ℕ
   pub buffer : List ℕ
 
--- what else happens: "other ports sending what they like" under other addresses, next frames to these, and answers (23h) of any port
+-- what else happens: "other ports sending what they like" under other addresses, next frames to these, answers (23h) of any port, and frames to other ports, of this host too
 pub data Others (a : ℕ) : Type 0 where
   frame : (f buffer : List ℕ) → AllBytes f → (headerOf f .«s_id» ≡ a → ⊥) → Others a
   answer : (f buffer : List ℕ) → AllBytes f → headerOf f .«r_ctl» ≡ 0x23 → Others a
   next : (b ox start : ℕ) (window buffer : List ℕ) → (b ≡ a → ⊥) → Others a
+  elsewhere : (f buffer : List ℕ) → Others a
+
+-- a frame to another port has another D_ID than the drive's address
+abbrev pub ToOthers : {a : ℕ} → Drive → Others a → Type 0
+ToOthers d (frame f l k n) = Unit {0}
+ToOthers d (answer f l k r) = Unit {0}
+ToOthers d (next b x start W l n) = Unit {0}
+ToOthers d (elsewhere f l) = headerOf f .«d_id» ≡ d .port .address → ⊥
 
 abbrev pub others : {a : ℕ} → Drive → Others a → Drive
 others d (frame f l k n) = frameIn d f (length l) .drive
 others d (answer f l k r) = frameIn d f (length l) .drive
 others d (next b x start W l n) = nextFrame d b x start W (length l) .drive
+others d (elsewhere f l) = frameIn d f (length l) .drive
+
+-- what the host hears of it
+abbrev pub othersHeard : {a : ℕ} → Drive → Others a → Answer
+othersHeard {a} d (frame f l k n) = heardIn a d f l
+othersHeard {a} d (answer f l k r) = heardIn a d f l
+othersHeard {a} d (next b x start W l n) = heardNext a d b x start W l
+othersHeard {a} d (elsewhere f l) = heardIn a d f l
 
 -- the events that end logins: "until the drive powers on or its verification time runs out"
 pub data Ending : Type 0 where
@@ -102,12 +124,14 @@ theDrive a =
       login = λ d. recordOf (d .port) a;
       Sent = FromHost a;
       asks = λ f. f .request;
-      answer = λ d f. heardOf (frameIn d (f .bytes) (length (f .buffer)) .said) (frameInBuffer d (f .bytes) (f .buffer));
+      answer = λ d f. heardIn a d (f .bytes) (f .buffer);
       take = λ d f. frameIn d (f .bytes) (length (f .buffer)) .drive;
       Call = ForHost;
-      speaks = λ d c. isSent (nextFrame d a (c .ox) (c .start) (c .window) (length (c .buffer)) .said);
+      speaks = λ d c. heardNext a d a (c .ox) (c .start) (c .window) (c .buffer);
       call = λ d c. nextFrame d a (c .ox) (c .start) (c .window) (length (c .buffer)) .drive;
       Else = Others a;
+      Aside = ToOthers;
+      says = othersHeard;
       pass = others;
       reset = λ d. eventAnswer d LoopReset .drive;
       Lapse = Ending;

@@ -156,15 +156,7 @@ module _ (u : Unit) (p : Port) (a x i j k : ℕ) (W : List ℕ) where
           omega arith
 
   -- from a well-formed port
-  module _ (w : wellFormed u p ≡ true) (o : lookupOf p a x ≡ Open i j) (small : x < 65536) where
-    own-small : p .address < 256
-    unfolding setupRules setupOf ownOf
-    own-small =
-        let c = leb 1 (u .capacity) in
-        let d = leb (u .capacity) 4294967295 in
-        let v = validAddress (p .address) in
-        small-address (p .address) (and-right (c && d) v (and-left (c && d && v) (setupPasses (paramsOf (p .accept) 0)) (formed-parts w .setup)))
-
+  module _ (w : wellFormed u p ≡ true) (o : lookupOf p a x ≡ Open i j) where
     -- the login's address is the one that is named, and valid
     login-address : loginAt p i .address ≡ a
     unfolding hasAddress
@@ -177,14 +169,23 @@ module _ (u : Unit) (p : Port) (a x i j k : ℕ) (W : List ℕ) where
         let f = fine-used (open-used p a x i j o) (all-at (loginFine u (p .address)) emptyLogin (p .logins) i (login-inside p a x i j o) (formed-parts w .logins)) in
         small-address (l .address) (and-left (validAddress (l .address)) (not (eqb (l .address) (p .address))) (f .address))
 
-    named-small : a < 256
+    pub named-small : a < 256
     named-small = let e = login-address in let s = login-small in omega arith
+
+  module _ (w : wellFormed u p ≡ true) (o : lookupOf p a x ≡ Open i j) (small : x < 65536) where
+    own-small : p .address < 256
+    unfolding setupRules setupOf ownOf
+    own-small =
+        let c = leb 1 (u .capacity) in
+        let d = leb (u .capacity) 4294967295 in
+        let v = validAddress (p .address) in
+        small-address (p .address) (and-right (c && d) v (and-left (c && d && v) (setupPasses (paramsOf (p .accept) 0)) (formed-parts w .setup)))
 
     data-fits : (f : DataFrame) → nextReply (fullOf p i) (exchangeOf p i j) ≡ Data f → Fits (data-head f)
     unfolding data-head dataHead askedBy frameOf
     data-fits f e =
         let own = own-small in
-        let to = named-small in
+        let to = named-small w o in
         let count = round-small (f .count) _ (next-counted u p a x i j f w o e) in
         let at = ap (λ g. g .offset) (is-data (fullOf p i) (exchangeOf p i j) f e .1) in
         let within = sent-within (fullOf p i) (exchangeOf p i j) (runs u p a x i j w o .fits) in
@@ -204,7 +205,7 @@ module _ (u : Unit) (p : Port) (a x i j k : ℕ) (W : List ℕ) where
 
     response-fits : Fits response-head
     unfolding response-head answerHead askedBy
-    response-fits = let own = own-small in let to = named-small in record { d = omega arith; s = omega arith; f = omega arith; n = omega arith; o = omega arith; r = omega arith; p = omega arith }
+    response-fits = let own = own-small in let to = named-small w o in record { d = omega arith; s = omega arith; f = omega arith; n = omega arith; o = omega arith; r = omega arith; p = omega arith }
 
     response-header : (r : Residual) → nextReply (fullOf p i) (exchangeOf p i j) ≡ Respond (Status 0x00 r) → headerOf (frameBytes u p a x i j k W) ≡ response-head
     response-header r e = ap headerOf (response-bytes r e) ∙ read-write response-head _ response-fits

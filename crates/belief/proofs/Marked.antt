@@ -1,0 +1,374 @@
+-- One history in which all that document 01 tells of happens, with what host and drive hold at marked moments, by computation. Assumes nothing.
+use Prim.Native.Nat.{ℕ}
+use mathlib.Core.Path.{_≡_, refl, sym, ap, _∙_, subst}
+use mathlib.Core.Bool.{true, false}
+use mathlib.Core.List.{List, [], _∷_, _++_}
+use native.Mathlib.Omega.{arith}
+use lib.ListN.{replicate}
+use Rattle.wire.specs.Bytes.{bytes, onto}
+use Rattle.frame.specs.Head.{headerOf, headerBytes}
+use Rattle.address.specs.Address.{validAddress}
+use Rattle.params.specs.Words.{paramsOf, sizeFails, zeroName, verdictOf, setupPasses}
+use Rattle.state.specs.declared.Exchange.{Exchange}
+use Rattle.state.specs.declared.Login.{Login}
+use Rattle.state.specs.Kinds.{kindRead}
+use Rattle.state.specs.Changes.{emptyExchange, emptyLogin, ownOf, loginAt, exchangeAt, withLogin, withExchange, hasAddress, freedOf, endedOf, unproven, verified, changedAll}
+use Rattle.state.specs.Tables.{hasId, findLogin, freeLogin, findExchange, freeExchange, loginOf, lookupOf}
+use Rattle.formed.specs.Formed.{setupRules, setupOf, readFits, wantedFits, sentFits, exchangeFine, apartId, paramsFine, flagsFine, addressFine, usedFine, loginFine, apartAddress, wellFormed}
+use Rattle.reply.specs.Payload.{shortBytes, loginBytes, pairBytes, rejectBytes, statusBytes, codeBytes, senseBytes, logoutBytes}
+use Rattle.reply.specs.Reply.{answerHead, logoutHead, dataHead, filled, bytesOf}
+use Rattle.residual.specs.Residual.{residualOf}
+use Rattle.link.specs.Link.{sizeOf, newLogin, outcomeOf, plogiOf, namesDiffer, pdiscOf, pageFine, pairFine, prliOf, serviceOf, linkOf}
+use Rattle.link.specs.Record.{Record, out, held, recordOf}
+use Rattle.command.specs.Cmnd.{cmndOf, malformed, taskFor, taskOf}
+use Rattle.command.specs.Cdb.{inquiryField, capacityField, range10, decodedOf}
+use Rattle.command.specs.Tests.{otherUnit, attends, beyond, testedBy, askedOf}
+use Rattle.command.specs.Command.{loggedOut, refusedWith, toldOf, openedOf, executeOf, commandedAt, commandOf}
+use Rattle.cover.specs.Cover.{coverOf}
+use Rattle.serve.specs.Next.{hasMore, readsMore, placeOf, frameOf, nextReply, nextExchange, sourceOf, windowPlace, askedBy, openStep, stepOf, frameBytes, movedOn, nextOf, nextBuffer}
+use Rattle.arrival.specs.Arrival.{badSize, badSource, knownPair, unknownForm, spared, unprovenLogin, formOf}
+use Rattle.drive.specs.Drive.{madeFrom, afterEvent, eventAnswer}
+use Rattle.drive.specs.Entry.{replyBytes, frameIn, frameInBuffer, nextFrame, nextFrameBuffer}
+use Rattle.demands.specs.Numbers as numbers
+use Rattle.belief.specs.Host as host
+use Rattle.belief.specs.Host.{Belief, unsure, sure, dlogo}
+use Rattle.belief.specs.Demand3.{Event, lost, mute, heard, send, next, pass, foreign, reset, lapse, World, step, run, Follows, Keeps, loss, reachesHost, start}
+use Rattle.belief.specs.Wire.{FromHost, ForHost, Others, frame, elsewhere, time-over, theDrive}
+use Rattle.belief.proofs.Histories.{bytes-known, sentKept, buffer, logs-in, pairs, asks, world}
+
+-- a PDISC with the parameters of the login
+abbrev pub pdisc : List ℕ
+pdisc = numbers.frame 0x22 0x01 0x01 5 (0x50 ∷ 0x00 ∷ 0x00 ∷ 0x00 ∷ numbers.words 0x01 2048)
+
+pub verifies : FromHost 0x01
+unfolding headerOf headerBytes paramsOf
+verifies =
+    record {
+      request = host.pdisc sentKept;
+      bytes = pdisc;
+      buffer = buffer;
+      known = bytes-known pdisc refl;
+      makes = (record { form = record { routing = refl; source = refl }; coded = refl; sized = refl }, refl);
+    }
+
+-- a READ of the first block
+pub reads : FromHost 0x01
+unfolding headerOf headerBytes
+reads =
+    record {
+      request = host.command;
+      bytes = numbers.read 0x01 0x0004 0 1 512;
+      buffer = buffer;
+      known = bytes-known (numbers.read 0x01 0x0004 0 1 512) refl;
+      makes = record { routing = refl; source = refl };
+    }
+
+-- its next frame, from a window that has the block
+abbrev pub itsFrame : ForHost
+itsFrame = record { ox = 0x0004; start = 0; window = replicate 512 0xa5; buffer = buffer }
+
+-- another port sends a command without a login, and is answered with a LOGO
+pub strangerAsks : Others 0x01
+unfolding headerOf headerBytes
+strangerAsks = frame (numbers.ready 0x02) buffer (bytes-known (numbers.ready 0x02) refl) (λ e. let z : _≡_ {A = ℕ} 2 1 = e in omega arith)
+
+-- and logs in
+pub strangerLogsIn : Others 0x01
+unfolding headerOf headerBytes
+strangerLogsIn = frame (numbers.plogi 0x02 2048) buffer (bytes-known (numbers.plogi 0x02 2048) refl) (λ e. let z : _≡_ {A = ℕ} 2 1 = e in omega arith)
+
+-- the host's own frame to that port
+abbrev pub hostToStranger : Others 0x01
+hostToStranger = elsewhere (0x22 ∷ bytes 3 0x02 ++ (0x00 ∷ bytes 3 0x01) ++ replicate 16 0) buffer
+
+abbrev pub Day : Type 0
+Day = List (Event (theDrive 0x01))
+
+-- a request is lost, and then an answer
+abbrev pub doubtful : Day
+doubtful = send logs-in lost ∷ send logs-in mute ∷ []
+
+abbrev pub pairing : Day
+pairing = doubtful ++ (send logs-in heard ∷ send pairs heard ∷ [])
+
+-- frames of the host to another port, of that port to the drive, and of it to the host
+abbrev pub visited : Day
+visited = pairing ++ (pass hostToStranger true ∷ pass strangerAsks true ∷ pass strangerLogsIn true ∷ foreign dlogo ∷ [])
+
+-- the first command gets attention 29h; the READ opens silently
+abbrev pub opened : Day
+opened = visited ++ (send asks heard ∷ send reads heard ∷ [])
+
+-- data; and then the response
+abbrev pub served : Day
+served = opened ++ (next itsFrame true ∷ [])
+
+abbrev pub answered : Day
+answered = served ++ (next itsFrame true ∷ [])
+
+abbrev pub doubted : Day
+doubted = answered ++ (reset ∷ [])
+
+abbrev pub provenAgain : Day
+provenAgain = doubted ++ (send verifies heard ∷ [])
+
+-- the time runs out before the host verifies again
+abbrev pub late : Day
+late = provenAgain ++ (reset ∷ [])
+
+abbrev pub forgotten : Day
+forgotten = late ++ (lapse time-over ∷ [])
+
+abbrev pub corrected : Day
+corrected = forgotten ++ (send verifies heard ∷ [])
+
+-- what the host believes, and what the drive's record for it is
+pub record At (h : Day) (b : Belief) (r : Record) : Type 0 where
+  pub belief : world h .belief ≡ b
+  pub record-is : recordOf (world h .drive .port) 0x01 ≡ r
+
+pub record Marked : Type 0 where
+  -- the host keeps its rules throughout
+  pub keeps : Keeps (theDrive 0x01) (start (theDrive 0x01) (numbers.made 100)) corrected
+  -- unsure, though the drive has the login; then sure and right
+  pub unsure-first : At doubtful unsure (held false true sentKept)
+  pub sure-paired : At pairing (sure (held true true sentKept)) (held true true sentKept)
+  -- other ports change nothing
+  pub others-nothing : At visited (sure (held true true sentKept)) (held true true sentKept)
+  -- a READ: data and response reach the host, and change nothing
+  pub data-comes : reachesHost (theDrive 0x01) (world opened) (next itsFrame true) ≡ true
+  pub response-comes : reachesHost (theDrive 0x01) (world served) (next itsFrame true) ≡ true
+  pub read-through : At answered (sure (held true true sentKept)) (held true true sentKept)
+  -- to verify on both sides, and verified
+  pub to-verify : At doubted (sure (held true false sentKept)) (held true false sentKept)
+  pub by-pdisc : At provenAgain (sure (held true true sentKept)) (held true true sentKept)
+  -- the time over is a loss: sure and wrong; and right again by the LOGO that answers
+  pub a-loss : loss (theDrive 0x01) (world late) (lapse time-over) ≡ true
+  pub sure-and-wrong : At forgotten (sure (held true false sentKept)) out
+  pub right-again : At corrected (sure out) out
+
+-- The moments, spelt out, so that each event is computed from them and not from the first one on.
+abbrev Moment : Type 0
+Moment = World (theDrive 0x01)
+
+-- a login of this address with these flags, attention and first exchange
+abbrev seat : (address proven paired attention : ℕ) → Exchange → Login
+seat address proven paired attention e =
+    record {
+      used = 1;
+      proven = proven;
+      paired = paired;
+      attention = attention;
+      concurrent = 1;
+      sequences = 1;
+      size = 2048;
+      address = address;
+      «port_name» = replicate 7 0x5a ++ (address ∷ []);
+      «node_name» = replicate 8 0x5a;
+      places = e ∷ replicate 7 emptyExchange;
+    }
+
+-- the host believes this, and the drive has these two logins
+abbrev moment : Belief → Login → Login → Moment
+moment b l m =
+    record {
+      drive = record { unit = record { capacity = 100; identity = replicate 28 0x20 }; port = record { address = 0xef; accept = numbers.words 0xef 2048; logins = l ∷ m ∷ replicate 6 emptyLogin } };
+      belief = b;
+    }
+
+-- the READ after so many bytes and frames
+abbrev reading : (sent count : ℕ) → Exchange
+reading sent count = record { start = 0; blocks = 1; wanted = 512; expected = 512; sent = sent; «ox_id» = 0x0004; count = count; kind = kindRead }
+
+-- what is held of the host: logged in, paired, and paired to verify
+abbrev in-held : Record
+in-held = held false true sentKept
+
+abbrev paired-held : Record
+paired-held = held true true sentKept
+
+abbrev doubted-held : Record
+doubted-held = held true false sentKept
+
+abbrev m₀ : Moment
+m₀ = moment unsure emptyLogin emptyLogin
+
+abbrev m₁ : Moment
+m₁ = moment unsure (seat 1 1 0 0x29 emptyExchange) emptyLogin
+
+abbrev m₂ : Moment
+m₂ = moment (sure in-held) (seat 1 1 0 0x29 emptyExchange) emptyLogin
+
+abbrev m₃ : Moment
+m₃ = moment (sure paired-held) (seat 1 1 1 0x29 emptyExchange) emptyLogin
+
+abbrev m₄ : Moment
+m₄ = moment (sure paired-held) (seat 1 1 1 0x29 emptyExchange) (seat 2 1 0 0x29 emptyExchange)
+
+abbrev m₅ : Moment
+m₅ = moment (sure paired-held) (seat 1 1 1 0 emptyExchange) (seat 2 1 0 0x29 emptyExchange)
+
+abbrev m₆ : Moment
+m₆ = moment (sure paired-held) (seat 1 1 1 0 (reading 0 0)) (seat 2 1 0 0x29 emptyExchange)
+
+abbrev m₇ : Moment
+m₇ = moment (sure paired-held) (seat 1 1 1 0 (reading 512 1)) (seat 2 1 0 0x29 emptyExchange)
+
+abbrev m₈ : Moment
+m₈ = moment (sure doubted-held) (seat 1 0 1 0 emptyExchange) (seat 2 0 0 0x29 emptyExchange)
+
+abbrev m₉ : Moment
+m₉ = moment (sure paired-held) (seat 1 1 1 0 emptyExchange) (seat 2 0 0 0x29 emptyExchange)
+
+abbrev m₁₀ : Moment
+m₁₀ = moment (sure doubted-held) emptyLogin emptyLogin
+
+abbrev m₁₁ : Moment
+m₁₁ = moment (sure out) emptyLogin emptyLogin
+
+-- a host that keeps its rules comes from one to the other
+record Leads (w : Moment) (h : Day) (v : Moment) : Type 0 where
+  keeps : Keeps (theDrive 0x01) w h
+  ends : run (theDrive 0x01) w h ≡ v
+
+-- by one event
+record By (v : Moment) (e : Event (theDrive 0x01)) (u : Moment) : Type 0 where
+  follows : Follows (theDrive 0x01) v e
+  goes : step (theDrive 0x01) v e ≡ u
+
+-- one event after others
+after : (w v u : Moment) (h : Day) (e : Event (theDrive 0x01)) → Leads w h v → By v e u → Leads w (h ++ (e ∷ [])) u
+after w v u [] e l b = record { keeps = (subst (λ (x : Moment). Follows (theDrive 0x01) x e) (sym (l .ends)) (b .follows), tt); ends = ap (λ (x : Moment). step (theDrive 0x01) x e) (l .ends) ∙ b .goes }
+after w v u (f ∷ h) e l b =
+    let r = after (step (theDrive 0x01) w f) v u h e record { keeps = l .keeps .1; ends = l .ends } b in
+    record { keeps = (l .keeps .0, r .keeps); ends = r .ends }
+
+more : {w v u : Moment} {h : Day} {e : Event (theDrive 0x01)} → Leads w h v → By v e u → Leads w (h ++ (e ∷ [])) u
+more {w} {v} {u} {h} {e} l b = after w v u h e l b
+
+-- what is computed: the events, each from the moment before it
+record Steps : Type 0 where
+  begins : start (theDrive 0x01) (numbers.made 100) ≡ m₀
+  e₁ : By m₀ (send logs-in lost) m₀
+  e₂ : By m₀ (send logs-in mute) m₁
+  e₃ : By m₁ (send logs-in heard) m₂
+  e₄ : By m₂ (send pairs heard) m₃
+  e₅ : By m₃ (pass hostToStranger true) m₃
+  e₆ : By m₃ (pass strangerAsks true) m₃
+  e₇ : By m₃ (pass strangerLogsIn true) m₄
+  e₈ : By m₄ (foreign dlogo) m₄
+  e₉ : By m₄ (send asks heard) m₅
+  e₁₀ : By m₅ (send reads heard) m₆
+  e₁₁ : By m₆ (next itsFrame true) m₇
+  e₁₂ : By m₇ (next itsFrame true) m₅
+  e₁₃ : By m₅ reset m₈
+  e₁₄ : By m₈ (send verifies heard) m₉
+  e₁₅ : By m₉ reset m₈
+  e₁₆ : By m₈ (lapse time-over) m₁₀
+  e₁₇ : By m₁₀ (send verifies heard) m₁₁
+  -- the records at the moments, and what the host gets there
+  logged : recordOf (m₁ .drive .port) 0x01 ≡ in-held
+  paired : recordOf (m₃ .drive .port) 0x01 ≡ paired-held
+  visit : recordOf (m₄ .drive .port) 0x01 ≡ paired-held
+  done : recordOf (m₅ .drive .port) 0x01 ≡ paired-held
+  doubt : recordOf (m₈ .drive .port) 0x01 ≡ doubted-held
+  proof : recordOf (m₉ .drive .port) 0x01 ≡ paired-held
+  gone : recordOf (m₁₀ .drive .port) 0x01 ≡ out
+  data-frame : reachesHost (theDrive 0x01) m₆ (next itsFrame true) ≡ true
+  response : reachesHost (theDrive 0x01) m₇ (next itsFrame true) ≡ true
+  lost-memory : loss (theDrive 0x01) m₈ (lapse time-over) ≡ true
+
+steps : Steps
+unfolding frameIn frameInBuffer replyBytes headerOf headerBytes badSize badSource knownPair unknownForm spared unprovenLogin formOf validAddress madeFrom wellFormed setupRules setupOf setupPasses paramsOf sizeFails zeroName verdictOf loginFine usedFine flagsFine addressFine paramsFine exchangeFine apartId apartAddress wantedFits readFits sentFits findLogin freeLogin findExchange freeExchange loginOf hasAddress hasId loginAt exchangeAt withLogin withExchange endedOf freedOf unproven verified changedAll bytesOf filled onto answerHead logoutHead dataHead shortBytes loginBytes pairBytes rejectBytes statusBytes codeBytes senseBytes logoutBytes residualOf linkOf sizeOf plogiOf namesDiffer pdiscOf outcomeOf newLogin serviceOf prliOf pairFine pageFine cmndOf malformed taskFor taskOf otherUnit attends inquiryField capacityField range10 decodedOf beyond testedBy askedOf loggedOut refusedWith toldOf openedOf executeOf commandedAt commandOf nextFrame nextFrameBuffer lookupOf hasMore readsMore coverOf placeOf frameOf nextReply nextExchange sourceOf windowPlace ownOf askedBy openStep stepOf frameBytes movedOn nextOf nextBuffer recordOf eventAnswer afterEvent logs-in pairs asks verifies reads strangerAsks strangerLogsIn
+steps =
+    record {
+      begins = refl;
+      e₁ = record { follows = tt; goes = refl };
+      e₂ = record { follows = tt; goes = refl };
+      e₃ = record { follows = tt; goes = refl };
+      e₄ = record { follows = tt; goes = refl };
+      e₅ = record { follows = λ q. let z : _≡_ {A = ℕ} 2 239 = q in omega arith; goes = refl };
+      e₆ = record { follows = tt; goes = refl };
+      e₇ = record { follows = tt; goes = refl };
+      e₈ = record { follows = tt; goes = refl };
+      e₉ = record { follows = tt; goes = refl };
+      e₁₀ = record { follows = tt; goes = refl };
+      e₁₁ = record { follows = tt; goes = refl };
+      e₁₂ = record { follows = tt; goes = refl };
+      e₁₃ = record { follows = tt; goes = refl };
+      e₁₄ = record { follows = refl; goes = refl };
+      e₁₅ = record { follows = tt; goes = refl };
+      e₁₆ = record { follows = tt; goes = refl };
+      e₁₇ = record { follows = refl; goes = refl };
+      logged = refl;
+      paired = refl;
+      visit = refl;
+      done = refl;
+      doubt = refl;
+      proof = refl;
+      gone = refl;
+      data-frame = refl;
+      response = refl;
+      lost-memory = refl;
+    }
+
+-- from the start to each marked moment
+abbrev Reach : Day → Moment → Type 0
+Reach h v = Leads (start (theDrive 0x01) (numbers.made 100)) h v
+
+begun : Reach [] m₀
+begun = record { keeps = tt; ends = steps .begins }
+
+to-doubtful : Reach doubtful m₁
+to-doubtful = more (more begun (steps .e₁)) (steps .e₂)
+
+to-pairing : Reach pairing m₃
+to-pairing = more (more to-doubtful (steps .e₃)) (steps .e₄)
+
+to-visited : Reach visited m₄
+to-visited = more (more (more (more to-pairing (steps .e₅)) (steps .e₆)) (steps .e₇)) (steps .e₈)
+
+to-opened : Reach opened m₆
+to-opened = more (more to-visited (steps .e₉)) (steps .e₁₀)
+
+to-served : Reach served m₇
+to-served = more to-opened (steps .e₁₁)
+
+to-answered : Reach answered m₅
+to-answered = more to-served (steps .e₁₂)
+
+to-doubted : Reach doubted m₈
+to-doubted = more to-answered (steps .e₁₃)
+
+to-proven : Reach provenAgain m₉
+to-proven = more to-doubted (steps .e₁₄)
+
+to-late : Reach late m₈
+to-late = more to-proven (steps .e₁₅)
+
+to-forgotten : Reach forgotten m₁₀
+to-forgotten = more to-late (steps .e₁₆)
+
+to-corrected : Reach corrected m₁₁
+to-corrected = more to-forgotten (steps .e₁₇)
+
+-- what holds at a moment holds at the end of the history that leads to it
+at-end : {h : Day} {v : Moment} → Reach h v → (r : Record) → recordOf (v .drive .port) 0x01 ≡ r → At h (v .belief) r
+at-end l r e = record { belief = ap (λ (x : Moment). x .belief) (l .ends); record-is = ap (λ (x : Moment). recordOf (x .drive .port) 0x01) (l .ends) ∙ e }
+
+pub marked : Marked
+marked =
+    record {
+      keeps = to-corrected .keeps;
+      unsure-first = at-end to-doubtful in-held (steps .logged);
+      sure-paired = at-end to-pairing paired-held (steps .paired);
+      others-nothing = at-end to-visited paired-held (steps .visit);
+      data-comes = ap (λ (x : Moment). reachesHost (theDrive 0x01) x (next itsFrame true)) (to-opened .ends) ∙ steps .data-frame;
+      response-comes = ap (λ (x : Moment). reachesHost (theDrive 0x01) x (next itsFrame true)) (to-served .ends) ∙ steps .response;
+      read-through = at-end to-answered paired-held (steps .done);
+      to-verify = at-end to-doubted doubted-held (steps .doubt);
+      by-pdisc = at-end to-proven paired-held (steps .proof);
+      a-loss = ap (λ (x : Moment). loss (theDrive 0x01) x (lapse time-over)) (to-late .ends) ∙ steps .lost-memory;
+      sure-and-wrong = at-end to-forgotten out (steps .gone);
+      right-again = at-end to-corrected out (steps .gone);
+    }
