@@ -37,13 +37,14 @@ use Rattle.serve.specs.Whole.{Piece}
 use Rattle.demands.specs.Driven.{Driven}
 use Rattle.demands.specs.Refusals.{appliesOut}
 use Rattle.demands.specs.Login.{LoginIn}
-use Rattle.demands.specs.Reading.{Reads, OpenRead, Delivered, freed, Comes}
+use Rattle.demands.specs.Reading.{Reads, OpenRead, ReadIn, readOf, Opened, Delivered, freed, Comes}
 use Rattle.demands.specs.Numbers.{KnownNumbers}
 use Rattle.demands.proofs.Reach.{driven-fine}
 use Rattle.demands.proofs.Refusals.{frame-first, frame-refuses, next-first, next-refuses, next-unchanged}
 use Rattle.demands.proofs.Lengths.{frame-long, next-long}
 use Rattle.demands.proofs.Login.{rejected-ends, rejected-keeps}
 use Rattle.demands.proofs.Reading.{reads-whole, reads-come}
+use Rattle.demands.proofs.Opening.{opens-read, reads-in}
 use Rattle.demands.proofs.Numbers.{known-numbers}
 
 -- No input allows two replies: two answers that meet an entry's contract are the same, and so are two buffers.
@@ -136,6 +137,19 @@ login-keeps d f l r x p = rejected-keeps d f l p r x
 pub whole-read : (d e : Drive) (unit : List ℕ) (a x i j : ℕ) (pieces : List Piece) (last : List ℕ) → wellFormed (d .unit) (d .port) ≡ true → length unit ≡ 512 * d .unit .capacity
     → OpenRead d a x i j → Reads unit a x d pieces last e → (Delivered unit (fullOf (d .port) i) (exchangeOf (d .port) i j) pieces last) × (e ≡ freed d i j)
 whole-read = reads-whole
+
+-- A READ from its FCP_CMND frame: one that is not refused and answered with nothing has opened just the exchange that the frame's bytes say, at a place of the sender's login that was free,
+-- and changed nothing else.
+pub read-opens : (d : Drive) (f l : List ℕ) → AllBytes f → ReadIn d f l → Opened d f (frameIn d f (length l) .drive)
+read-opens = opens-read
+
+-- And the frames that follow deliver what that frame asked for, and free the place.
+pub whole-read-in : (d e : Drive) (unit f l : List ℕ) (pieces : List Piece) (last : List ℕ) → length unit ≡ 512 * d .unit .capacity → (known : AllBytes f) (r : ReadIn d f l)
+    → Reads unit (headerOf f .«s_id») (headerOf f .«ox_id») (frameIn d f (length l) .drive) pieces last e
+    → let o = read-opens d f l known r in
+    (Delivered unit (fullOf (d .port) (o .i)) (readOf f) pieces last) × (e ≡ freed (frameIn d f (length l) .drive) (o .i) (o .j))
+unfolding read-opens
+whole-read-in d e unit f l pieces last long known r = reads-in d f l known r e unit pieces last long
 
 -- And such a run there is, for every open exchange of a proven login.
 pub whole-comes : (d : Drive) (unit : List ℕ) (a x i j : ℕ) → wellFormed (d .unit) (d .port) ≡ true → length unit ≡ 512 * d .unit .capacity → lookupOf (d .port) a x ≡ Open i j

@@ -7,4 +7,5 @@ pub mod Decoding
 pub mod Calls
 pub mod Lengths
 pub mod Reading
+pub mod Opening
 pub mod Demands

@@ -5,11 +5,12 @@ use mathlib.Core.List.{List, [], _∷_}
 use Prim.Native.Nat.{ℕ, suc, _-_, _*_, _%_, _<_}
 use lib.Dec.{eqb}
 use lib.ListN.{length, take, drop, getD, replicate}
+use Rattle.tables.specs.Firsts.{NoneOf}
 use Rattle.wire.specs.Bytes.{num}
 use Rattle.frame.specs.Head.{headerOf}
 use Rattle.state.specs.declared.Exchange.{Exchange}
 use Rattle.state.specs.Standing.{Open}
-use Rattle.state.specs.Changes.{loginAt, withLogin, endedAt}
+use Rattle.state.specs.Changes.{loginAt, withLogin, withExchange, endedAt, isClosed}
 use Rattle.state.specs.Kinds.{kindRead}
 use Rattle.state.specs.Tables.{lookupOf}
 use Rattle.formed.specs.Formed.{total, framesOf}
@@ -20,7 +21,9 @@ use Rattle.cover.specs.Cover.{cut}
 use Rattle.serve.specs.Whole.{Piece, joined, InOrder}
 use Rattle.drive.specs.declared.Drive.{Drive}
 use Rattle.refusal.specs.declared.Said.the-variants.{Sent}
-use Rattle.drive.specs.Entry.{nextFrame, nextFrameBuffer}
+use Rattle.refusal.specs.Refusal.{frameOrder}
+use Rattle.arrival.specs.Arrival.{appliesIn}
+use Rattle.drive.specs.Entry.{frameIn, nextFrame, nextFrameBuffer}
 
 -- "the reply stands at the front of the buffer, its length .. in the answer": the frame in the buffer l after a call that said `Sent n`
 abbrev pub frameAt : List ℕ → ℕ → List ℕ
@@ -90,6 +93,43 @@ pub record OpenRead (d : Drive) (a x i j : ℕ) : Type 0 where
   pub fresh : exchangeOf (d .port) i j .sent ≡ 0
   pub ox : x < 65536
   pub expected : exchangeOf (d .port) i j .expected < 4294967296
+
+-- a READ that opens: none of 1 to 7 applies to the frame f, with the buffer l lent, it is an FCP_CMND (R_CTL 06h) of code 28h, the first byte of the CDB, and nothing is answered
+pub record ReadIn (d : Drive) (f l : List ℕ) : Type 0 where
+  pub passed : NoneOf (appliesIn (d .unit) (d .port) (headerOf f) f (length l)) frameOrder
+  pub command : headerOf f .«r_ctl» ≡ 0x06
+  pub code : getD f 36 0 ≡ 0x28
+  pub silent : frameIn d f (length l) .said ≡ Sent 0
+
+-- the exchange of a READ(10), from the bytes of its frame: "LUN 8, .. CDB 16, FCP_DL 4" begin at bytes 24, 36 and 52
+abbrev pub readOf : List ℕ → Exchange
+readOf f =
+    record {
+      -- READ(10)'s "address": CDB bytes 2-5
+      start = num 4 f 38;
+      -- its "count": CDB bytes 7-8
+      blocks = num 2 f 43;
+      -- "Wanted: .. count × 512"
+      wanted = 512 * num 2 f 43;
+      -- "FCP_DL 4"
+      expected = num 4 f 52;
+      -- "the exchange opens silently": no byte and no frame is sent yet
+      sent = 0;
+      count = 0;
+      -- "OX_ID(2)" of the header
+      «ox_id» = num 2 f 16;
+      -- code 28h, READ(10)
+      kind = kindRead;
+    }
+
+-- "Else the exchange opens silently": the drive e is d with the READ of the frame f open at a place that was free, and nothing else has changed
+pub record Opened (d : Drive) (f : List ℕ) (e : Drive) : Type 0 where
+  pub i : ℕ
+  pub j : ℕ
+  pub free : isClosed (exchangeOf (d .port) i j) ≡ true
+  pub read : OpenRead e (headerOf f .«s_id») (headerOf f .«ox_id») i j
+  pub is : exchangeOf (e .port) i j ≡ readOf f
+  pub drive : e ≡ record { unit = d .unit; port = withLogin (d .port) i (withExchange (loginAt (d .port) i) j (readOf f)) }
 
 -- the exchange r is delivered whole in these pieces and the frame `last`, where full is the bytes of a full frame to its login
 pub record Delivered (unit : List ℕ) (full : ℕ) (r : Exchange) (pieces : List Piece) (last : List ℕ) : Type 0 where
