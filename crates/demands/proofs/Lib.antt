@@ -6,6 +6,8 @@ pub mod Numbers
 pub mod Decoding
 pub mod Calls
 pub mod Lengths
+pub mod Stepping
+pub mod Every
 pub mod Reading
 pub mod Opening
 pub mod Demands

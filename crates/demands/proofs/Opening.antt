@@ -40,7 +40,6 @@ use Rattle.drive.specs.declared.Answer.{Answer}
 use Rattle.drive.specs.Entry.{answered, decidedIn, replyBytes, frameIn}
 use Rattle.drive.proofs.Keeping.{frame-kept}
 use Rattle.serve.specs.Next.{exchangeOf, fullOf}
-use Rattle.serve.specs.Whole.{Piece}
 use Rattle.demands.specs.Reading.{Reads, ReadIn, readOf, Opened, Delivered, freed}
 use Rattle.demands.proofs.Decoding.{framed-long}
 use Rattle.demands.proofs.Refusals.{frame-answers}
@@ -190,11 +189,12 @@ module _ (d : Drive) (f l : List ℕ) (known : AllBytes f) (r : ReadIn d f l) wh
   formed-later = frame-kept d f (length l) known (passed (d .unit) (d .port) head f (length l) (r .passed) .fine)
 
   -- the frames that follow carry what the frame asked for
-  pub reads-in : (e : Drive) (unit : List ℕ) (pieces : List Piece) (last : List ℕ) → length unit ≡ 512 * d .unit .capacity → Reads unit (head .«s_id») (head .«ox_id») then pieces last e
-      → (Delivered unit (fullOf (d .port) (opens-read .i)) (readOf f) pieces last) × (e ≡ freed then (opens-read .i) (opens-read .j))
-  unfolding opens-read
-  reads-in e unit pieces last long reads =
+  pub reads-in : (e : Drive) (unit : List ℕ) (frames : List (List ℕ)) (last : List ℕ) → length unit ≡ 512 * d .unit .capacity → Reads unit (head .«s_id») (head .«ox_id») then frames last e
+      → (Delivered unit (d .port .address) (head .«s_id») (fullOf (d .port) (opens-read .i)) (readOf f) frames last) × (e ≡ freed then (opens-read .i) (opens-read .j))
+  unfolding opens-read withLogin
+  reads-in e unit frames last long reads =
       let same = long ∙ ap (λ (s : Drive). 512 * s .unit .capacity) (sym drive-later) in
-      let t = reads-whole then e unit (head .«s_id») (head .«ox_id») seat place pieces last formed-later same (opens-read .read) reads in
+      let t = reads-whole then e unit (head .«s_id») (head .«ox_id») seat place frames last formed-later same (opens-read .read) reads in
       let full = ap (λ (s : Drive). fullOf (s .port) seat) drive-later ∙ new-full (d .port) (head .«s_id») (head .«ox_id») seat place (readOf f) (opens-at .seat) none-open (opens-at .opens .free) has-own in
-      (rw (full, is-later) at (t .0), t .1)
+      let own : then .port .address ≡ d .port .address = ap (λ (s : Drive). s .port .address) drive-later in
+      (rw (own, full, is-later) at (t .0), t .1)
