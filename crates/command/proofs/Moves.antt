@@ -51,7 +51,7 @@ attention-not e h = let z : _≡_ {A = ℕ} 0 1 = cc in absurd (omega arith)
 same-exchange : (d e : Exchange) → asked.Wants d ≡ asked.Wants e → e ≡ d
 same-exchange d e h = cc
 
-wants-passed : (u : Unit) (attention ox : ℕ) (c : Cmnd) (e : Exchange) → askedOf u attention ox c ≡ asked.Wants e → Passed u attention ox c e
+pub wants-passed : (u : Unit) (attention ox : ℕ) (c : Cmnd) (e : Exchange) → askedOf u attention ox c ≡ asked.Wants e → Passed u attention ox c e
 unfolding askedOf testedBy
 wants-passed u attention ox c e =
     let o = operationOf c in

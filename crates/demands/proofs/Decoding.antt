@@ -1,4 +1,4 @@
--- What a next frame is to one who reads its bytes: the fields of its header, its payload without the fill, and the flags, the status and FCP_RESID of an FCP_RSP.
+-- What a next frame is to one who reads its bytes: the fields of its header, and its payload without the fill; and every byte of it, of data and of FCP_RSP.
 -- Assumes nothing.
 use mathlib.Core.Path.{_≡_, refl, ap, _∙_}
 use mathlib.Core.Bool.{Bool, true, false, cond, not, _&&_}
@@ -6,13 +6,12 @@ use mathlib.Core.List.{List, _++_}
 use Prim.Native.Nat.{ℕ, _+_, _-_, _%_, _^_, _≤_, _<_, min}
 use native.Mathlib.Omega.{arith}
 use lib.Dec.{eqb, leb}
-use lib.ListN.{length, take, drop, getD, replicate, length-append, length-take, length-replicate}
+use lib.ListN.{length, take, drop, length-append, length-take, length-replicate}
 use lib.Seq.{take-append-seam, drop-at}
 use borrow.Author.Tests.{eqb-true}
 use Rattle.tables.proofs.Bools.{and-left, and-right}
 use Rattle.tables.proofs.Keeping.{all-at}
-use Rattle.wire.specs.Bytes.{num, fillCount, fillOf}
-use Rattle.wire.proofs.Digits.{num-bytes}
+use Rattle.wire.specs.Bytes.{fillCount, fillOf}
 use Rattle.frame.specs.declared.Header.{Header}
 use Rattle.frame.specs.Head.{headerOf, headerBytes, Fits}
 use Rattle.frame.proofs.Trips.{length-header, read-write}
@@ -24,7 +23,7 @@ use Rattle.state.specs.Standing.{Open}
 use Rattle.state.specs.Changes.{emptyLogin, isUsed, hasAddress, ownOf, loginAt}
 use Rattle.state.specs.Tables.{lookupOf}
 use Rattle.state.proofs.Places.{open-place, open-used, found-has, login-inside}
-use Rattle.formed.specs.Formed.{setupRules, setupOf, addressFine, loginFine, wellFormed}
+use Rattle.formed.specs.Formed.{total, nextBytes, setupRules, setupOf, addressFine, loginFine, wellFormed}
 use Rattle.formed.proofs.Parts.{fine-used, formed-parts}
 use Rattle.formed.proofs.Advance.{sent-within}
 use Rattle.residual.specs.Residual.{residualOf}
@@ -37,6 +36,7 @@ use Rattle.reply.specs.Reply.{answerHead, dataHead, filled, bytesOf}
 use Rattle.serve.specs.Next.{hasMore, frameOf, nextReply, sourceOf, askedBy, exchangeOf, fullOf, frameBytes}
 use Rattle.serve.specs.Whole.{payloadAt}
 use Rattle.serve.proofs.Frames.{runs, total-small, is-data, next-counted}
+use Rattle.demands.specs.Reading.{dataHeader, responseHeader, framed, goodPayload}
 use Rattle.demands.proofs.Judges.{small-address}
 
 -- a header, a payload and its fill
@@ -104,6 +104,18 @@ module _ (u : Unit) (p : Port) (a x i j k : ℕ) (W : List ℕ) where
   unfolding frameBytes bytesOf filled statusBytes response-head
   response-bytes r e = rw e
 
+  -- every byte of each, with the header spelled out
+  pub data-frame : hasMore (exchangeOf p i j) ≡ true
+      → frameBytes u p a x i j k W
+      ≡ framed (dataHeader (p .address) a x (eqb (exchangeOf p i j .sent + nextBytes (fullOf p i) (exchangeOf p i j)) (total (exchangeOf p i j))) (exchangeOf p i j .count) (exchangeOf p i j .sent)) (payloadAt u p a x i j k W)
+  unfolding data-head dataHead askedBy frameOf filled
+  data-frame h = data-bytes (frameOf (fullOf p i) (exchangeOf p i j)) (more-reply h)
+
+  pub response-frame : (r : Residual) → nextReply (fullOf p i) (exchangeOf p i j) ≡ Respond (Status 0x00 r)
+      → frameBytes u p a x i j k W ≡ framed (responseHeader (p .address) a x) (goodPayload (residualFlag r) (residualSize r))
+  unfolding response-head answerHead askedBy statusBytes
+  response-frame r e = response-bytes r e
+
   -- R_CTL and TYPE tell the two apart
   pub data-kind : (f : DataFrame) → nextReply (fullOf p i) (exchangeOf p i j) ≡ Data f → (headerOf (frameBytes u p a x i j k W) .«r_ctl» ≡ 0x01) × (headerOf (frameBytes u p a x i j k W) .protocol ≡ 0x08)
   unfolding headerOf headerBytes data-head dataHead
@@ -113,21 +125,6 @@ module _ (u : Unit) (p : Port) (a x i j k : ℕ) (W : List ℕ) where
       → (headerOf (frameBytes u p a x i j k W) .«r_ctl» ≡ 0x07) × (headerOf (frameBytes u p a x i j k W) .protocol ≡ 0x08)
   unfolding headerOf headerBytes response-head answerHead
   response-kind r e = rw (response-bytes r e) (refl, refl)
-
-  -- "bytes 10 flags, 11 status, 12 FCP_RESID" of the payload, which begins at byte 24
-  pub response-status : (r : Residual) → nextReply (fullOf p i) (exchangeOf p i j) ≡ Respond (Status 0x00 r)
-      → (getD (frameBytes u p a x i j k W) 34 0 ≡ residualFlag r) × (getD (frameBytes u p a x i j k W) 35 0 ≡ 0x00)
-  unfolding headerBytes statusBytes
-  response-status r e = rw (response-bytes r e) (refl, refl)
-
-  -- "16 sense length, 20 response length": both 0, and nothing follows
-  pub response-rest : (r : Residual) → nextReply (fullOf p i) (exchangeOf p i j) ≡ Respond (Status 0x00 r) → drop 40 (frameBytes u p a x i j k W) ≡ replicate 8 0
-  unfolding headerBytes statusBytes
-  response-rest r e = ap (drop 40) (response-bytes r e)
-
-  pub response-resid : (r : Residual) → nextReply (fullOf p i) (exchangeOf p i j) ≡ Respond (Status 0x00 r) → residualSize r < 4294967296 → num 4 (frameBytes u p a x i j k W) 36 ≡ residualSize r
-  unfolding headerBytes statusBytes
-  response-resid r e small = ap (λ (b : List ℕ). num 4 b 36) (response-bytes r e) ∙ num-bytes 4 (residualSize r) (omega arith)
 
   response-long : (r : Residual) → length (headerBytes response-head ++ statusBytes (residualFlag r) 0x00 (residualSize r) 0 0) ≡ 48
   unfolding headerBytes statusBytes

@@ -36,12 +36,11 @@ use Rattle.state.specs.Standing.{Open}
 use Rattle.state.specs.Changes.{loginAt}
 use Rattle.state.specs.Tables.{lookupOf}
 use Rattle.serve.specs.Next.{exchangeOf, fullOf}
-use Rattle.serve.specs.Whole.{Piece}
 use Rattle.demands.specs.Contracts.{OneReply}
 use Rattle.demands.specs.Driven.{Driven}
 use Rattle.demands.specs.Refusals.{appliesOut}
 use Rattle.demands.specs.Login.{LoginIn, PortLogin}
-use Rattle.demands.specs.Reading.{Reads, OpenRead, Delivered, freed, Comes}
+use Rattle.demands.specs.Reading.{Reads, OpenRead, ReadIn, readOf, Opened, Delivered, freed, Comes}
 use Rattle.demands.specs.Numbers.{KnownNumbers}
 use Rattle.demands.proofs.Contracts.{one-reply}
 use Rattle.demands.proofs.Reach.{driven-fine}
@@ -49,6 +48,7 @@ use Rattle.demands.proofs.Refusals.{frame-first, frame-refuses, next-fi
 use Rattle.demands.proofs.Lengths.{frame-long, next-long}
 use Rattle.demands.proofs.Login.{login-is}
 use Rattle.demands.proofs.Reading.{reads-whole, reads-come}
+use Rattle.demands.proofs.Opening.{opens-read, reads-in}
 use Rattle.demands.proofs.Numbers.{known-numbers}
 
 -- No input allows two replies: of the contracts of all entries, of the C functions and of the programs' functions, two outcomes that one allows are the same, answer and all that is left of what was lent.
@@ -123,10 +123,24 @@ pub port-login : (d : Drive) (f l : List ℕ) → LoginIn d f l → length (d .p
 port-login = login-is
 
 -- A whole READ, read off the lent buffers: the unit's bytes from its first block on, to the smaller of wanted and FCP_DL, each once and in order, each frame at its OFFSET
--- with its number modulo 65,536 as SEQ_CNT, then FCP_RSP with status 00h and the residual, and the place freed. Whatever windows are cut from the unit, and whatever the buffers hold.
-pub whole-read : (d e : Drive) (unit : List ℕ) (a x i j : ℕ) (pieces : List Piece) (last : List ℕ) → wellFormed (d .unit) (d .port) ≡ true → length unit ≡ 512 * d .unit .capacity
-    → OpenRead d a x i j → Reads unit a x d pieces last e → (Delivered unit (fullOf (d .port) i) (exchangeOf (d .port) i j) pieces last) × (e ≡ freed d i j)
+-- with its number modulo 65,536 as SEQ_CNT, full but for the last, then FCP_RSP with status 00h and the residual, every byte of each as the table of headers has it, and the place freed.
+-- Whatever windows are cut from the unit, and whatever the buffers hold.
+pub whole-read : (d e : Drive) (unit : List ℕ) (a x i j : ℕ) (frames : List (List ℕ)) (last : List ℕ) → wellFormed (d .unit) (d .port) ≡ true → length unit ≡ 512 * d .unit .capacity
+    → OpenRead d a x i j → Reads unit a x d frames last e → (Delivered unit (d .port .address) a (fullOf (d .port) i) (exchangeOf (d .port) i j) frames last) × (e ≡ freed d i j)
 whole-read = reads-whole
+
+-- A READ from its FCP_CMND frame: one that is not refused and answered with nothing has opened just the exchange that the frame's bytes say, at a place of the sender's login that was free,
+-- and changed nothing else.
+pub read-opens : (d : Drive) (f l : List ℕ) → AllBytes f → ReadIn d f l → Opened d f (frameIn d f (length l) .drive)
+read-opens = opens-read
+
+-- And the frames that follow deliver what that frame asked for, and free the place.
+pub whole-read-in : (d e : Drive) (unit f l : List ℕ) (frames : List (List ℕ)) (last : List ℕ) → length unit ≡ 512 * d .unit .capacity → (known : AllBytes f) (r : ReadIn d f l)
+    → Reads unit (headerOf f .«s_id») (headerOf f .«ox_id») (frameIn d f (length l) .drive) frames last e
+    → let o = read-opens d f l known r in
+    (Delivered unit (d .port .address) (headerOf f .«s_id») (fullOf (d .port) (o .i)) (readOf f) frames last) × (e ≡ freed (frameIn d f (length l) .drive) (o .i) (o .j))
+unfolding read-opens
+whole-read-in d e unit f l frames last long known r = reads-in d f l known r e unit frames last long
 
 -- And such a run there is, for every open exchange of a proven login.
 pub whole-comes : (d : Drive) (unit : List ℕ) (a x i j : ℕ) → wellFormed (d .unit) (d .port) ≡ true → length unit ≡ 512 * d .unit .capacity → lookupOf (d .port) a x ≡ Open i j

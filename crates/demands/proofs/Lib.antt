@@ -7,5 +7,8 @@ pub mod Decoding
 pub mod Calls
 pub mod Contracts
 pub mod Lengths
+pub mod Stepping
+pub mod Every
 pub mod Reading
+pub mod Opening
 pub mod Demands

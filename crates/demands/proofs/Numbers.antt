@@ -44,8 +44,10 @@ known-numbers =
       under = refl;
       byte = refl;
       block = refl;
-      frame-65537 = refl;
-      frame-65536 = refl;
-      goes-round = refl;
+      bytes-there = refl;
       not-zero = refl;
+      bytes-zero = refl;
+      frame-65536 = refl;
+      frame-65537 = refl;
+      goes-round = refl;
     }

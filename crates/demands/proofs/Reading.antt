@@ -1,18 +1,22 @@
 -- What a whole READ delivers, read from the bytes that stand in the lent buffers, as one reads them who knows document 01 and not the code. Assumes nothing.
 use mathlib.Core.Path.{_≡_, refl, sym, ap, _∙_, subst}
-use mathlib.Core.Bool.{Bool, true, false, cond, _||_}
-use mathlib.Core.List.{List, [], _∷_}
+use mathlib.Core.Bool.{Bool, true, false, cond, not}
+use mathlib.Core.List.{List, [], _∷_, map}
 use Prim.Native.Nat.{ℕ, _-_, _*_, _<_}
 use native.Mathlib.Omega.{arith}
-use lib.Dec.{ltb}
-use lib.ListN.{length, take, replicate, length-replicate}
-use Rattle.tables.proofs.Bools.{apart}
+use lib.Dec.{eqb, ltb}
+use lib.ListN.{length, take, drop, replicate, length-replicate, length-map}
+use borrow.Author.Tests.{eqb-true}
+use Rattle.tables.proofs.Bools.{and-right}
+use Rattle.wire.proofs.Digits.{num-bytes}
+use Rattle.frame.specs.Head.{headerBytes}
 use Rattle.state.specs.declared.Port.{Port}
 use Rattle.state.specs.declared.Unit.{Unit}
 use Rattle.state.specs.Standing.{Open}
-use Rattle.state.specs.Changes.{loginAt}
-use Rattle.state.specs.Tables.{lookupOf}
-use Rattle.formed.specs.Formed.{wellFormed}
+use Rattle.state.specs.Changes.{isClosed, loginAt}
+use Rattle.state.specs.Tables.{hasId, lookupOf}
+use Rattle.state.proofs.Places.{open-has}
+use Rattle.formed.specs.Formed.{total, wellFormed}
 use Rattle.formed.proofs.Advance.{wanted-small}
 use Rattle.residual.specs.Residual.{residualOf}
 use Rattle.reply.specs.declared.Residual.{Residual}
@@ -20,84 +24,21 @@ use Rattle.reply.specs.declared.Residual.the-variants.{Exact, Over, Under}
 use Rattle.reply.specs.declared.Response.{Response}
 use Rattle.reply.specs.declared.Response.the-variants.{Status}
 use Rattle.reply.specs.Payload.{residualFlag, residualSize}
-use Rattle.serve.specs.Next.{hasMore, frameOf, exchangeOf, fullOf, Frame, stepOf, frameBytes, nextOf}
+use Rattle.serve.specs.Next.{frameOf, exchangeOf, fullOf, Frame, stepOf, frameBytes, nextOf}
 use Rattle.cover.specs.Cover.{cut}
 use Rattle.serve.specs.Whole.{Piece, payloadAt, Run}
 use Rattle.serve.specs.Whole as whole
-use Rattle.serve.proofs.Steps.{passed}
 use Rattle.serve.proofs.Frames.{runs, is-data, is-response}
 use Rattle.serve.proofs.Keeping.{next-kept}
 use Rattle.serve.proofs.Whole.{run-read}
 use Rattle.serve.proofs.Comes.{run-comes}
 use Rattle.arrival.specs.Arrival.{shortBuffer}
 use Rattle.drive.specs.declared.Drive.{Drive}
-use Rattle.drive.specs.Entry.{nextFrameBuffer}
-use Rattle.demands.proofs.Decoding.{more-reply, last-reply, data-kind, response-kind, response-status, response-resid, response-rest, data-offset, data-count, data-payload, frame-addressed}
-use Rattle.demands.proofs.Calls.{gave, says, front-is, drive-is}
-use Rattle.demands.specs.Reading.{isData, isResponse, pieceIn, flagsIn, statusIn, residIn, restIn, Sends, Reads, carries, responds, roomsOf, OpenRead, Delivered, freed, Comes, Shown}
-
--- R_CTL and TYPE show whether data were left
-module _ (u : Unit) (p : Port) (a x i j k : ℕ) (W : List ℕ) where
-  abbrev sent : List ℕ
-  sent = frameBytes u p a x i j k W
-
-  shows-data : hasMore (exchangeOf p i j) ≡ true → (isData sent ≡ true) × (isResponse sent ≡ false)
-  shows-data h = let t = data-kind u p a x i j k W _ (more-reply u p a x i j k W h) in rw (t .0, t .1) (refl, refl)
-
-  shows-response : hasMore (exchangeOf p i j) ≡ false → (isData sent ≡ false) × (isResponse sent ≡ true)
-  shows-response h = let t = response-kind u p a x i j k W _ (last-reply u p a x i j k W h) in rw (t .0, t .1) (refl, refl)
-
-  data-left : isData sent ≡ true → hasMore (exchangeOf p i j) ≡ true
-  data-left e = by (hasMore (exchangeOf p i j)) refl
-    where
-      by : (b : Bool) → hasMore (exchangeOf p i j) ≡ b → hasMore (exchangeOf p i j) ≡ true
-      by true h = h
-      by false h = apart e (shows-response h .0)
-
-  nothing-left : isResponse sent ≡ true → hasMore (exchangeOf p i j) ≡ false
-  nothing-left e = by (hasMore (exchangeOf p i j)) refl
-    where
-      by : (b : Bool) → hasMore (exchangeOf p i j) ≡ b → hasMore (exchangeOf p i j) ≡ false
-      by true h = apart e (shows-data h .1)
-      by false h = h
-
-  shows-either : (isData sent || isResponse sent) ≡ true
-  shows-either = by (hasMore (exchangeOf p i j)) refl
-    where
-      by : (b : Bool) → hasMore (exchangeOf p i j) ≡ b → (isData sent || isResponse sent) ≡ true
-      by true h = let t = shows-data h in rw (t .0)
-      by false h = let t = shows-response h in rw (t .0, t .1)
-
--- a call that was not refused is a step, and the frame in the buffer is its frame
-record Stepped (unit : List ℕ) (a x : ℕ) (d : Drive) (f : List ℕ) (e : Drive) : Type 0 where
-  start : ℕ
-  len : ℕ
-  i : ℕ
-  j : ℕ
-  k : ℕ
-  formed : wellFormed (d .unit) (d .port) ≡ true
-  step : stepOf (d .port) a x start (length (cut unit start len)) ≡ Frame i j k
-  stands : lookupOf (d .port) a x ≡ Open i j
-  frame : f ≡ frameBytes (d .unit) (d .port) a x i j k (cut unit start len)
-  drive : e ≡ record { unit = d .unit; port = nextOf (d .unit) (d .port) a x start (cut unit start len) .port }
-
-stepped : {unit : List ℕ} {a x : ℕ} {d : Drive} {f : List ℕ} {e : Drive} → Sends unit a x d f e → Stepped unit a x d f e
-stepped {unit} {a} {x} {d} {f} {e} s =
-    let W = cut unit (s .start) (s .len) in
-    let l = s .buffer in
-    let g = gave d a x (s .start) W l (s .n) (s .said) in
-    record {
-      start = s .start;
-      len = s .len;
-      i = g .i;
-      j = g .j;
-      k = g .k;
-      formed = g .formed;
-      step = g .step;
-      stands = passed (d .port) a x (s .start) (length W) (g .i) (g .j) (g .k) (g .step) .stands;
-      frame = s .frame ∙ ap (λ (n : ℕ). take n (nextFrameBuffer d a x (s .start) W l)) (sym (g .is)) ∙ front-is d a x (s .start) W l (g .i) (g .j) (g .k) (g .room) (g .formed) (g .step);
-      drive = s .drive ∙ drive-is d a x (s .start) W l (g .i) (g .j) (g .k) (g .room) (g .formed) (g .step);
-    }
+use Rattle.demands.proofs.Decoding.{more-reply, last-reply, response-frame, data-offset, data-count, data-payload, frame-addressed}
+use Rattle.demands.proofs.Calls.{says, front-is, drive-is}
+use Rattle.demands.proofs.Stepping.{shows-data, shows-response, data-left, nothing-left, shows-either, own-stays, Stepped, stepped}
+use Rattle.demands.proofs.Every.{reads-each}
+use Rattle.demands.specs.Reading.{isData, isResponse, pieceIn, flagsIn, statusIn, residIn, restIn, Sends, Reads, carries, responds, roomsOf, OpenRead, responseHeader, framed, dataFrames, goodPayload, Delivered, freed, Comes, Shown}
 
 -- no call is left out of a run: each frame that is sent shows itself as one of the two, and for whom it is
 pub reads-shown : (unit : List ℕ) (a x : ℕ) (d : Drive) (f : List ℕ) (e : Drive) → x < 65536 → Sends unit a x d f e → Shown (d .port .address) a x f
@@ -110,15 +51,12 @@ reads-shown unit a x d f e small s =
 same-piece : (f g : Piece) → f .offset ≡ g .offset → f .count ≡ g .count → f .payload ≡ g .payload → f ≡ g
 same-piece f g o c b = λ i. record { offset = o i; count = c i; payload = b i }
 
--- calls one after the other are frames one after the other, of the same pieces; and what the last of them shows
+-- calls one after the other are frames one after the other, of the same pieces; and the last of them
 record Ran (u : Unit) (unit : List ℕ) (a x : ℕ) (p : Port) (pieces : List Piece) (last : List ℕ) (e : Drive) : Type 0 where
   residual : Residual
   run : Run u unit a x p pieces (Status 0x00 residual) (e .port)
   same : e .unit ≡ u
-  status : statusIn last ≡ 0x00
-  flags : flagsIn last ≡ residualFlag residual
-  resid : residualSize residual < 4294967296 → residIn last ≡ residualSize residual
-  rest : restIn last ≡ replicate 8 0
+  response : last ≡ framed (responseHeader (p .address) a x) (goodPayload (residualFlag residual) (residualSize residual))
 
 ran-response : {unit : List ℕ} {a x : ℕ} {d e : Drive} {f : List ℕ} → Stepped unit a x d f e → isResponse f ≡ true → Ran (d .unit) unit a x (d .port) [] f e
 ran-response {unit} {a} {x} {d} {e} {f} t shown =
@@ -128,15 +66,11 @@ ran-response {unit} {a} {x} {d} {e} {f} t shown =
     let none = nothing-left u p a x (t .i) (t .j) (t .k) W (rw (t .frame) at shown) in
     let reply = last-reply u p a x (t .i) (t .j) (t .k) W none in
     let r = residualOf (exchangeOf p (t .i) (t .j) .wanted) (exchangeOf p (t .i) (t .j) .expected) in
-    let seen = response-status u p a x (t .i) (t .j) (t .k) W r reply in
     record {
       residual = r;
       run = subst (λ (q : Port). Run u unit a x p [] (Status 0x00 r) q) (sym (ap (λ (s : Drive). s .port) (t .drive))) (whole.ends (t .start) (t .len) (t .i) (t .j) (t .k) (t .step) reply);
       same = ap (λ (s : Drive). s .unit) (t .drive);
-      status = ap statusIn (t .frame) ∙ seen .1;
-      flags = ap flagsIn (t .frame) ∙ seen .0;
-      resid = λ small. ap residIn (t .frame) ∙ response-resid u p a x (t .i) (t .j) (t .k) W r reply small;
-      rest = ap restIn (t .frame) ∙ response-rest u p a x (t .i) (t .j) (t .k) W r reply;
+      response = t .frame ∙ response-frame u p a x (t .i) (t .j) (t .k) W r reply;
     }
 
 ran-data : {unit : List ℕ} {a x : ℕ} {d d₁ e : Drive} {f last : List ℕ} {pieces : List Piece} → x < 65536 → Stepped unit a x d f d₁ → isData f ≡ true → Ran (d₁ .unit) unit a x (d₁ .port) pieces last e
@@ -153,20 +87,39 @@ ran-data {unit} {a} {x} {d} {d₁} {e} {f} {last} {pieces} small t shown rest =
     ∙ same-piece _ _ (data-offset u p a x (t .i) (t .j) (t .k) W (t .formed) (t .stands) small g reply) (data-count u p a x (t .i) (t .j) (t .k) W (t .formed) (t .stands) small g reply)
     (data-payload u p a x (t .i) (t .j) (t .k) W (t .formed) (t .stands) small g reply) in
     let r = Status 0x00 (rest .residual) in
+    let own : d₁ .port .address ≡ p .address = ap (λ (s : Drive). s .port .address) (t .drive) ∙ own-stays u p a x (t .start) W (t .i) (t .j) (t .k) (t .step) in
     let on = subst (λ (s : Drive). Run (s .unit) unit a x (s .port) pieces r (e .port)) (t .drive) (rest .run) in
     record {
       residual = rest .residual;
       run = subst (λ (h : Piece). Run u unit a x p (h ∷ pieces) r (e .port)) (sym is) (whole.piece (t .start) (t .len) (t .i) (t .j) (t .k) g (t .step) reply on);
       same = rest .same ∙ ap (λ (s : Drive). s .unit) (t .drive);
-      status = rest .status;
-      flags = rest .flags;
-      resid = rest .resid;
-      rest = rest .rest;
+      response = rest .response ∙ ap (λ (own : ℕ). framed (responseHeader own a x) (goodPayload (residualFlag (rest .residual)) (residualSize (rest .residual)))) own;
     }
 
-ran : {unit : List ℕ} {a x : ℕ} {d e : Drive} {pieces : List Piece} {last : List ℕ} → x < 65536 → Reads unit a x d pieces last e → Ran (d .unit) unit a x (d .port) pieces last e
+ran : {unit : List ℕ} {a x : ℕ} {d e : Drive} {frames : List (List ℕ)} {last : List ℕ} → x < 65536 → Reads unit a x d frames last e → Ran (d .unit) unit a x (d .port) (map pieceIn frames) last e
 ran small (responds s shown) = ran-response (stepped s) shown
 ran small (carries s shown rest) = ran-data small (stepped s) shown (ran small rest)
+
+-- what FCP_RSP shows to one who reads its bytes
+module _ (own a x flags resid : ℕ) where
+  abbrev good : List ℕ
+  good = framed (responseHeader own a x) (goodPayload flags resid)
+
+  good-status : statusIn good ≡ 0x00
+  unfolding headerBytes
+  good-status = refl
+
+  good-flags : flagsIn good ≡ flags
+  unfolding headerBytes
+  good-flags = refl
+
+  good-resid : resid < 4294967296 → residIn good ≡ resid
+  unfolding headerBytes
+  good-resid small = num-bytes 4 resid (omega arith)
+
+  good-rest : restIn good ≡ replicate 8 0
+  unfolding headerBytes
+  good-rest = refl
 
 -- FCP_RESID fits its 4 bytes
 residual-case : (b c : Bool) (wanted expected : ℕ) → wanted < 4294967296 → expected < 4294967296 → residualSize (cond b (Over (wanted - expected)) (cond c (Under (expected - wanted)) Exact)) < 4294967296
@@ -181,26 +134,38 @@ residual-small wanted expected h k = residual-case (ltb expected wanted) (ltb wa
 same-status : (r s : Residual) → Status 0x00 r ≡ Status 0x00 s → r ≡ s
 same-status r s e = cc
 
+-- an open exchange has the OX_ID by which it is found
+open-id : (p : Port) (a x i j : ℕ) → lookupOf p a x ≡ Open i j → exchangeOf p i j .«ox_id» ≡ x
+unfolding hasId
+open-id p a x i j o = let e = exchangeOf p i j in eqb-true (e .«ox_id») x (and-right (not (isClosed e)) (eqb (e .«ox_id») x) (open-has p a x i j o))
+
 -- an open READ of a well-formed drive, whatever windows of the unit and whatever buffers are lent: the frames that stood in the buffers carry the bytes of its blocks, to its total,
 -- each once and in order, and then its status and residual; its place is free, and nothing else of the drive has changed
-pub reads-whole : (d e : Drive) (unit : List ℕ) (a x i j : ℕ) (pieces : List Piece) (last : List ℕ) → wellFormed (d .unit) (d .port) ≡ true → length unit ≡ 512 * d .unit .capacity
-    → OpenRead d a x i j → Reads unit a x d pieces last e → (Delivered unit (fullOf (d .port) i) (exchangeOf (d .port) i j) pieces last) × (e ≡ freed d i j)
-reads-whole d e unit a x i j pieces last w long o reads =
+pub reads-whole : (d e : Drive) (unit : List ℕ) (a x i j : ℕ) (frames : List (List ℕ)) (last : List ℕ) → wellFormed (d .unit) (d .port) ≡ true → length unit ≡ 512 * d .unit .capacity
+    → OpenRead d a x i j → Reads unit a x d frames last e → (Delivered unit (d .port .address) a (fullOf (d .port) i) (exchangeOf (d .port) i j) frames last) × (e ≡ freed d i j)
+reads-whole d e unit a x i j frames last w long o reads =
     let u = d .unit in
     let p = d .port in
     let r = exchangeOf p i j in
+    let full = fullOf p i in
+    let left = residualOf (r .wanted) (r .expected) in
+    let known = runs u p a x i j w (o .stands) .wanted in
     let t = ran (o .ox) reads in
-    let s = run-read u unit p (e .port) a x i j pieces (Status 0x00 (t .residual)) w long (o .stands) (o .kind) (o .fresh) (t .run) in
-    let is = same-status (t .residual) (residualOf (r .wanted) (r .expected)) (s .0 .response) in
-    let small = residual-small (r .wanted) (r .expected) (wanted-small u r (runs u p a x i j w (o .stands) .wanted)) (o .expected) in (
+    let s = run-read u unit p (e .port) a x i j (map pieceIn frames) (Status 0x00 (t .residual)) w long (o .stands) (o .kind) (o .fresh) (t .run) in
+    let is = same-status (t .residual) left (s .0 .response) in
+    let ox = open-id p a x i j (o .stands) in
+    let all = take (total r) (drop (512 * r .start) unit) in
+    let last-is = t .response ∙ ap (λ (q : Residual). good (p .address) a x (residualFlag q) (residualSize q)) is in (
       record {
         bytes = s .0 .bytes;
         order = s .0 .order;
-        frames = s .0 .frames;
-        status = t .status;
-        flags = t .flags ∙ ap residualFlag is;
-        resid = t .resid (rw is small) ∙ ap residualSize is;
-        rest = t .rest;
+        few = sym (length-map frames pieceIn) ∙ s .0 .frames;
+        each = reads-each d e unit a x i j frames last w long o reads ∙ ap (λ (n : ℕ). dataFrames (p .address) a n full all (length frames) 0) (sym ox);
+        status = ap statusIn last-is ∙ good-status (p .address) a x (residualFlag left) (residualSize left);
+        flags = ap flagsIn last-is ∙ good-flags (p .address) a x (residualFlag left) (residualSize left);
+        resid = ap residIn last-is ∙ good-resid (p .address) a x (residualFlag left) (residualSize left) (residual-small (r .wanted) (r .expected) (wanted-small u r known) (o .expected));
+        rest = ap restIn last-is ∙ good-rest (p .address) a x (residualFlag left) (residualSize left);
+        response = last-is ∙ ap (λ (n : ℕ). good (p .address) a n (residualFlag left) (residualSize left)) (sym ox);
       },
       λ n. record { unit = t .same n; port = s .1 n },
     )
@@ -234,7 +199,7 @@ module _ (u : Unit) (unit : List ℕ) (a x : ℕ) (l : List ℕ) (room : length 
   calls-come {p} {q} {pieces} {r} w (whole.ends start len i j k step reply) =
       let none = is-response (fullOf p i) (exchangeOf p i j) r reply .0 in
       record {
-        pieces = [];
+        frames = [];
         last = _;
         after = _;
         reads = responds (call p start len i j k w step) (shows-response u p a x i j k (cut unit start len) none .1);
@@ -244,7 +209,7 @@ module _ (u : Unit) (unit : List ℕ) (a x : ℕ) (l : List ℕ) (room : length 
       let more = is-data (fullOf p i) (exchangeOf p i j) f reply .0 in
       let on = calls-come (next-kept u p a x start (cut unit start len) w) rest in
       record {
-        pieces = _;
+        frames = _;
         last = on .last;
         after = on .after;
         reads = carries (call p start len i j k w step) (shows-data u p a x i j k (cut unit start len) more .0) (on .reads);

@@ -78,17 +78,21 @@ sent d f from count = take count (drop from (frameInBuffer d f (replicate 2136 0
 abbrev pub paired : ℕ → ℕ → Drive
 paired capacity size = after (made capacity) (plogi 0x01 size ∷ prli 0x01 ∷ ready 0x01 ∷ [])
 
--- what is said of the next frame out of exchange 0004h to address 01h, with a window of so many bytes A5h from a block on
-abbrev pub nextSaid : Drive → ℕ → ℕ → Said
-nextSaid d start len = nextFrame d 0x01 0x0004 start (replicate len 0xa5) 2136 .said
+-- a window of so many bytes A5h
+abbrev pub lent : ℕ → List ℕ
+lent len = replicate len 0xa5
+
+-- what is said of the next frame out of exchange 0004h to address 01h, with these bytes lent from a block on
+abbrev pub nextSaid : Drive → ℕ → List ℕ → Said
+nextSaid d start window = nextFrame d 0x01 0x0004 start window 2136 .said
 
 -- so many of the buffer's bytes from a place on, after that call
-abbrev pub nextSent : Drive → ℕ → ℕ → ℕ → ℕ → List ℕ
-nextSent d start len from count = take count (drop from (nextFrameBuffer d 0x01 0x0004 start (replicate len 0xa5) (replicate 2136 0x5a)))
+abbrev pub nextSent : Drive → ℕ → List ℕ → ℕ → ℕ → List ℕ
+nextSent d start window from count = take count (drop from (nextFrameBuffer d 0x01 0x0004 start window (replicate 2136 0x5a)))
 
 -- the drive after that call
-abbrev pub nextAfter : Drive → ℕ → ℕ → Drive
-nextAfter d start len = nextFrame d 0x01 0x0004 start (replicate len 0xa5) 2136 .drive
+abbrev pub nextAfter : Drive → ℕ → List ℕ → Drive
+nextAfter d start window = nextFrame d 0x01 0x0004 start window 2136 .drive
 
 -- eight logins, at the first eight addresses
 abbrev pub eight : Drive
@@ -113,6 +117,10 @@ reading bytes frames =
       });
     }
 
+-- the drive after a READ of one block of a unit that goes past block 8,388,608
+abbrev pub far : ℕ → Drive
+far address = after (paired 8388609 2048) (read 0x01 0x0004 address 1 512 ∷ [])
+
 -- "the cases marked P together, as a table"
 pub record KnownNumbers : Type 0 where
   -- "frame 20, 24, 2,136, 2,140 bytes: 3, read, read, 3"
@@ -130,17 +138,20 @@ pub record KnownNumbers : Type 0 where
   pub ninth : sent eight (plogi 0x1b 256) 24 8 ≡ 0x01 ∷ 0x00 ∷ 0x00 ∷ 0x00 ∷ 0x00 ∷ 0x09 ∷ 0x29 ∷ 0x00 ∷ []
   -- "capacity 100, address 99 count 1 read; 99 count 2, 100 count 0 refused": the one opens silently and is served, the others get 05/21/00
   pub read-99-1 : said (paired 100 2048) (read 0x01 0x0004 99 1 512) ≡ Sent 0
-  pub served-99-1 : nextSaid (after (paired 100 2048) (read 0x01 0x0004 99 1 512 ∷ [])) 99 512 ≡ Sent 536
+  pub served-99-1 : nextSaid (after (paired 100 2048) (read 0x01 0x0004 99 1 512 ∷ [])) 99 (lent 512) ≡ Sent 536
   pub read-99-2 : sent (paired 100 2048) (read 0x01 0x0004 99 2 1024) 48 14 ≡ 0x70 ∷ 0x00 ∷ 0x05 ∷ 0x00 ∷ 0x00 ∷ 0x00 ∷ 0x00 ∷ 0x0a ∷ 0x00 ∷ 0x00 ∷ 0x00 ∷ 0x00 ∷ 0x21 ∷ 0x00 ∷ []
   pub read-100-0 : sent (paired 100 2048) (read 0x01 0x0004 100 0 0) 48 14 ≡ 0x70 ∷ 0x00 ∷ 0x05 ∷ 0x00 ∷ 0x00 ∷ 0x00 ∷ 0x00 ∷ 0x0a ∷ 0x00 ∷ 0x00 ∷ 0x00 ∷ 0x00 ∷ 0x21 ∷ 0x00 ∷ []
   -- "wanted 1,024 with FCP_DL 1,000, 2,048: flag 04h by 24, 08h by 1,024": flags, status and FCP_RESID of the FCP_RSP after the data
-  pub over : nextSent (nextAfter (after (paired 100 2048) (read 0x01 0x0004 0 2 1000 ∷ [])) 0 1024) 0 0 34 6 ≡ 0x04 ∷ 0x00 ∷ 0x00 ∷ 0x00 ∷ 0x00 ∷ 0x18 ∷ []
-  pub under : nextSent (nextAfter (after (paired 100 2048) (read 0x01 0x0004 0 2 2048 ∷ [])) 0 1024) 0 0 34 6 ≡ 0x08 ∷ 0x00 ∷ 0x00 ∷ 0x00 ∷ 0x04 ∷ 0x00 ∷ []
-  -- "block 8,388,608 is byte 4,294,967,296": it is served from a window that starts there, and not from one that starts at block 0
+  pub over : nextSent (nextAfter (after (paired 100 2048) (read 0x01 0x0004 0 2 1000 ∷ [])) 0 (lent 1024)) 0 [] 34 6 ≡ 0x04 ∷ 0x00 ∷ 0x00 ∷ 0x00 ∷ 0x00 ∷ 0x18 ∷ []
+  pub under : nextSent (nextAfter (after (paired 100 2048) (read 0x01 0x0004 0 2 2048 ∷ [])) 0 (lent 1024)) 0 [] 34 6 ≡ 0x08 ∷ 0x00 ∷ 0x00 ∷ 0x00 ∷ 0x04 ∷ 0x00 ∷ []
+  -- "block 8,388,608 is byte 4,294,967,296": of a window of the block before it (A5h) and of itself (C3h) its own bytes are delivered, at OFFSET 0;
+  -- a window of block 0 does not cover it, and a READ of block 0 is delivered the bytes of block 0
   pub byte : _≡_ {A = ℕ} (512 * 8388608) 4294967296
-  pub block : nextSaid (after (paired 8388609 2048) (read 0x01 0x0004 8388608 1 512 ∷ [])) 8388608 512 ≡ Sent 536
-  -- "size 256, frame 65,537 has SEQ_CNT 0": OFFSET is 65,536 × 256; the frame before it has FFFFh
-  pub frame-65537 : nextSent (reading 16777216 0) 32768 512 12 12 ≡ 0x01 ∷ 0x00 ∷ 0x00 ∷ 0x00 ∷ 0x00 ∷ 0x04 ∷ 0xff ∷ 0xff ∷ 0x01 ∷ 0x00 ∷ 0x00 ∷ 0x00 ∷ []
-  pub frame-65536 : nextSent (reading 16776960 65535) 32767 512 12 12 ≡ 0x01 ∷ 0x00 ∷ 0xff ∷ 0xff ∷ 0x00 ∷ 0x04 ∷ 0xff ∷ 0xff ∷ 0x00 ∷ 0xff ∷ 0xff ∷ 0x00 ∷ []
-  pub goes-round : exchangeAt (loginAt (nextAfter (reading 16776960 65535) 32767 512 .port) 0) 0 .count ≡ 0
-  pub not-zero : nextSaid (after (paired 8388609 2048) (read 0x01 0x0004 8388608 1 512 ∷ [])) 0 512 ≡ Refused BadWindow
+  pub block : nextSaid (far 8388608) 8388608 (lent 512) ≡ Sent 536
+  pub bytes-there : nextSent (far 8388608) 8388607 (lent 512 ++ replicate 512 0xc3) 20 516 ≡ bytes 4 0 ++ replicate 512 0xc3
+  pub not-zero : nextSaid (far 8388608) 0 (lent 512) ≡ Refused BadWindow
+  pub bytes-zero : nextSent (far 0) 0 (lent 512 ++ replicate 512 0xc3) 20 516 ≡ bytes 4 0 ++ replicate 512 0xa5
+  -- "size 256, frame 65,537 has SEQ_CNT 0": frame 65,536 has FFFFh and OFFSET 65,535 × 256, and the one after it 0 and 65,536 × 256
+  pub frame-65536 : nextSent (reading 16776960 65535) 32767 (lent 512) 12 12 ≡ 0x01 ∷ 0x00 ∷ 0xff ∷ 0xff ∷ 0x00 ∷ 0x04 ∷ 0xff ∷ 0xff ∷ 0x00 ∷ 0xff ∷ 0xff ∷ 0x00 ∷ []
+  pub frame-65537 : nextSent (nextAfter (reading 16776960 65535) 32767 (lent 512)) 32768 (lent 512) 12 12 ≡ 0x01 ∷ 0x00 ∷ 0x00 ∷ 0x00 ∷ 0x00 ∷ 0x04 ∷ 0xff ∷ 0xff ∷ 0x01 ∷ 0x00 ∷ 0x00 ∷ 0x00 ∷ []
+  pub goes-round : exchangeAt (loginAt (nextAfter (reading 16776960 65535) 32767 (lent 512) .port) 0) 0 .count ≡ 0

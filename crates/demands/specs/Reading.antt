@@ -1,15 +1,17 @@
 -- A whole READ and what it delivers, read from the bytes that stand in the lent buffers, as one reads them who knows document 01 and not the code.
 use mathlib.Core.Path.{_≡_}
-use mathlib.Core.Bool.{Bool, true, _&&_, _||_}
-use mathlib.Core.List.{List, [], _∷_}
-use Prim.Native.Nat.{ℕ, suc, _-_, _*_, _%_, _<_}
-use lib.Dec.{eqb}
+use mathlib.Core.Bool.{Bool, true, cond, _&&_, _||_}
+use mathlib.Core.List.{List, [], _∷_, _++_, map}
+use Prim.Native.Nat.{ℕ, zero, suc, _+_, _-_, _*_, _%_, _<_}
+use lib.Dec.{eqb, leb}
 use lib.ListN.{length, take, drop, getD, replicate}
-use Rattle.wire.specs.Bytes.{num}
-use Rattle.frame.specs.Head.{headerOf}
+use Rattle.tables.specs.Firsts.{NoneOf}
+use Rattle.wire.specs.Bytes.{num, bytes, fillCount}
+use Rattle.frame.specs.declared.Header.{Header}
+use Rattle.frame.specs.Head.{headerOf, headerBytes}
 use Rattle.state.specs.declared.Exchange.{Exchange}
 use Rattle.state.specs.Standing.{Open}
-use Rattle.state.specs.Changes.{loginAt, withLogin, endedAt}
+use Rattle.state.specs.Changes.{loginAt, withLogin, withExchange, endedAt, isClosed}
 use Rattle.state.specs.Kinds.{kindRead}
 use Rattle.state.specs.Tables.{lookupOf}
 use Rattle.formed.specs.Formed.{total, framesOf}
@@ -20,7 +22,9 @@ use Rattle.cover.specs.Cover.{cut}
 use Rattle.serve.specs.Whole.{Piece, joined, InOrder}
 use Rattle.drive.specs.declared.Drive.{Drive}
 use Rattle.refusal.specs.declared.Said.the-variants.{Sent}
-use Rattle.drive.specs.Entry.{nextFrame, nextFrameBuffer}
+use Rattle.refusal.specs.Refusal.{frameOrder}
+use Rattle.arrival.specs.Arrival.{appliesIn}
+use Rattle.drive.specs.Entry.{frameIn, nextFrame, nextFrameBuffer}
 
 -- "the reply stands at the front of the buffer, its length .. in the answer": the frame in the buffer l after a call that said `Sent n`
 abbrev pub frameAt : List ℕ → ℕ → List ℕ
@@ -73,13 +77,13 @@ pub record Sends (unit : List ℕ) (a x : ℕ) (d : Drive) (f : List ℕ) (e : D
   pub frame : f ≡ frameAt (nextFrameBuffer d a x start (cut unit start len) buffer) n
   pub drive : e ≡ nextFrame d a x start (cut unit start len) (length buffer) .drive
 
--- such calls one after the other from the drive d on: FCP_DATA frames, each with its piece, and then "FCP_RSP follows", which is the frame `last` and leaves the drive e
-pub data Reads (unit : List ℕ) (a x : ℕ) : Drive → List Piece → List ℕ → Drive → Type 0 where
-  carries : {d d₁ e : Drive} {f last : List ℕ} {pieces : List Piece} → Sends unit a x d f d₁ → isData f ≡ true → Reads unit a x d₁ pieces last e → Reads unit a x d (pieceIn f ∷ pieces) last e
+-- such calls one after the other from the drive d on: FCP_DATA frames, all of them, and then "FCP_RSP follows", which is the frame `last` and leaves the drive e
+pub data Reads (unit : List ℕ) (a x : ℕ) : Drive → List (List ℕ) → List ℕ → Drive → Type 0 where
+  carries : {d d₁ e : Drive} {f last : List ℕ} {frames : List (List ℕ)} → Sends unit a x d f d₁ → isData f ≡ true → Reads unit a x d₁ frames last e → Reads unit a x d (f ∷ frames) last e
   responds : {d e : Drive} {f : List ℕ} → Sends unit a x d f e → isResponse f ≡ true → Reads unit a x d [] f e
 
 -- "1 reply buffer under 2,136 bytes": the sizes of the buffers that were lent, call by call
-abbrev pub roomsOf : {unit : List ℕ} {a x : ℕ} {d e : Drive} {pieces : List Piece} {last : List ℕ} → Reads unit a x d pieces last e → List ℕ
+abbrev pub roomsOf : {unit : List ℕ} {a x : ℕ} {d e : Drive} {frames : List (List ℕ)} {last : List ℕ} → Reads unit a x d frames last e → List ℕ
 roomsOf (carries s shown rest) = length (s .buffer) ∷ roomsOf rest
 roomsOf (responds s shown) = length (s .buffer) ∷ []
 
@@ -91,20 +95,116 @@ pub record OpenRead (d : Drive) (a x i j : ℕ) : Type 0 where
   pub ox : x < 65536
   pub expected : exchangeOf (d .port) i j .expected < 4294967296
 
--- the exchange r is delivered whole in these pieces and the frame `last`, where full is the bytes of a full frame to its login
-pub record Delivered (unit : List ℕ) (full : ℕ) (r : Exchange) (pieces : List Piece) (last : List ℕ) : Type 0 where
+-- a READ that opens: none of 1 to 7 applies to the frame f, with the buffer l lent, it is an FCP_CMND (R_CTL 06h) of code 28h, the first byte of the CDB, and nothing is answered
+pub record ReadIn (d : Drive) (f l : List ℕ) : Type 0 where
+  pub passed : NoneOf (appliesIn (d .unit) (d .port) (headerOf f) f (length l)) frameOrder
+  pub command : headerOf f .«r_ctl» ≡ 0x06
+  pub code : getD f 36 0 ≡ 0x28
+  pub silent : frameIn d f (length l) .said ≡ Sent 0
+
+-- the exchange of a READ(10), from the bytes of its frame: "LUN 8, .. CDB 16, FCP_DL 4" begin at bytes 24, 36 and 52
+abbrev pub readOf : List ℕ → Exchange
+readOf f =
+    record {
+      -- READ(10)'s "address": CDB bytes 2-5
+      start = num 4 f 38;
+      -- its "count": CDB bytes 7-8
+      blocks = num 2 f 43;
+      -- "Wanted: .. count × 512"
+      wanted = 512 * num 2 f 43;
+      -- "FCP_DL 4"
+      expected = num 4 f 52;
+      -- "the exchange opens silently": no byte and no frame is sent yet
+      sent = 0;
+      count = 0;
+      -- "OX_ID(2)" of the header
+      «ox_id» = num 2 f 16;
+      -- code 28h, READ(10)
+      kind = kindRead;
+    }
+
+-- "Else the exchange opens silently": the drive e is d with the READ of the frame f open at a place that was free, and nothing else has changed
+pub record Opened (d : Drive) (f : List ℕ) (e : Drive) : Type 0 where
+  pub i : ℕ
+  pub j : ℕ
+  pub free : isClosed (exchangeOf (d .port) i j) ≡ true
+  pub read : OpenRead e (headerOf f .«s_id») (headerOf f .«ox_id») i j
+  pub is : exchangeOf (e .port) i j ≡ readOf f
+  pub drive : e ≡ record { unit = d .unit; port = withLogin (d .port) i (withExchange (loginAt (d .port) i) j (readOf f)) }
+
+-- the table of reply headers, "FCP_DATA, last or not": 01 08, 880008 or 800008, 01; "addresses swapped, OX_ID echoed, RX_ID FFFFh, the rest 0"; "FCP frames add the fill count to F_CTL"
+abbrev pub dataHeader : (own a x : ℕ) → Bool → (count at fill : ℕ) → Header
+dataHeader own a x last count at fill =
+    record {
+      «r_ctl» = 0x01;
+      «d_id» = a;
+      reserved = 0;
+      «s_id» = own;
+      protocol = 0x08;
+      «f_ctl» = cond last 0x880008 0x800008 + fill;
+      «seq_id» = 0x01;
+      «df_ctl» = 0;
+      «seq_cnt» = count;
+      «ox_id» = x;
+      «rx_id» = 0xffff;
+      offset = at;
+    }
+
+-- the same of "FCP_RSP": 07 08, 990000, 00
+abbrev pub responseHeader : (own a x fill : ℕ) → Header
+responseHeader own a x fill =
+    record {
+      «r_ctl» = 0x07;
+      «d_id» = a;
+      reserved = 0;
+      «s_id» = own;
+      protocol = 0x08;
+      «f_ctl» = 0x990000 + fill;
+      «seq_id» = 0x00;
+      «df_ctl» = 0;
+      «seq_cnt» = 0;
+      «ox_id» = x;
+      «rx_id» = 0xffff;
+      offset = 0;
+    }
+
+-- a header, a payload, and "Payloads are filled with zeros to a multiple of 4"
+abbrev pub framed : (ℕ → Header) → List ℕ → List ℕ
+framed head payload = headerBytes (head (fillCount (length payload))) ++ (payload ++ replicate (fillCount (length payload)) 0)
+
+-- "A frame carries the login's W18 size, 2,048 at most, or what is left. OFFSET is the byte offset; SEQ_CNT the frame's number from 0, going round at 65,536":
+-- the FCP_DATA frame of this number where all of them carry these bytes; it is the last where none are left after it
+abbrev pub dataFrame : (own a x full : ℕ) → List ℕ → ℕ → List ℕ
+dataFrame own a x full bytes number =
+    framed (dataHeader own a x (leb (length bytes) (number * full + full)) (number % 65536) (number * full)) (take full (drop (number * full) bytes))
+
+-- so many of them, from this number on
+abbrev pub dataFrames : (own a x full : ℕ) → List ℕ → ℕ → ℕ → List (List ℕ)
+dataFrames own a x full bytes zero number = []
+dataFrames own a x full bytes (suc n) number = dataFrame own a x full bytes number ∷ dataFrames own a x full bytes n (number + 1)
+
+-- "FCP_RSP: bytes 10 flags, 11 status, 12 FCP_RESID, 16 sense length, 20 response length": the payload with status 00h and no more after it
+abbrev pub goodPayload : (flags resid : ℕ) → List ℕ
+goodPayload flags resid = replicate 10 0 ++ (flags ∷ 0x00 ∷ bytes 4 resid) ++ replicate 8 0
+
+-- the exchange r of the port a is delivered whole by the port `own` in these frames and the frame `last`, where full is the bytes of a full frame to its login
+pub record Delivered (unit : List ℕ) (own a full : ℕ) (r : Exchange) (frames : List (List ℕ)) (last : List ℕ) : Type 0 where
   -- "To send: the smaller of wanted and FCP_DL": just so many of the unit's bytes from the first block on, each once and in order
-  pub bytes : joined pieces ≡ take (total r) (drop (512 * r .start) unit)
+  pub bytes : joined (map pieceIn frames) ≡ take (total r) (drop (512 * r .start) unit)
   -- "OFFSET is the byte offset; SEQ_CNT the frame's number from 0, going round at 65,536"
-  pub order : InOrder 0 0 pieces
+  pub order : InOrder 0 0 (map pieceIn frames)
   -- "A frame carries the login's W18 size, 2,048 at most, or what is left": as few frames as these take
-  pub frames : length pieces ≡ framesOf (total r) full
+  pub few : length frames ≡ framesOf (total r) full
+  -- and every byte of each of them: the table's header, its part of the bytes, full but for the last, and the fill
+  pub each : frames ≡ dataFrames own a (r .«ox_id») full (take (total r) (drop (512 * r .start) unit)) (length frames) 0
   -- status 00h, and "The signed difference of wanted and FCP_DL above 0 sets flag 04h, below 0 flag 08h, FCP_RESID its size"
   pub status : statusIn last ≡ 0x00
   pub flags : flagsIn last ≡ residualFlag (residualOf (r .wanted) (r .expected))
   pub resid : residIn last ≡ residualSize (residualOf (r .wanted) (r .expected))
   -- no sense and no response code: both lengths are 0, and the frame ends with them
   pub rest : restIn last ≡ replicate 8 0
+  -- and every byte of that frame
+  pub response : last ≡ framed (responseHeader own a (r .«ox_id»)) (goodPayload (residualFlag (residualOf (r .wanted) (r .expected))) (residualSize (residualOf (r .wanted) (r .expected))))
 
 -- "FCP_RSP follows and frees the place": the drive with that place free, and all else as it was
 abbrev pub freed : Drive → ℕ → ℕ → Drive
@@ -112,11 +212,11 @@ freed d i j = record { unit = d .unit; port = withLogin (d .port) i (endedAt (lo
 
 -- there are windows with which the exchange of a and x is read to its end, each call with a buffer of the least size
 pub record Comes (unit : List ℕ) (a x : ℕ) (d : Drive) : Type 0 where
-  pub pieces : List Piece
+  pub frames : List (List ℕ)
   pub last : List ℕ
   pub after : Drive
-  pub reads : Reads unit a x d pieces last after
-  pub rooms : roomsOf reads ≡ replicate (suc (length pieces)) 2136
+  pub reads : Reads unit a x d frames last after
+  pub rooms : roomsOf reads ≡ replicate (suc (length frames)) 2136
 
 -- whom a frame is for and of what: from our address to a, of OX_ID x, and FCP_DATA or FCP_RSP
 pub record Shown (own a x : ℕ) (f : List ℕ) : Type 0 where

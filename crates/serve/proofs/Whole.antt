@@ -178,7 +178,7 @@ all-frames u unit p q a x i j pieces r from w o is enough fresh run =
     )
 
 -- all data of a READ are on the unit
-read-enough : (u : Unit) (unit : List ℕ) (e : Exchange) → length unit ≡ 512 * u .capacity → Reads u e → total e ≤ length (drop (512 * e .start) unit)
+pub read-enough : (u : Unit) (unit : List ℕ) (e : Exchange) → length unit ≡ 512 * u .capacity → Reads u e → total e ≤ length (drop (512 * e .start) unit)
 read-enough u unit e long reads =
     let d = length-drop (512 * e .start) unit in
     let w = reads .wanted in

@@ -1,0 +1,200 @@
+-- A READ from its FCP_CMND frame on: it opens as the frame's bytes say, and what follows is delivered. Assumes nothing.
+use mathlib.Core.Path.{_≡_, refl, sym, ap, _∙_}
+use mathlib.Core.Bool.{Bool, true, false, cond}
+use mathlib.Core.List.{List, [], _∷_, _++_}
+use Prim.Native.Nat.{ℕ, zero, suc, _+_, _*_, _<_}
+use native.Mathlib.Omega.{arith}
+use lib.ListN.{length, set}
+use lib.Seq.{getD-set-same}
+use borrow.Author.Tests.{eq-eqb}
+use Rattle.tables.specs.declared.Found.{Found}
+use Rattle.tables.specs.declared.Found.the-variants.{At, Nothing}
+use Rattle.tables.specs.Lists.{firstFrom}
+use Rattle.tables.proofs.Searches.{found-below, found-passes, same-found}
+use Rattle.wire.specs.Bytes.{num, fillCount}
+use Rattle.wire.specs.Layout.{AllBytes}
+use Rattle.frame.specs.declared.Header.{Header}
+use Rattle.frame.specs.Head.{headerOf, headerBytes}
+use Rattle.state.specs.declared.Exchange.{Exchange}
+use Rattle.state.specs.declared.Login.{Login}
+use Rattle.state.specs.declared.Port.{Port}
+use Rattle.state.specs.Standing.{Open}
+use Rattle.state.specs.Changes.{emptyExchange, emptyLogin, hasAddress, isClosed, ownOf, loginAt, exchangeAt, withLogin, withExchange}
+use Rattle.state.specs.Tables.{hasId, findLogin, findExchange, freeExchange, loginIn, loginOf, lookupOf}
+use Rattle.formed.specs.Formed.{fullFrame, wellFormed}
+use Rattle.reply.specs.Payload.{payloadOf}
+use Rattle.reply.specs.Reply.{headOf, silent, filled, bytesOf}
+use Rattle.calls.specs.Turn.{Decided}
+use Rattle.calls.proofs.Views.{sought-is}
+use Rattle.command.specs.declared.Operation.the-variants.{Read}
+use Rattle.command.specs.Cmnd.{cmndOf}
+use Rattle.command.specs.Cdb.{range10, decodedOf}
+use Rattle.command.specs.Command.{toldOf, commandOf}
+use Rattle.command.proofs.Moves.{operationOf}
+use Rattle.command.proofs.Silent.{wishOf, OpensAt, command-silent}
+use Rattle.refusal.specs.declared.Said.the-variants.{Sent}
+use Rattle.arrival.specs.Arrival.{formOf}
+use Rattle.arrival.proofs.Passes.{passed}
+use Rattle.drive.specs.declared.Drive.{Drive}
+use Rattle.drive.specs.declared.Answer.{Answer}
+use Rattle.drive.specs.Entry.{answered, decidedIn, replyBytes, frameIn}
+use Rattle.drive.proofs.Keeping.{frame-kept}
+use Rattle.serve.specs.Next.{exchangeOf, fullOf}
+use Rattle.demands.specs.Reading.{Reads, ReadIn, readOf, Opened, Delivered, freed}
+use Rattle.demands.proofs.Decoding.{framed-long}
+use Rattle.demands.proofs.Refusals.{frame-answers}
+use Rattle.demands.proofs.Reading.{reads-whole}
+
+-- a reply of no bytes is none
+none-silent : (d : Drive) (h : Header) (r : Decided) → Sent (length (replyBytes d h r)) ≡ Sent 0 → silent (r .reply) ≡ true
+unfolding replyBytes bytesOf
+none-silent d h r e = by (silent (r .reply)) refl (cc)
+  where
+    P : List ℕ
+    P = payloadOf (ownOf (d .port)) h (r .reply) []
+
+    by : (b : Bool) → silent (r .reply) ≡ b → length (cond b [] (headerBytes (headOf h (r .reply) (fillCount (length P))) ++ filled P)) ≡ 0 → silent (r .reply) ≡ true
+    by true s n = s
+    by false s n = let l = framed-long (headOf h (r .reply) (fillCount (length P))) P in absurd (omega arith)
+
+-- an element that passes, stored in a table in which none does, is what is found
+new-step : (b : Bool) (k j : ℕ) (g h : Found) → (g ≡ Nothing → h ≡ At (suc k + j)) → cond b (At k) g ≡ Nothing → cond b (At k) h ≡ At (k + suc j)
+new-step true k j g h rest e = let z : _≡_ {A = ℕ} 0 1 = cc in absurd (omega arith)
+new-step false k j g h rest e = rest e ∙ ap At (omega arith)
+
+new-from : {A : Type 0} (p : A → Bool) (xs : List A) (k j : ℕ) (y : A) → p y ≡ true → j < length xs → firstFrom p k xs ≡ Nothing → firstFrom p k (set xs j y) ≡ At (k + j)
+new-from p [] k j y h l e = absurd (omega arith)
+new-from p (x ∷ xs) k zero y h l e = rw h (ap At (omega arith))
+new-from p (x ∷ xs) k (suc j) y h l e = new-step (p x) k j (firstFrom p (suc k) xs) (firstFrom p (suc k) (set xs j y)) (new-from p xs (suc k) j y h (omega arith)) e
+
+-- an exchange that opens at a free place of a login that had none of its OX_ID stands there
+module _ (p : Port) (a x i j : ℕ) (e : Exchange) (seat : findLogin p a ≡ At i) (none : findExchange (loginAt p i) x ≡ Nothing) (free : freeExchange (loginAt p i) ≡ At j) (has : hasId x e ≡ true) where
+  abbrev stored : Port
+  stored = withLogin p i (withExchange (loginAt p i) j e)
+
+  seat-same : findLogin stored a ≡ At i
+  unfolding findLogin withLogin withExchange loginAt hasAddress
+  seat-same = same-found emptyLogin (hasAddress a) (p .logins) i (withExchange (loginAt p i) j e) refl ∙ seat
+
+  login-new : loginAt stored i ≡ withExchange (loginAt p i) j e
+  unfolding findLogin loginAt withLogin
+  login-new = getD-set-same (p .logins) i (withExchange (loginAt p i) j e) emptyLogin (found-below emptyLogin (hasAddress a) (p .logins) seat)
+
+  place-inside : j < length (loginAt p i .places)
+  unfolding freeExchange
+  place-inside = found-below emptyExchange isClosed (loginAt p i .places) free
+
+  exchange-new : findExchange (withExchange (loginAt p i) j e) x ≡ At j
+  unfolding findExchange withExchange
+  exchange-new = new-from (hasId x) (loginAt p i .places) 0 j e has place-inside none ∙ ap At (omega arith)
+
+  new-open : lookupOf stored a x ≡ Open i j
+  unfolding lookupOf loginOf
+  new-open = rw (seat-same, login-new, exchange-new)
+
+  new-stored : exchangeOf stored i j ≡ e
+  unfolding exchangeAt withExchange
+  new-stored = ap (λ (m : Login). exchangeAt m j) login-new ∙ getD-set-same (loginAt p i .places) j e emptyExchange place-inside
+
+  new-full : fullOf stored i ≡ fullOf p i
+  unfolding withExchange
+  new-full = ap (λ (m : Login). fullFrame (m .size)) login-new
+
+module _ (d : Drive) (f l : List ℕ) (known : AllBytes f) (r : ReadIn d f l) where
+  abbrev head : Header
+  head = headerOf f
+
+  abbrev decided : Decided
+  decided = commandOf (d .unit) (d .port) head f
+
+  abbrev then : Drive
+  then = frameIn d f (length l) .drive
+
+  -- the answer is the command's
+  command-answered : frameIn d f (length l) ≡ answered d head decided
+  unfolding formOf
+  command-answered = let is : decidedIn d f ≡ decided = rw (r .command) in frame-answers d f l (r .passed) .0 ∙ ap (answered d head) is
+
+  opens-at : OpensAt (d .port) head (cmndOf f) (decided .port)
+  opens-at = command-silent (d .unit) (d .port) head f (none-silent d head decided (sym (ap (λ (a : Answer). a .said) command-answered) ∙ r .silent))
+
+  -- what a CDB of code 28h asks for is what the frame's bytes say
+  wish-read : (m : Login) → wishOf m (head .«ox_id») (cmndOf f) ≡ readOf f
+  unfolding cmndOf decodedOf range10 headerOf
+  wish-read m = let is : operationOf (cmndOf f) ≡ Read record { start = num 4 f 38; blocks = num 2 f 43 } = rw (r .code) in rw is
+
+  -- the login had no exchange of its OX_ID
+  none-open : findExchange (loginAt (d .port) (opens-at .i)) (head .«ox_id») ≡ Nothing
+  unfolding loginOf
+  none-open =
+      let is = sought-is (d .port) (head .«s_id») (head .«ox_id») ∙ ap (λ (g : Found). findExchange (loginIn (d .port) g) (head .«ox_id»)) (opens-at .seat) in
+      sym is ∙ opens-at .opens .none
+
+  has-own : hasId (head .«ox_id») (readOf f) ≡ true
+  unfolding hasId headerOf
+  has-own = eq-eqb (num 2 f 16) (num 2 f 16) refl
+
+  -- the places of its login and of itself
+  abbrev seat : ℕ
+  seat = opens-at .i
+
+  abbrev place : ℕ
+  place = opens-at .opens .j
+
+  abbrev later : Port
+  later = withLogin (d .port) seat (withExchange (loginAt (d .port) seat) place (readOf f))
+
+  port-later : decided .port ≡ later
+  unfolding toldOf
+  port-later =
+      let m = loginAt (d .port) seat in
+      opens-at .is ∙ ap (withLogin (d .port) seat) (opens-at .opens .is ∙ ap (λ (e : Exchange). withExchange (toldOf m (e .kind)) place e) (wish-read m))
+
+  drive-later : then ≡ record { unit = d .unit; port = later }
+  drive-later = ap (λ (a : Answer). a .drive) command-answered ∙ ap (λ (q : Port). record { unit = d .unit; port = q }) port-later
+
+  is-later : exchangeOf (then .port) seat place ≡ readOf f
+  is-later = ap (λ (e : Drive). exchangeOf (e .port) seat place) drive-later ∙ new-stored (d .port) _ _ seat place (readOf f) (opens-at .seat) none-open (opens-at .opens .free) has-own
+
+  place-free : isClosed (exchangeOf (d .port) seat place) ≡ true
+  unfolding freeExchange exchangeAt
+  place-free = found-passes emptyExchange isClosed (loginAt (d .port) seat .places) (opens-at .opens .free)
+
+  ox-small : head .«ox_id» < 65536
+  unfolding headerOf
+  ox-small = let a = known 16 in let b = known 17 in omega arith
+
+  expected-small : num 4 f 52 < 4294967296
+  expected-small = let a = known 52 in let b = known 53 in let c = known 54 in let e = known 55 in omega arith
+
+  pub opens-read : Opened d f then
+  opens-read =
+      record {
+        i = seat;
+        j = place;
+        free = place-free;
+        read = record {
+          stands = ap (λ (e : Drive). lookupOf (e .port) (head .«s_id») (head .«ox_id»)) drive-later
+              ∙ new-open (d .port) (head .«s_id») (head .«ox_id») seat place (readOf f) (opens-at .seat) none-open (opens-at .opens .free) has-own;
+          kind = ap (λ (e : Exchange). e .kind) is-later;
+          fresh = ap (λ (e : Exchange). e .sent) is-later;
+          ox = ox-small;
+          expected = rw is-later expected-small;
+        };
+        is = is-later;
+        drive = drive-later;
+      }
+
+  formed-later : wellFormed (then .unit) (then .port) ≡ true
+  formed-later = frame-kept d f (length l) known (passed (d .unit) (d .port) head f (length l) (r .passed) .fine)
+
+  -- the frames that follow carry what the frame asked for
+  pub reads-in : (e : Drive) (unit : List ℕ) (frames : List (List ℕ)) (last : List ℕ) → length unit ≡ 512 * d .unit .capacity → Reads unit (head .«s_id») (head .«ox_id») then frames last e
+      → (Delivered unit (d .port .address) (head .«s_id») (fullOf (d .port) (opens-read .i)) (readOf f) frames last) × (e ≡ freed then (opens-read .i) (opens-read .j))
+  unfolding opens-read withLogin
+  reads-in e unit frames last long reads =
+      let same = long ∙ ap (λ (s : Drive). 512 * s .unit .capacity) (sym drive-later) in
+      let t = reads-whole then e unit (head .«s_id») (head .«ox_id») seat place frames last formed-later same (opens-read .read) reads in
+      let full = ap (λ (s : Drive). fullOf (s .port) seat) drive-later ∙ new-full (d .port) (head .«s_id») (head .«ox_id») seat place (readOf f) (opens-at .seat) none-open (opens-at .opens .free) has-own in
+      let own : then .port .address ≡ d .port .address = ap (λ (s : Drive). s .port .address) drive-later in
+      (rw (own, full, is-later) at (t .0), t .1)
