@@ -48,7 +48,7 @@ use Rattle.demands.proofs.Refusals.{frame-first, frame-refuses, next-fi
 use Rattle.demands.proofs.Lengths.{frame-long, next-long}
 use Rattle.demands.proofs.Login.{login-is}
 use Rattle.demands.proofs.Reading.{reads-whole, reads-come}
-use Rattle.demands.proofs.Opening.{opens-read, reads-in}
+use Rattle.demands.proofs.Opening.{opens-read, reads-in, comes-in}
 use Rattle.demands.proofs.Numbers.{known-numbers}
 
 -- No input allows two replies: of the contracts of all entries, of the C functions and of the programs' functions, two outcomes that one allows are the same, answer and all that is left of what was lent.
@@ -146,6 +146,10 @@ whole-read-in d e unit f l frames last long known r = reads-in d f l known r e u
 pub whole-comes : (d : Drive) (unit : List ℕ) (a x i j : ℕ) → wellFormed (d .unit) (d .port) ≡ true → length unit ≡ 512 * d .unit .capacity → lookupOf (d .port) a x ≡ Open i j
     → loginAt (d .port) i .proven ≡ 1 → Comes unit a x d
 whole-comes = reads-come
+
+-- And so after every such frame.
+pub whole-comes-in : (d : Drive) (unit f l : List ℕ) → length unit ≡ 512 * d .unit .capacity → AllBytes f → ReadIn d f l → Comes unit (headerOf f .«s_id») (headerOf f .«ox_id») (frameIn d f (length l) .drive)
+whole-comes-in d unit f l long known r = comes-in d f l known r unit long
 
 -- The known numbers marked P, as one table.
 pub p-cases : KnownNumbers

@@ -1,12 +1,13 @@
 -- A READ from its FCP_CMND frame on: it opens as the frame's bytes say, and what follows is delivered. Assumes nothing.
 use mathlib.Core.Path.{_≡_, refl, sym, ap, _∙_}
-use mathlib.Core.Bool.{Bool, true, false, cond}
+use mathlib.Core.Bool.{Bool, true, false, cond, not}
 use mathlib.Core.List.{List, [], _∷_, _++_}
 use Prim.Native.Nat.{ℕ, zero, suc, _+_, _*_, _<_}
 use native.Mathlib.Omega.{arith}
+use lib.Dec.{eqb}
 use lib.ListN.{length, set}
 use lib.Seq.{getD-set-same}
-use borrow.Author.Tests.{eq-eqb}
+use borrow.Author.Tests.{eqb-true, eq-eqb, not-false}
 use Rattle.tables.specs.declared.Found.{Found}
 use Rattle.tables.specs.declared.Found.the-variants.{At, Nothing}
 use Rattle.tables.specs.Lists.{firstFrom}
@@ -33,17 +34,17 @@ use Rattle.command.specs.Command.{toldOf, commandOf}
 use Rattle.command.proofs.Moves.{operationOf}
 use Rattle.command.proofs.Silent.{wishOf, OpensAt, command-silent}
 use Rattle.refusal.specs.declared.Said.the-variants.{Sent}
-use Rattle.arrival.specs.Arrival.{formOf}
+use Rattle.arrival.specs.Arrival.{spared, unprovenLogin, formOf}
 use Rattle.arrival.proofs.Passes.{passed}
 use Rattle.drive.specs.declared.Drive.{Drive}
 use Rattle.drive.specs.declared.Answer.{Answer}
 use Rattle.drive.specs.Entry.{answered, decidedIn, replyBytes, frameIn}
 use Rattle.drive.proofs.Keeping.{frame-kept}
 use Rattle.serve.specs.Next.{exchangeOf, fullOf}
-use Rattle.demands.specs.Reading.{Reads, ReadIn, readOf, Opened, Delivered, freed}
+use Rattle.demands.specs.Reading.{Reads, ReadIn, readOf, Opened, Delivered, freed, Comes}
 use Rattle.demands.proofs.Decoding.{framed-long}
 use Rattle.demands.proofs.Refusals.{frame-answers}
-use Rattle.demands.proofs.Reading.{reads-whole}
+use Rattle.demands.proofs.Reading.{reads-whole, reads-come}
 
 -- a reply of no bytes is none
 none-silent : (d : Drive) (h : Header) (r : Decided) → Sent (length (replyBytes d h r)) ≡ Sent 0 → silent (r .reply) ≡ true
@@ -188,13 +189,35 @@ module _ (d : Drive) (f l : List ℕ) (known : AllBytes f) (r : ReadIn d f l) wh
   formed-later : wellFormed (then .unit) (then .port) ≡ true
   formed-later = frame-kept d f (length l) known (passed (d .unit) (d .port) head f (length l) (r .passed) .fine)
 
+  unit-later : (unit : List ℕ) → length unit ≡ 512 * d .unit .capacity → length unit ≡ 512 * then .unit .capacity
+  unit-later unit long = long ∙ ap (λ (s : Drive). 512 * s .unit .capacity) (sym drive-later)
+
   -- the frames that follow carry what the frame asked for
   pub reads-in : (e : Drive) (unit : List ℕ) (frames : List (List ℕ)) (last : List ℕ) → length unit ≡ 512 * d .unit .capacity → Reads unit (head .«s_id») (head .«ox_id») then frames last e
       → (Delivered unit (d .port .address) (head .«s_id») (fullOf (d .port) (opens-read .i)) (readOf f) frames last) × (e ≡ freed then (opens-read .i) (opens-read .j))
   unfolding opens-read withLogin
   reads-in e unit frames last long reads =
-      let same = long ∙ ap (λ (s : Drive). 512 * s .unit .capacity) (sym drive-later) in
-      let t = reads-whole then e unit (head .«s_id») (head .«ox_id») seat place frames last formed-later same (opens-read .read) reads in
+      let t = reads-whole then e unit (head .«s_id») (head .«ox_id») seat place frames last formed-later (unit-later unit long) (opens-read .read) reads in
       let full = ap (λ (s : Drive). fullOf (s .port) seat) drive-later ∙ new-full (d .port) (head .«s_id») (head .«ox_id») seat place (readOf f) (opens-at .seat) none-open (opens-at .opens .free) has-own in
       let own : then .port .address ≡ d .port .address = ap (λ (s : Drive). s .port .address) drive-later in
       (rw (own, full, is-later) at (t .0), t .1)
+
+  -- 7 did not apply, so the login is proven
+  login-proven : loginAt (d .port) seat .proven ≡ 1
+  unfolding spared unprovenLogin
+  login-proven =
+      let m = loginAt (d .port) seat in
+      let fails : not (eqb (m .proven) 1) ≡ false = rw (r .command, opens-at .seat) at (passed (d .unit) (d .port) head f (length l) (r .passed) .proven) in
+      eqb-true (m .proven) 1 (not-false (eqb (m .proven) 1) fails)
+
+  proven-later : loginAt (then .port) seat .proven ≡ 1
+  unfolding withExchange
+  proven-later =
+      ap (λ (s : Drive). loginAt (s .port) seat .proven) drive-later
+      ∙ ap (λ (m : Login). m .proven) (login-new (d .port) (head .«s_id») (head .«ox_id») seat place (readOf f) (opens-at .seat) none-open (opens-at .opens .free) has-own)
+      ∙ login-proven
+
+  -- and such frames there are
+  pub comes-in : (unit : List ℕ) → length unit ≡ 512 * d .unit .capacity → Comes unit (head .«s_id») (head .«ox_id») then
+  unfolding opens-read
+  comes-in unit long = reads-come then unit (head .«s_id») (head .«ox_id») seat place formed-later (unit-later unit long) (opens-read .read .stands) proven-later
