@@ -78,7 +78,7 @@ enum jhartupal_attention {
     JHARTUPAL_CLEARED = 0x2F /* 06/2F/00: another login cleared its exchanges */
 };
 
-/* The state, field by field: it may be read between calls, copied, kept and put back. Any bytes are a state, and drive_make overwrites them;
+/* The state, field by field: it may be read between calls, copied, kept and put back. Any bytes are a state, and jhartupal_make overwrites them;
  * with a state that is not well formed, as zeros are not, the other calls are refused with 2, or with 1 before that. Padding (below, with its
  * bytes) is the compiler's own: it is no part of the state and is not kept, any call may change it, a refused one too. Compare states by
  * their fields. */
@@ -142,27 +142,27 @@ struct jhartupal_setup {
 
 /* Makes a drive with no logins in *d, whatever stood there: well formed, as every call leaves it. Answers 0, or refusal 8 where capacity,
  * address or accept words break a rule. */
-uint64_t drive_make(struct jhartupal_drive *d, const struct jhartupal_setup *setup);
+uint64_t jhartupal_make(struct jhartupal_drive *d, const struct jhartupal_setup *setup);
 
 /* Takes a frame, SOF, EOF and CRC removed, and writes its reply. A command that has bytes to send answers 0 and opens an exchange, whose
- * frames drive_next gives. Refusals 1 to 7. */
-uint64_t drive_frame(struct jhartupal_drive *d, const uint8_t *frame, size_t n, uint8_t *reply, size_t room);
+ * frames jhartupal_next gives. Refusals 1 to 7. */
+uint64_t jhartupal_frame(struct jhartupal_drive *d, const uint8_t *frame, size_t n, uint8_t *reply, size_t room);
 
 /* Writes the next frame of the open exchange of a login's address and an OX_ID: its data frames one after the other, then its FCP_RSP,
  * which frees the place. The window is n bytes of the unit from block start on, and holds all bytes of this frame where it carries READ
  * data; for made data and FCP_RSP it may hold none. What stands in it is sent as it is. Never 0; refusals 1, 2, 9, 7, 10. */
-uint64_t drive_next(struct jhartupal_drive *d, uint32_t address, uint16_t ox_id, uint64_t start, const uint8_t *window, size_t n,
+uint64_t jhartupal_next(struct jhartupal_drive *d, uint32_t address, uint16_t ox_id, uint64_t start, const uint8_t *window, size_t n,
                     uint8_t *reply, size_t room);
 
 /* The loop was reset: every login is to be verified, and until then its frames but PLOGI, PDISC, ADISC and LOGO are refused with 7, and
  * its next frames too. Answers 0, or refusal 2. */
-uint64_t drive_loop_reset(struct jhartupal_drive *d);
+uint64_t jhartupal_loop_reset(struct jhartupal_drive *d);
 
 /* The verification time is over: every login that is not proven ends, with its exchanges. Answers 0, or refusal 2. */
-uint64_t drive_time_over(struct jhartupal_drive *d);
+uint64_t jhartupal_time_over(struct jhartupal_drive *d);
 
 /* Power on: every login ends. The setup stays. Answers 0, or refusal 2. */
-uint64_t drive_power_on(struct jhartupal_drive *d);
+uint64_t jhartupal_power_on(struct jhartupal_drive *d);
 
 #ifdef __cplusplus
 }

@@ -215,7 +215,7 @@ static void one_call(struct jhartupal_drive *d) {
 
 /* That the calls were not all of one sort: each function answers often, and so does each refusal that it can have. */
 static void varied(void) {
-    static const char *const names[FUNCTIONS] = {"drive_frame", "drive_next", "events", "drive_make"};
+    static const char *const names[FUNCTIONS] = {"jhartupal_frame", "jhartupal_next", "events", "jhartupal_make"};
     static const unsigned can[FUNCTIONS] = {ANSWERED | OF_FRAME, ANSWERED | OF_NEXT, ANSWERED | OF_EVENT, ANSWERED | OF_MAKE};
     for (size_t i = 0; i < FUNCTIONS; i++) {
         for (unsigned k = 0; k <= LAST_REFUSAL; k++) {

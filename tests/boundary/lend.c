@@ -132,11 +132,11 @@ struct call {
     size_t least, most;
     bool writes;
 };
-static const struct call make_call = {"drive_make", OF_MAKE, 0, 0, false};
-static const struct call frame_call = {"drive_frame", OF_FRAME, 0, 24 + 4 + JHARTUPAL_ACCEPT, true};
-static const struct call next_call = {"drive_next", OF_NEXT, 28, 24 + JHARTUPAL_MOST_DATA, true};
+static const struct call make_call = {"jhartupal_make", OF_MAKE, 0, 0, false};
+static const struct call frame_call = {"jhartupal_frame", OF_FRAME, 0, 24 + 4 + JHARTUPAL_ACCEPT, true};
+static const struct call next_call = {"jhartupal_next", OF_NEXT, 28, 24 + JHARTUPAL_MOST_DATA, true};
 static const struct call event_calls[] = {
-    {"drive_loop_reset", OF_EVENT, 0, 0, false}, {"drive_time_over", OF_EVENT, 0, 0, false}, {"drive_power_on", OF_EVENT, 0, 0, false}};
+    {"jhartupal_loop_reset", OF_EVENT, 0, 0, false}, {"jhartupal_time_over", OF_EVENT, 0, 0, false}, {"jhartupal_power_on", OF_EVENT, 0, 0, false}};
 
 static void buffer_kept(const struct call *c, unsigned long long said, size_t n, size_t room) {
     promise(guarded(reply_end, room), "%s: wrote before the reply buffer", c->name);
@@ -168,27 +168,27 @@ uint64_t make(struct jhartupal_drive *d, uint64_t capacity, uint32_t address, co
     struct jhartupal_setup setup = {.capacity = capacity, .address = address};
     memcpy(setup.identity, id, JHARTUPAL_IDENTITY);
     memcpy(setup.accept, words, JHARTUPAL_ACCEPT);
-    uint64_t said = drive_make(lent, (const struct jhartupal_setup *)(const void *)lend(in_end, &setup, sizeof setup));
-    promise(untouched(in_end, (const uint8_t *)&setup, sizeof setup), "drive_make: the setup is changed");
+    uint64_t said = jhartupal_make(lent, (const struct jhartupal_setup *)(const void *)lend(in_end, &setup, sizeof setup));
+    promise(untouched(in_end, (const uint8_t *)&setup, sizeof setup), "jhartupal_make: the setup is changed");
     return told(&make_call, said, d, 0);
 }
 
 uint64_t frame_in(struct jhartupal_drive *d, const uint8_t *bytes, size_t n, size_t room) {
     struct jhartupal_drive *lent = lend_drive(d);
-    uint64_t said = drive_frame(lent, lend(in_end, bytes, n), n, lend(reply_end, pattern, room), room);
-    promise(untouched(in_end, bytes, n), "drive_frame: the frame is changed");
+    uint64_t said = jhartupal_frame(lent, lend(in_end, bytes, n), n, lend(reply_end, pattern, room), room);
+    promise(untouched(in_end, bytes, n), "jhartupal_frame: the frame is changed");
     return told(&frame_call, said, d, room);
 }
 
 uint64_t next_out(struct jhartupal_drive *d, uint32_t address, uint16_t ox_id, uint64_t start, const uint8_t *bytes, size_t n, size_t room) {
     struct jhartupal_drive *lent = lend_drive(d);
-    uint64_t said = drive_next(lent, address, ox_id, start, lend(in_end, bytes, n), n, lend(reply_end, pattern, room), room);
-    promise(untouched(in_end, bytes, n), "drive_next: the window is changed");
+    uint64_t said = jhartupal_next(lent, address, ox_id, start, lend(in_end, bytes, n), n, lend(reply_end, pattern, room), room);
+    promise(untouched(in_end, bytes, n), "jhartupal_next: the window is changed");
     return told(&next_call, said, d, room);
 }
 
 uint64_t event(struct jhartupal_drive *d, int number) {
     struct jhartupal_drive *lent = lend_drive(d);
-    uint64_t said = number == LOOP_RESET ? drive_loop_reset(lent) : number == TIME_OVER ? drive_time_over(lent) : drive_power_on(lent);
+    uint64_t said = number == LOOP_RESET ? jhartupal_loop_reset(lent) : number == TIME_OVER ? jhartupal_time_over(lent) : jhartupal_power_on(lent);
     return told(&event_calls[number], said, d, 0);
 }

@@ -22,7 +22,7 @@ static void silent(const char *what, uint64_t said) {
 
 void made(struct jhartupal_drive *d, uint64_t capacity) {
     memset(d, 0xEE, sizeof *d);
-    silent("drive_make", make(d, capacity, OWN, identity, accept_words()));
+    silent("jhartupal_make", make(d, capacity, OWN, identity, accept_words()));
 }
 
 void paired(struct jhartupal_drive *d, uint8_t host, uint16_t size) {
@@ -33,7 +33,7 @@ void paired(struct jhartupal_drive *d, uint8_t host, uint16_t size) {
     replies("attention", take(d, &h), &attention);
 }
 
-/* What drive_make stores, and what each request then changes. */
+/* What jhartupal_make stores, and what each request then changes. */
 static void stored(void) {
     struct jhartupal_drive d, wanted;
     struct jhartupal_login *l = &wanted.port.logins[0];
@@ -44,7 +44,7 @@ static void stored(void) {
     memcpy(wanted.unit.identity, identity, sizeof identity);
     wanted.port.address = OWN;
     memcpy(wanted.port.accept, accept_words(), JHARTUPAL_ACCEPT);
-    check(same(&d, &wanted), "drive_make: stores its setup, and no logins");
+    check(same(&d, &wanted), "jhartupal_make: stores its setup, and no logins");
     take(&d, &f); /* "keeps address, names, W18 size, W19/B1, W20/B1, proven, unpaired, attention 29h" */
     l->used = l->proven = 1;
     l->attention = JHARTUPAL_RESET;

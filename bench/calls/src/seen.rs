@@ -13,8 +13,8 @@ thread_local! {
 }
 
 extern "C" {
-    fn seen_drive_frame(d: &mut State, frame: *const u8, n: usize, reply: *mut u8, room: usize) -> u64;
-    fn seen_drive_next(
+    fn seen_jhartupal_frame(d: &mut State, frame: *const u8, n: usize, reply: *mut u8, room: usize) -> u64;
+    fn seen_jhartupal_next(
         d: &mut State,
         address: u32,
         ox_id: u16,
@@ -24,9 +24,9 @@ extern "C" {
         reply: *mut u8,
         room: usize,
     ) -> u64;
-    fn seen_drive_loop_reset(d: &mut State) -> u64;
-    fn seen_drive_time_over(d: &mut State) -> u64;
-    fn seen_drive_power_on(d: &mut State) -> u64;
+    fn seen_jhartupal_loop_reset(d: &mut State) -> u64;
+    fn seen_jhartupal_time_over(d: &mut State) -> u64;
+    fn seen_jhartupal_power_on(d: &mut State) -> u64;
 }
 
 /// # Safety
@@ -61,19 +61,19 @@ pub fn copied() -> (usize, usize) {
 // SAFETY of the three: as in `side`
 impl Side for Seen {
     fn frame(&mut self, frame: &[u8], reply: &mut [u8]) -> u64 {
-        unsafe { seen_drive_frame(&mut self.0, frame.as_ptr(), frame.len(), reply.as_mut_ptr(), reply.len()) }
+        unsafe { seen_jhartupal_frame(&mut self.0, frame.as_ptr(), frame.len(), reply.as_mut_ptr(), reply.len()) }
     }
 
     fn next(&mut self, address: u32, ox_id: u16, w: Window, reply: &mut [u8]) -> u64 {
         let (window, n) = (w.bytes.as_ptr(), w.bytes.len());
-        unsafe { seen_drive_next(&mut self.0, address, ox_id, w.start, window, n, reply.as_mut_ptr(), reply.len()) }
+        unsafe { seen_jhartupal_next(&mut self.0, address, ox_id, w.start, window, n, reply.as_mut_ptr(), reply.len()) }
     }
 
     fn event(&mut self, event: Event) -> u64 {
         match event {
-            Event::LoopReset => unsafe { seen_drive_loop_reset(&mut self.0) },
-            Event::TimeOver => unsafe { seen_drive_time_over(&mut self.0) },
-            Event::PowerOn => unsafe { seen_drive_power_on(&mut self.0) },
+            Event::LoopReset => unsafe { seen_jhartupal_loop_reset(&mut self.0) },
+            Event::TimeOver => unsafe { seen_jhartupal_time_over(&mut self.0) },
+            Event::PowerOn => unsafe { seen_jhartupal_power_on(&mut self.0) },
         }
     }
 }

@@ -29,9 +29,9 @@ struct Setup {
 }
 
 extern "C" {
-    fn drive_make(d: &mut State, setup: &Setup) -> u64;
-    fn drive_frame(d: &mut State, frame: *const u8, n: usize, reply: *mut u8, room: usize) -> u64;
-    fn drive_next(
+    fn jhartupal_make(d: &mut State, setup: &Setup) -> u64;
+    fn jhartupal_frame(d: &mut State, frame: *const u8, n: usize, reply: *mut u8, room: usize) -> u64;
+    fn jhartupal_next(
         d: &mut State,
         address: u32,
         ox_id: u16,
@@ -41,9 +41,9 @@ extern "C" {
         reply: *mut u8,
         room: usize,
     ) -> u64;
-    fn drive_loop_reset(d: &mut State) -> u64;
-    fn drive_time_over(d: &mut State) -> u64;
-    fn drive_power_on(d: &mut State) -> u64;
+    fn jhartupal_loop_reset(d: &mut State) -> u64;
+    fn jhartupal_time_over(d: &mut State) -> u64;
+    fn jhartupal_power_on(d: &mut State) -> u64;
 }
 
 impl State {
@@ -52,7 +52,7 @@ impl State {
         // SAFETY: any bytes are a state, zeros too
         unsafe {
             let mut d = std::mem::zeroed();
-            assert_eq!(drive_make(&mut d, &setup), 0);
+            assert_eq!(jhartupal_make(&mut d, &setup), 0);
             d
         }
     }
@@ -62,20 +62,20 @@ impl State {
 impl Side for State {
     #[inline(always)]
     fn frame(&mut self, frame: &[u8], reply: &mut [u8]) -> u64 {
-        unsafe { drive_frame(self, frame.as_ptr(), frame.len(), reply.as_mut_ptr(), reply.len()) }
+        unsafe { jhartupal_frame(self, frame.as_ptr(), frame.len(), reply.as_mut_ptr(), reply.len()) }
     }
 
     #[inline(always)]
     fn next(&mut self, address: u32, ox_id: u16, w: Window, reply: &mut [u8]) -> u64 {
-        unsafe { drive_next(self, address, ox_id, w.start, w.bytes.as_ptr(), w.bytes.len(), reply.as_mut_ptr(), reply.len()) }
+        unsafe { jhartupal_next(self, address, ox_id, w.start, w.bytes.as_ptr(), w.bytes.len(), reply.as_mut_ptr(), reply.len()) }
     }
 
     #[inline(always)]
     fn event(&mut self, event: Event) -> u64 {
         match event {
-            Event::LoopReset => unsafe { drive_loop_reset(self) },
-            Event::TimeOver => unsafe { drive_time_over(self) },
-            Event::PowerOn => unsafe { drive_power_on(self) },
+            Event::LoopReset => unsafe { jhartupal_loop_reset(self) },
+            Event::TimeOver => unsafe { jhartupal_time_over(self) },
+            Event::PowerOn => unsafe { jhartupal_power_on(self) },
         }
     }
 }

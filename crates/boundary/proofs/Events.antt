@@ -65,7 +65,7 @@ use Rattle.boundary.proofs.Sighting.{Sights}
 use Rattle.boundary.proofs.sight.Symbol.{name as #boundary·sight}
 use Rattle.boundary.proofs.happen.Symbol.{name as #boundary·happen}
 use Rattle.boundary.proofs.loop_reset as g
-use Rattle.boundary.proofs.drive_loop_reset as f
+use Rattle.boundary.proofs.jhartupal_loop_reset as f
 
 -- the MIR of the three: they differ in the name of the change's function
 abbrev pub function-at : Name → Fn

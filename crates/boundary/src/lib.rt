@@ -39,7 +39,7 @@ ghost use Rattle.boundary.specs.Settled.{reaches, NextReached, sparedKey
 
 // Makes a drive in the lent state, from a setup.
 #[no_mangle]
-pub extern "C" fn drive_make(d: &mut Drive, setup: &Setup) -> u64
+pub extern "C" fn jhartupal_make(d: &mut Drive, setup: &Setup) -> u64
     ensures { λ r. ⌜ Tells (makeAnswer (now (d .entry)) (now (setup .entry))) r (now (d .exit)) ⌝ }
 {
     let a = make(*d, *setup);
@@ -49,7 +49,7 @@ pub extern "C" fn drive_make(d: &mut Drive, setup: &Setup) -> u64
 
 // A frame in.
 #[no_mangle]
-pub extern "C" fn drive_frame(d: &mut Drive, frame: &[u8], reply: &mut [u8]) -> u64
+pub extern "C" fn jhartupal_frame(d: &mut Drive, frame: &[u8], reply: &mut [u8]) -> u64
     ensures { λ r. ⌜ Tells (frameIn (now (d .entry)) (now (frame .entry)) (length (now (reply .entry)))) r (now (d .exit))
         × (now (reply .exit) ≡ frameInBuffer (now (d .entry)) (now (frame .entry)) (now (reply .entry))) ⌝ }
 {
@@ -70,7 +70,7 @@ pub extern "C" fn drive_frame(d: &mut Drive, frame: &[u8], reply: &mut [u8]) -> 
 
 // The next frame out of an exchange, from a window.
 #[no_mangle]
-pub extern "C" fn drive_next(
+pub extern "C" fn jhartupal_next(
     d: &mut Drive,
     address: u32,
     ox_id: u16,
@@ -92,7 +92,7 @@ pub extern "C" fn drive_next(
 
 // The loop was reset.
 #[no_mangle]
-pub extern "C" fn drive_loop_reset(d: &mut Drive) -> u64
+pub extern "C" fn jhartupal_loop_reset(d: &mut Drive) -> u64
     ensures { λ r. ⌜ Tells (eventAnswer (now (d .entry)) LoopReset) r (now (d .exit)) ⌝ }
 {
     let s = sight(&mut d.port, d.unit);
@@ -102,7 +102,7 @@ pub extern "C" fn drive_loop_reset(d: &mut Drive) -> u64
 
 // The verification time is over.
 #[no_mangle]
-pub extern "C" fn drive_time_over(d: &mut Drive) -> u64
+pub extern "C" fn jhartupal_time_over(d: &mut Drive) -> u64
     ensures { λ r. ⌜ Tells (eventAnswer (now (d .entry)) TimeOver) r (now (d .exit)) ⌝ }
 {
     let s = sight(&mut d.port, d.unit);
@@ -112,7 +112,7 @@ pub extern "C" fn drive_time_over(d: &mut Drive) -> u64
 
 // The drive powers on.
 #[no_mangle]
-pub extern "C" fn drive_power_on(d: &mut Drive) -> u64
+pub extern "C" fn jhartupal_power_on(d: &mut Drive) -> u64
     ensures { λ r. ⌜ Tells (eventAnswer (now (d .entry)) PowerOn) r (now (d .exit)) ⌝ }
 {
     let s = sight(&mut d.port, d.unit);

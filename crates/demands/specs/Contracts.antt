@@ -19,12 +19,12 @@ use Rattle.drive.proofs.Drive.new as new
 use Rattle.drive.proofs.Drive.frame_in as frame-in
 use Rattle.drive.proofs.Drive.event as event
 use Rattle.window.proofs.next_frame as next-frame
-use Rattle.boundary.proofs.drive_make as drive-make
-use Rattle.boundary.proofs.drive_frame as drive-frame
-use Rattle.boundary.proofs.drive_next as drive-next
-use Rattle.boundary.proofs.drive_loop_reset as drive-loop-reset
-use Rattle.boundary.proofs.drive_time_over as drive-time-over
-use Rattle.boundary.proofs.drive_power_on as drive-power-on
+use Rattle.boundary.proofs.jhartupal_make as jhartupal-make
+use Rattle.boundary.proofs.jhartupal_frame as jhartupal-frame
+use Rattle.boundary.proofs.jhartupal_next as jhartupal-next
+use Rattle.boundary.proofs.jhartupal_loop_reset as jhartupal-loop-reset
+use Rattle.boundary.proofs.jhartupal_time_over as jhartupal-time-over
+use Rattle.boundary.proofs.jhartupal_power_on as jhartupal-power-on
 use Rattle.judging.specs.declared.Judgement.{Judgement}
 use Rattle.judging.specs.declared.Line.{Line}
 use Rattle.judging.proofs.judge as judge
@@ -51,14 +51,14 @@ pub record OneReply {M : Type 1} (𝓤 : URA M) (H : Heap 𝓤) (A : Atoms 𝓤)
       → One 𝓤 (λ (o : Answer × List ℕ). next-frame.clauses 𝓤 H A mem run κs (d, (a, (x, (start, (W, (l, tt)))))) .ensures tt (o .0) (d, (a, (x, (start, (W, (with l (o .1), tt)))))))
   pub happens : (d : Drive) (e : Event) → One 𝓤 (λ (r : Answer). event.clauses 𝓤 H A mem run tt (d, (e, tt)) .ensures tt r (d, (e, tt)))
   -- from C, in place
-  pub c-make : (κs : Lfts 2) (d : RefT Drive) (s : RefT Setup) → One 𝓤 (λ (o : ℕ × Drive). drive-make.clauses 𝓤 H A mem run κs (d, (s, tt)) .ensures tt (o .0) (with d (o .1), (s, tt)))
+  pub c-make : (κs : Lfts 2) (d : RefT Drive) (s : RefT Setup) → One 𝓤 (λ (o : ℕ × Drive). jhartupal-make.clauses 𝓤 H A mem run κs (d, (s, tt)) .ensures tt (o .0) (with d (o .1), (s, tt)))
   pub c-frame : (κs : Lfts 3) (d : RefT Drive) (f l : RefT (List ℕ))
-      → One 𝓤 (λ (o : ℕ × (Drive × List ℕ)). drive-frame.clauses 𝓤 H A mem run κs (d, (f, (l, tt))) .ensures tt (o .0) (with d (o .1 .0), (f, (with l (o .1 .1), tt))))
+      → One 𝓤 (λ (o : ℕ × (Drive × List ℕ)). jhartupal-frame.clauses 𝓤 H A mem run κs (d, (f, (l, tt))) .ensures tt (o .0) (with d (o .1 .0), (f, (with l (o .1 .1), tt))))
   pub c-next : (κs : Lfts 3) (d : RefT Drive) (a x start : ℕ) (W l : RefT (List ℕ))
-      → One 𝓤 (λ (o : ℕ × (Drive × List ℕ)). drive-next.clauses 𝓤 H A mem run κs (d, (a, (x, (start, (W, (l, tt)))))) .ensures tt (o .0) (with d (o .1 .0), (a, (x, (start, (W, (with l (o .1 .1), tt)))))))
-  pub c-loop-reset : (κs : Lfts 1) (d : RefT Drive) → One 𝓤 (λ (o : ℕ × Drive). drive-loop-reset.clauses 𝓤 H A mem run κs (d, tt) .ensures tt (o .0) (with d (o .1), tt))
-  pub c-time-over : (κs : Lfts 1) (d : RefT Drive) → One 𝓤 (λ (o : ℕ × Drive). drive-time-over.clauses 𝓤 H A mem run κs (d, tt) .ensures tt (o .0) (with d (o .1), tt))
-  pub c-power-on : (κs : Lfts 1) (d : RefT Drive) → One 𝓤 (λ (o : ℕ × Drive). drive-power-on.clauses 𝓤 H A mem run κs (d, tt) .ensures tt (o .0) (with d (o .1), tt))
+      → One 𝓤 (λ (o : ℕ × (Drive × List ℕ)). jhartupal-next.clauses 𝓤 H A mem run κs (d, (a, (x, (start, (W, (l, tt)))))) .ensures tt (o .0) (with d (o .1 .0), (a, (x, (start, (W, (with l (o .1 .1), tt)))))))
+  pub c-loop-reset : (κs : Lfts 1) (d : RefT Drive) → One 𝓤 (λ (o : ℕ × Drive). jhartupal-loop-reset.clauses 𝓤 H A mem run κs (d, tt) .ensures tt (o .0) (with d (o .1), tt))
+  pub c-time-over : (κs : Lfts 1) (d : RefT Drive) → One 𝓤 (λ (o : ℕ × Drive). jhartupal-time-over.clauses 𝓤 H A mem run κs (d, tt) .ensures tt (o .0) (with d (o .1), tt))
+  pub c-power-on : (κs : Lfts 1) (d : RefT Drive) → One 𝓤 (λ (o : ℕ × Drive). jhartupal-power-on.clauses 𝓤 H A mem run κs (d, tt) .ensures tt (o .0) (with d (o .1), tt))
   -- the programs: a judgement and its line, and the answer to a record
   pub judges : (κs : Lfts 1) (login : RefT (List ℕ)) → One 𝓤 (λ (r : Judgement). judge.clauses 𝓤 H A mem run κs (login, tt) .ensures tt r (login, tt))
   pub lines : (number : ℕ) (j : Judgement) → One 𝓤 (λ (r : Line). line-for.clauses 𝓤 H A mem run tt (number, (j, tt)) .ensures tt r (number, (j, tt)))

@@ -1,4 +1,4 @@
--- `boundary::drive_make` meets its contract: a walk of its MIR, by hand. The drive and the setup are read through their references, `make` is called on the two, its drive is stored in the lent one, and `code` is called on what it said.
+-- `boundary::jhartupal_make` meets its contract: a walk of its MIR, by hand. The drive and the setup are read through their references, `make` is called on the two, its drive is stored in the lent one, and `code` is called on what it said.
 -- The setup's borrow is shared: it is looked into for the one read, and is had again after it.
 -- Assumes nothing.
 use mathlib.Core.Path.{_≡_, refl, ap, _∙_}
@@ -63,10 +63,10 @@ use Rattle.boundary.proofs.code as n
 use Rattle.boundary.proofs.code.Symbol as n-def
 use Rattle.boundary.proofs.code.Symbol.{name as #boundary·code}
 use Rattle.boundary.proofs.code.Met as n-thm
-use Rattle.boundary.proofs.drive_make.Key.{name as #boundary·drive-make}
-use Rattle.boundary.proofs.drive_make as f
-use Rattle.boundary.proofs.drive_make.Statement as stated
-use Rattle.boundary.proofs.drive_make.Code as code
+use Rattle.boundary.proofs.jhartupal_make.Key.{name as #boundary·jhartupal-make}
+use Rattle.boundary.proofs.jhartupal_make as f
+use Rattle.boundary.proofs.jhartupal_make.Statement as stated
+use Rattle.boundary.proofs.jhartupal_make.Code as code
 
 abbrev stayed : Stays (f.ended .signature .params) (f.ended .kept)
 stayed = (stay-ref (0 ∷ []) tt (plain (λ _. Dr.the-row)), (stay-none-ref (1 ∷ []) tt (plain (λ _. Se.the-row)) yes, tt))
@@ -175,11 +175,11 @@ module _ {M : Type 1} (𝓤 : URA M) (H : Heap 𝓤) (A : Atoms 𝓤) (W : Given
       walk-meets 𝓤 H A f.ended stayed W (goes-ref 𝓤 H A W 2 0 tt (plain (λ _. Dr.the-row)), (goes-none-ref 𝓤 H A W 2 (1 ∷ []) tt (plain (λ _. Se.the-row)) yes, tt)) (f.clauses 𝓤 H A mem run)
       (WpFn 𝓤 H (𝓣 .C) (𝓣 .Λ) code.function) (WpFn-mono 𝓤 H (W .laws) 𝓣 code.function) f-walks
 
-pub drive-make-spec : {M : Type 1} → stated.statement M
+pub jhartupal-make-spec : {M : Type 1} → stated.statement M
 unfolding code.routine tablesOf
-drive-make-spec 𝓤 H 𝓜 𝓖 𝓡 =
+jhartupal-make-spec 𝓤 H 𝓜 𝓖 𝓡 =
     entered 𝓤 H (tripleOf 𝓤 H (𝓖 .A) f.signature (f.spec 𝓤 H (𝓖 .A) (𝓜 .mem) (𝓡 .run)))
-    (tables 𝓤 H 𝓜 𝓡 code.env .C) (tables 𝓤 H 𝓜 𝓡 code.env .Λ) #boundary·drive-make code.function (code.unfolded 𝓤 H 𝓜 𝓡)
+    (tables 𝓤 H 𝓜 𝓡 code.env .C) (tables 𝓤 H 𝓜 𝓡 code.env .Λ) #boundary·jhartupal-make code.function (code.unfolded 𝓤 H 𝓜 𝓡)
     (f-meets 𝓤 H (𝓖 .A) (givenOf 𝓤 H 𝓜 𝓖) (𝓜 .mem) (𝓡 .run) (tablesOf 𝓤 H 𝓜 (tables 𝓤 H 𝓜 𝓡 code.env))
     (cited 𝓤 H (G 𝓤 H (𝓖 .A) (𝓜 .mem) (𝓡 .run)) 𝓜 𝓡 code.env #boundary·make g-def.routine code.calls-boundary·make (g-thm.met 𝓤 H 𝓜 𝓖 𝓡))
     (cited 𝓤 H (N 𝓤 H (𝓖 .A) (𝓜 .mem) (𝓡 .run)) 𝓜 𝓡 code.env #boundary·code n-def.routine code.calls-boundary·code (n-thm.met 𝓤 H 𝓜 𝓖 𝓡)))

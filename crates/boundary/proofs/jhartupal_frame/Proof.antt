@@ -1,4 +1,4 @@
--- `boundary::drive_frame` meets its contract: a walk of its MIR, by hand. A buffer that is too short is refused, and nothing was touched. Otherwise the header is read, the drive's port is lent on to `view`, for the frame's sender, and `refusal_number` tells of what was seen. Where it tells a number that is answered, and nothing was touched; where it tells 0 the turn is made of what was seen, and the port is lent on to `settle`.
+-- `boundary::jhartupal_frame` meets its contract: a walk of its MIR, by hand. A buffer that is too short is refused, and nothing was touched. Otherwise the header is read, the drive's port is lent on to `view`, for the frame's sender, and `refusal_number` tells of what was seen. Where it tells a number that is answered, and nothing was touched; where it tells 0 the turn is made of what was seen, and the port is lent on to `settle`.
 -- `reply` goes to the turn at its own lifetime, share and ghost name, and is given up for good (`gave-slice`).
 -- Assumes nothing.
 use mathlib.Core.Path.{_≡_, refl, ap, _∙_, sym, subst}
@@ -100,10 +100,10 @@ use Rattle.boundary.proofs.view.Met as v-thm
 use Rattle.boundary.proofs.settle.Symbol as s-def
 use Rattle.boundary.proofs.settle.Symbol.{name as #boundary·settle}
 use Rattle.boundary.proofs.settle.Met as s-thm
-use Rattle.boundary.proofs.drive_frame.Key.{name as #boundary·drive-frame}
-use Rattle.boundary.proofs.drive_frame as f
-use Rattle.boundary.proofs.drive_frame.Statement as stated
-use Rattle.boundary.proofs.drive_frame.Code as code
+use Rattle.boundary.proofs.jhartupal_frame.Key.{name as #boundary·jhartupal-frame}
+use Rattle.boundary.proofs.jhartupal_frame as f
+use Rattle.boundary.proofs.jhartupal_frame.Statement as stated
+use Rattle.boundary.proofs.jhartupal_frame.Code as code
 
 abbrev stayed : Stays (f.ended .signature .params) (f.ended .kept)
 stayed = (stay-ref (0 ∷ []) tt (plain (λ _. Dr.the-row)), (stay-none-slice (1 ∷ []) tt (plain (λ _. u8)) yes, (gave-slice (2 ∷ []) tt (plain (λ _. u8)), tt)))
@@ -384,11 +384,11 @@ module _ {M : Type 1} (𝓤 : URA M) (H : Heap 𝓤) (A : Atoms 𝓤) (W : Given
       walk-meets 𝓤 H A f.ended stayed W (goes-ref 𝓤 H A W 3 0 tt (plain (λ _. Dr.the-row)), (goes-none-slice 𝓤 H A W 3 (1 ∷ []) tt (plain (λ _. u8)) yes, (goes-gave-slice 𝓤 H A W 3 2 tt (plain (λ _. u8)), tt))) (f.clauses 𝓤 H A mem run)
       (WpFn 𝓤 H (𝓣 .C) (𝓣 .Λ) code.function) (WpFn-mono 𝓤 H (W .laws) 𝓣 code.function) f-walks
 
-pub drive-frame-spec : {M : Type 1} → stated.statement M
+pub jhartupal-frame-spec : {M : Type 1} → stated.statement M
 unfolding code.routine tablesOf
-drive-frame-spec 𝓤 H 𝓜 𝓖 𝓡 =
+jhartupal-frame-spec 𝓤 H 𝓜 𝓖 𝓡 =
     entered 𝓤 H (tripleOf 𝓤 H (𝓖 .A) f.signature (f.spec 𝓤 H (𝓖 .A) (𝓜 .mem) (𝓡 .run)))
-    (tables 𝓤 H 𝓜 𝓡 code.env .C) (tables 𝓤 H 𝓜 𝓡 code.env .Λ) #boundary·drive-frame code.function (code.unfolded 𝓤 H 𝓜 𝓡)
+    (tables 𝓤 H 𝓜 𝓡 code.env .C) (tables 𝓤 H 𝓜 𝓡 code.env .Λ) #boundary·jhartupal-frame code.function (code.unfolded 𝓤 H 𝓜 𝓡)
     (f-meets 𝓤 H (𝓖 .A) (givenOf 𝓤 H 𝓜 𝓖) (𝓜 .mem) (𝓡 .run) (tablesOf 𝓤 H 𝓜 (tables 𝓤 H 𝓜 𝓡 code.env))
     (cited 𝓤 H (N 𝓤 H (𝓖 .A) (𝓜 .mem) (𝓡 .run)) 𝓜 𝓡 code.env #boundary·code n-def.routine code.calls-boundary·code (n-thm.met 𝓤 H 𝓜 𝓖 𝓡))
     (cited 𝓤 H (R 𝓤 H (𝓖 .A) (𝓜 .mem) (𝓡 .run)) 𝓜 𝓡 code.env #frame·read-header r-def.routine code.calls-frame·read-header (r-thm.met 𝓤 H 𝓜 𝓖 𝓡))

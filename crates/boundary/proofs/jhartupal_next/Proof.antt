@@ -1,4 +1,4 @@
--- `boundary::drive_next` meets its contract: a walk of its MIR, by hand. A buffer that is too short is refused, and nothing was touched. Otherwise the drive's port is lent on to `view`, the turn is made of what was seen, and the port is lent on to `store`.
+-- `boundary::jhartupal_next` meets its contract: a walk of its MIR, by hand. A buffer that is too short is refused, and nothing was touched. Otherwise the drive's port is lent on to `view`, the turn is made of what was seen, and the port is lent on to `store`.
 -- `reply` goes to the turn at its own lifetime, share and ghost name, and is given up for good (`gave-slice`).
 -- Assumes nothing.
 use mathlib.Core.Path.{_≡_, refl, ap, _∙_, sym, subst}
@@ -87,10 +87,10 @@ use Rattle.boundary.proofs.view.Met as v-thm
 use Rattle.boundary.proofs.store.Symbol as s-def
 use Rattle.boundary.proofs.store.Symbol.{name as #boundary·store}
 use Rattle.boundary.proofs.store.Met as s-thm
-use Rattle.boundary.proofs.drive_next.Key.{name as #boundary·drive-next}
-use Rattle.boundary.proofs.drive_next as f
-use Rattle.boundary.proofs.drive_next.Statement as stated
-use Rattle.boundary.proofs.drive_next.Code as code
+use Rattle.boundary.proofs.jhartupal_next.Key.{name as #boundary·jhartupal-next}
+use Rattle.boundary.proofs.jhartupal_next as f
+use Rattle.boundary.proofs.jhartupal_next.Statement as stated
+use Rattle.boundary.proofs.jhartupal_next.Code as code
 
 abbrev stayed : Stays (f.ended .signature .params) (f.ended .kept)
 stayed =
@@ -286,11 +286,11 @@ module _ {M : Type 1} (𝓤 : URA M) (H : Heap 𝓤) (A : Atoms 𝓤) (W : Given
       ) (f.clauses 𝓤 H A mem run)
       (WpFn 𝓤 H (𝓣 .C) (𝓣 .Λ) code.function) (WpFn-mono 𝓤 H (W .laws) 𝓣 code.function) f-walks
 
-pub drive-next-spec : {M : Type 1} → stated.statement M
+pub jhartupal-next-spec : {M : Type 1} → stated.statement M
 unfolding code.routine tablesOf
-drive-next-spec 𝓤 H 𝓜 𝓖 𝓡 =
+jhartupal-next-spec 𝓤 H 𝓜 𝓖 𝓡 =
     entered 𝓤 H (tripleOf 𝓤 H (𝓖 .A) f.signature (f.spec 𝓤 H (𝓖 .A) (𝓜 .mem) (𝓡 .run)))
-    (tables 𝓤 H 𝓜 𝓡 code.env .C) (tables 𝓤 H 𝓜 𝓡 code.env .Λ) #boundary·drive-next code.function (code.unfolded 𝓤 H 𝓜 𝓡)
+    (tables 𝓤 H 𝓜 𝓡 code.env .C) (tables 𝓤 H 𝓜 𝓡 code.env .Λ) #boundary·jhartupal-next code.function (code.unfolded 𝓤 H 𝓜 𝓡)
     (f-meets 𝓤 H (𝓖 .A) (givenOf 𝓤 H 𝓜 𝓖) (𝓜 .mem) (𝓡 .run) (tablesOf 𝓤 H 𝓜 (tables 𝓤 H 𝓜 𝓡 code.env))
     (cited 𝓤 H (N 𝓤 H (𝓖 .A) (𝓜 .mem) (𝓡 .run)) 𝓜 𝓡 code.env #boundary·code n-def.routine code.calls-boundary·code (n-thm.met 𝓤 H 𝓜 𝓖 𝓡))
     (cited 𝓤 H (Viewing 𝓤 H (𝓖 .A) (𝓜 .mem) (𝓡 .run)) 𝓜 𝓡 code.env #boundary·view v-def.routine code.calls-boundary·view (v-thm.met 𝓤 H 𝓜 𝓖 𝓡))

@@ -1,4 +1,4 @@
--- `boundary::drive_time_over` meets its contract: the walk of the three events, at `time_over`. Assumes nothing.
+-- `boundary::jhartupal_time_over` meets its contract: the walk of the three events, at `time_over`. Assumes nothing.
 use contract.Running.{givenOf, tables, tablesOf}
 use denote.Triple.Spec.{tripleOf}
 use denote.Triple.Table.{entered, cited}
@@ -15,16 +15,16 @@ use Rattle.boundary.proofs.happen.Met as h-thm
 use Rattle.boundary.proofs.Events.{G, meets}
 use Rattle.boundary.proofs.Lending.{Happening}
 use Rattle.boundary.proofs.Sighting.{Sights}
-use Rattle.boundary.proofs.drive_time_over.Key.{name as #boundary·drive-time-over}
-use Rattle.boundary.proofs.drive_time_over as f
-use Rattle.boundary.proofs.drive_time_over.Statement as stated
-use Rattle.boundary.proofs.drive_time_over.Code as code
+use Rattle.boundary.proofs.jhartupal_time_over.Key.{name as #boundary·jhartupal-time-over}
+use Rattle.boundary.proofs.jhartupal_time_over as f
+use Rattle.boundary.proofs.jhartupal_time_over.Statement as stated
+use Rattle.boundary.proofs.jhartupal_time_over.Code as code
 
-pub drive-time-over-spec : {M : Type 1} → stated.statement M
+pub jhartupal-time-over-spec : {M : Type 1} → stated.statement M
 unfolding code.routine tablesOf
-drive-time-over-spec 𝓤 H 𝓜 𝓖 𝓡 =
+jhartupal-time-over-spec 𝓤 H 𝓜 𝓖 𝓡 =
     entered 𝓤 H (tripleOf 𝓤 H (𝓖 .A) f.signature (f.spec 𝓤 H (𝓖 .A) (𝓜 .mem) (𝓡 .run)))
-    (tables 𝓤 H 𝓜 𝓡 code.env .C) (tables 𝓤 H 𝓜 𝓡 code.env .Λ) #boundary·drive-time-over code.function (code.unfolded 𝓤 H 𝓜 𝓡)
+    (tables 𝓤 H 𝓜 𝓡 code.env .C) (tables 𝓤 H 𝓜 𝓡 code.env .Λ) #boundary·jhartupal-time-over code.function (code.unfolded 𝓤 H 𝓜 𝓡)
     (meets 𝓤 H (𝓖 .A) (givenOf 𝓤 H 𝓜 𝓖) (𝓜 .mem) (𝓡 .run) TimeOver #boundary·time-over (tablesOf 𝓤 H 𝓜 (tables 𝓤 H 𝓜 𝓡 code.env))
     (cited 𝓤 H (Sights 𝓤 H (𝓖 .A) (𝓜 .mem) (𝓡 .run)) 𝓜 𝓡 code.env #boundary·sight s-def.routine code.calls-boundary·sight (s-thm.met 𝓤 H 𝓜 𝓖 𝓡))
     (cited 𝓤 H (G 𝓤 H (𝓖 .A) (𝓜 .mem) (𝓡 .run) TimeOver) 𝓜 𝓡 code.env #boundary·time-over g-def.routine code.calls-boundary·time-over (g-thm.met 𝓤 H 𝓜 𝓖 𝓡))

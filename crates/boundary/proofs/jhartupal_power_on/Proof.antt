@@ -1,4 +1,4 @@
--- `boundary::drive_power_on` meets its contract: the walk of the three events, at `power_on`. Assumes nothing.
+-- `boundary::jhartupal_power_on` meets its contract: the walk of the three events, at `power_on`. Assumes nothing.
 use contract.Running.{givenOf, tables, tablesOf}
 use denote.Triple.Spec.{tripleOf}
 use denote.Triple.Table.{entered, cited}
@@ -15,16 +15,16 @@ use Rattle.boundary.proofs.happen.Met as h-thm
 use Rattle.boundary.proofs.Events.{G, meets}
 use Rattle.boundary.proofs.Lending.{Happening}
 use Rattle.boundary.proofs.Sighting.{Sights}
-use Rattle.boundary.proofs.drive_power_on.Key.{name as #boundary·drive-power-on}
-use Rattle.boundary.proofs.drive_power_on as f
-use Rattle.boundary.proofs.drive_power_on.Statement as stated
-use Rattle.boundary.proofs.drive_power_on.Code as code
+use Rattle.boundary.proofs.jhartupal_power_on.Key.{name as #boundary·jhartupal-power-on}
+use Rattle.boundary.proofs.jhartupal_power_on as f
+use Rattle.boundary.proofs.jhartupal_power_on.Statement as stated
+use Rattle.boundary.proofs.jhartupal_power_on.Code as code
 
-pub drive-power-on-spec : {M : Type 1} → stated.statement M
+pub jhartupal-power-on-spec : {M : Type 1} → stated.statement M
 unfolding code.routine tablesOf
-drive-power-on-spec 𝓤 H 𝓜 𝓖 𝓡 =
+jhartupal-power-on-spec 𝓤 H 𝓜 𝓖 𝓡 =
     entered 𝓤 H (tripleOf 𝓤 H (𝓖 .A) f.signature (f.spec 𝓤 H (𝓖 .A) (𝓜 .mem) (𝓡 .run)))
-    (tables 𝓤 H 𝓜 𝓡 code.env .C) (tables 𝓤 H 𝓜 𝓡 code.env .Λ) #boundary·drive-power-on code.function (code.unfolded 𝓤 H 𝓜 𝓡)
+    (tables 𝓤 H 𝓜 𝓡 code.env .C) (tables 𝓤 H 𝓜 𝓡 code.env .Λ) #boundary·jhartupal-power-on code.function (code.unfolded 𝓤 H 𝓜 𝓡)
     (meets 𝓤 H (𝓖 .A) (givenOf 𝓤 H 𝓜 𝓖) (𝓜 .mem) (𝓡 .run) PowerOn #boundary·power-on (tablesOf 𝓤 H 𝓜 (tables 𝓤 H 𝓜 𝓡 code.env))
     (cited 𝓤 H (Sights 𝓤 H (𝓖 .A) (𝓜 .mem) (𝓡 .run)) 𝓜 𝓡 code.env #boundary·sight s-def.routine code.calls-boundary·sight (s-thm.met 𝓤 H 𝓜 𝓖 𝓡))
     (cited 𝓤 H (G 𝓤 H (𝓖 .A) (𝓜 .mem) (𝓡 .run) PowerOn) 𝓜 𝓡 code.env #boundary·power-on g-def.routine code.calls-boundary·power-on (g-thm.met 𝓤 H 𝓜 𝓖 𝓡))
