@@ -1,5 +1,5 @@
 # make: prove and build everything, judge the sample logins, and show the sample session. make test: the gate.
-.PHONY: all test fmt wrong soak mutants peers bench
+.PHONY: all test lib fmt wrong soak mutants peers bench
 
 all:
 	rt check
@@ -8,6 +8,10 @@ all:
 
 test:
 	.ci/run
+
+# the C library for x86-64 and for 64-bit Arm, its header and jhartupal.pc: target/lib/MACHINE/
+lib:
+	ship/library
 
 fmt:
 	rt fmt
