@@ -1,7 +1,8 @@
-/* Jhartupal: the drive side of a private Fibre Channel loop, from a received frame to the reply frame. C99 and C++17.
+/* Jhartupal: the drive side of a private Fibre Channel loop, from a received frame to the reply frame. C99, C11 and C++17.
  *
- * The functions are in libboundary.a, for x86-64 (rt staticlib boundary). Each meets its contract for every state and all input, which is
- * proved; document 01 (the scope and its exact rules) decides what the drive answers. W18 and the like are words and bytes of a payload.
+ * Document 01 (the scope and its exact rules) decides what the drive answers. W18/B2 and the like are words and bytes of a payload, counted
+ * from 0; 29h is hexadecimal. Frames, replies, windows, names and accept words are bytes in the order of the loop, numbers in them big-endian;
+ * the other fields of a state are the machine's own numbers.
  *
  * Each function answers the length of the reply, which then stands at the front of the reply buffer, the bytes after it as they were;
  * 0 is nothing to send. Or it answers JHARTUPAL_REFUSED plus a number of enum jhartupal_refusal, and then every field of *d and every
@@ -9,8 +10,22 @@
  *
  * Assumed of the caller, and not checked:
  * - no pointer is NULL, also where its length is 0, and each points to as many bytes as its length says;
- * - d and setup are aligned as their types ask, and lent to one call at a time;
+ * - d and setup are aligned as their types ask, and lent to one call at a time; buffers may stand at any byte;
  * - what is lent to one call does not overlap: neither the buffers each other, nor any of them *d, nor *setup *d.
+ *
+ * The functions are in libjhartupal.a (make lib), for x86-64 and for 64-bit Arm (aarch64). What they rest on: the prover has checked that the
+ * Rattle code of each meets its contract for every state and all input; rattle made one LLVM module of this code; LLVM's back end made machine
+ * code of the module. The archive for x86-64 is the kit's own. For Arm the same module, with Arm's layout named in place of x86-64's, went
+ * through the same LLVM's back end for Arm. Prover, rattle and LLVM are assumed to be right; the tests run the archives.
+ *
+ * Either is an ELF archive of position independent code without data of its own, and needs of its surroundings:
+ * - the calling convention of its machine: System V AMD64, or AAPCS64;
+ * - memcpy and memset as C has them, and nothing else of a library;
+ * - vector registers: SSE2 on x86-64, FP and SIMD on Arm, and no newer instructions than every such processor has;
+ * - on x86-64 the 128 bytes below the stack pointer (the red zone), which an interrupt on the same stack leaves alone;
+ * - on Arm normal memory with alignment checks off (SCTLR_ELx.A is 0): words are read and written at any byte;
+ * - stack: JHARTUPAL_STACK_MAKE and the like below. Nothing recurses.
+ * It is not for 32 bits, for big-endian machines, for another convention (Windows, -mabi=ms), or where vector registers may not be used.
  */
 #ifndef JHARTUPAL_H
 #define JHARTUPAL_H
@@ -18,9 +33,20 @@
 #include <stddef.h>
 #include <stdint.h>
 
+#if defined __BYTE_ORDER__ && defined __ORDER_LITTLE_ENDIAN__ && __BYTE_ORDER__ != __ORDER_LITTLE_ENDIAN__
+#error "jhartupal.h: the library is for little-endian machines"
+#endif
+#if defined _WIN32 || defined __CYGWIN__
+#error "jhartupal.h: the library has the calling convention of System V AMD64 or AAPCS64, and not that of Windows"
+#endif
+
 #ifdef __cplusplus
 extern "C" {
 #endif
+
+/* The version: of the header, of the library, and of the state. A state that one version has written is none of another. */
+#define JHARTUPAL_VERSION_MAJOR 1
+#define JHARTUPAL_VERSION_MINOR 0
 
 /* An answer from here on is a refusal: this plus its number. */
 #define JHARTUPAL_REFUSED 65536
@@ -33,7 +59,8 @@ enum jhartupal_refusal {
     JHARTUPAL_BAD_SIZE = 3,     /* frame not 24 to 2,136 bytes, or not a multiple of 4 */
     JHARTUPAL_NOT_OURS = 4,     /* D_ID is not ours */
     JHARTUPAL_BAD_SOURCE = 5,   /* S_ID not a valid address, or ours */
-    JHARTUPAL_UNKNOWN_FORM = 6, /* form unknown */
+    JHARTUPAL_UNKNOWN_FORM = 6, /* form unknown: R_CTL and TYPE not 22h 01h, 23h 01h, 81h 00h or 06h 08h; or DF_CTL, SEQ_CNT or the low two
+                                 * bits of F_CTL not 0; or R_CTL 22h without payload */
     JHARTUPAL_UNPROVEN = 7,     /* login unproven */
     JHARTUPAL_BAD_SETUP = 8,    /* setup breaks a rule */
     JHARTUPAL_NO_EXCHANGE = 9,  /* no such open exchange */
@@ -58,6 +85,12 @@ enum jhartupal_refusal {
 #define JHARTUPAL_ACCEPT 112        /* bytes of words 1 to 28 of the login accept */
 #define JHARTUPAL_NAME 8            /* bytes of a port name or node name */
 
+/* Bytes of stack that a call takes at most on either machine, beside what memcpy and memset take; bench/stack reckons them. */
+#define JHARTUPAL_STACK_MAKE 5632  /* jhartupal_make */
+#define JHARTUPAL_STACK_FRAME 2816 /* jhartupal_frame */
+#define JHARTUPAL_STACK_NEXT 2560  /* jhartupal_next */
+#define JHARTUPAL_STACK_EVENT 1024 /* jhartupal_loop_reset, jhartupal_time_over, jhartupal_power_on */
+
 /* What an exchange sends. */
 enum jhartupal_kind {
     JHARTUPAL_FREE = 0,               /* nothing: its place is free */
@@ -81,32 +114,56 @@ enum jhartupal_attention {
 /* The state, field by field: it may be read between calls, copied, kept and put back. Any bytes are a state, and jhartupal_make overwrites them;
  * with a state that is not well formed, as zeros are not, the other calls are refused with 2, or with 1 before that. Padding (below, with its
  * bytes) is the compiler's own: it is no part of the state and is not kept, any call may change it, a refused one too. Compare states by
- * their fields. */
+ * their fields.
+ *
+ * Well formed is a state whose fields are as the comments below say, all of them: nothing else is asked. An exchange has these numbers:
+ *     full  = the smaller of its login's size and JHARTUPAL_MOST_DATA    the bytes of a full data frame
+ *     total = the smaller of wanted and expected                         the bytes to send
+ *     n     = the smaller of full and total - sent                       the bytes that its next data frame carries; where 0, FCP_RSP is next
+ *
+ * A valid address has bits 31 to 8 all 0, and in bits 7 to 0 one of FC-AL's 127 loop addresses but 00h. These are, upper digit: lower digits,
+ *     0 8 E: 0 1 2 4 8 F
+ *     1 9: 0 7 8 B D E F
+ *     2 4 6 A C: 3 5 6 7 9 A B C D E
+ *     3 5 7 B D: 1 2 3 4 5 6 9 A C
+ *
+ * The PLOGI rules, of a PLOGI that arrives and of the accept words, where byte B of word W is accept[4 * (W - 1) + B]:
+ *     W2/B2-3    low 12 bits 256 to 2,112, a multiple of 4    accept[6], accept[7]
+ *     W5-6       port name, not all 0                         accept[16] to accept[23]: the drive's own port name
+ *     W7-8       node name, not all 0                         accept[24] to accept[31]: the drive's own node name
+ *     W17        bit 31, the uppermost, is 1                  accept[64] is 80h or more
+ *     W18/B2-3   low 12 bits as those of W2                   accept[70], accept[71]
+ *     W19/B1     not 0                                        accept[73]
+ *     W20/B1     not 0                                        accept[77]: of the accept words it is 1
+ * The other bytes may be any, and accept words are sent as they are.
+ *
+ * A PLOGI that is accepted takes the lowest free place for a login, after the sender's own login, if any, has ended; a command that has bytes to
+ * send takes the lowest free place of its login. Where a login or an exchange ends, every field of its place is 0 then. */
 
-/* A place for an open exchange. Where kind is 0 it is free, and nothing is asked of its other fields. */
+/* A place for an open exchange. Where kind is 0 it is free, and nothing is asked of its other fields. Else its login is paired. */
 struct jhartupal_exchange {
-    uint64_t start;    /* READ: the first block; of any other kind 0 */
-    uint32_t blocks;   /* READ: how many, 1 to 65,535, all of them on the unit; of any other kind 0 */
-    uint32_t wanted;   /* bytes that the command wants; of a READ 512 for each block */
-    uint32_t expected; /* bytes that the host expects, FCP_DL: not 0. The smaller of both is sent */
-    uint32_t sent;     /* bytes sent: the next frame starts at byte sent % 512 of block start + sent / 512 */
-    uint16_t ox_id;    /* its OX_ID, no other's of this login */
-    uint16_t count;    /* data frames sent, going round at 65,536: the next SEQ_CNT */
+    uint64_t start;    /* READ: the first block, below the capacity; of any other kind 0 */
+    uint32_t blocks;   /* READ: how many, 1 to 65,535, start + blocks at most the capacity; of any other kind 0 */
+    uint32_t wanted;   /* bytes that the command wants: READ 512 * blocks, INQUIRY (2, 3) 1 to 36, READ CAPACITY 8, REQUEST SENSE (5 to 8) 1 to 18 */
+    uint32_t expected; /* bytes that the host expects, FCP_DL: not 0 */
+    uint32_t sent;     /* bytes sent: at most total, and where less, a multiple of full */
+    uint16_t ox_id;    /* its OX_ID, no other open exchange's of this login */
+    uint16_t count;    /* data frames sent, sent / full rounded up, going round at 65,536: the next SEQ_CNT */
     uint32_t kind;     /* what it sends: enum jhartupal_kind */
 };
 
 /* A place for a login. Where used is 0 it is free: it has no open exchange, and nothing is asked of its other fields. */
 struct jhartupal_login {
-    uint8_t used;                   /* 1: a login */
-    uint8_t proven;                 /* 1: proven; 0: to be verified since a loop reset */
-    uint8_t paired;                 /* 1: paired by PRLI; only then it has exchanges */
-    uint8_t attention;              /* what it is to be told: enum jhartupal_attention */
-    uint8_t concurrent;             /* W19/B1 of its PLOGI, not 0 */
-    uint8_t sequences;              /* W20/B1 of its PLOGI, not 0 */
-    uint16_t size;                  /* W18 size of its PLOGI: 256 to 2,112, a multiple of 4 */
-    uint32_t address;               /* its address: valid, not ours, no other login's */
-    uint8_t port_name[JHARTUPAL_NAME]; /* its port name, not zero */
-    uint8_t node_name[JHARTUPAL_NAME]; /* its node name, not zero */
+    uint8_t used;                      /* 1: a login; 0: free */
+    uint8_t proven;                    /* 1: proven; 0: to be verified since a loop reset */
+    uint8_t paired;                    /* 1: paired by PRLI; 0: not, and no open exchange */
+    uint8_t attention;                 /* what it is to be told: enum jhartupal_attention */
+    uint8_t concurrent;                /* W19/B1 of its PLOGI, not 0 */
+    uint8_t sequences;                 /* W20/B1 of its PLOGI, not 0 */
+    uint16_t size;                     /* low 12 bits of W18/B2-3 of its PLOGI: 256 to 2,112, a multiple of 4 */
+    uint32_t address;                  /* its address: valid, not the drive's, no other login's */
+    uint8_t port_name[JHARTUPAL_NAME]; /* its port name, not all 0 */
+    uint8_t node_name[JHARTUPAL_NAME]; /* its node name, not all 0 */
     /* 4 bytes of padding */
     struct jhartupal_exchange places[JHARTUPAL_PLACES];
 };
@@ -114,7 +171,7 @@ struct jhartupal_login {
 /* The drive's side of the loop. */
 struct jhartupal_port {
     uint32_t address;                 /* its own address: valid */
-    uint8_t accept[JHARTUPAL_ACCEPT]; /* words 1 to 28 of its login accept: they pass the PLOGI rules, with W20/B1 = 01h */
+    uint8_t accept[JHARTUPAL_ACCEPT]; /* words 1 to 28 of its login accept: they pass the PLOGI rules, with W20/B1 = 1 */
     /* 4 bytes of padding */
     struct jhartupal_login logins[JHARTUPAL_LOGINS];
 };
@@ -137,22 +194,80 @@ struct jhartupal_setup {
     uint64_t capacity;                    /* blocks: 1 to 4,294,967,295 */
     uint32_t address;                     /* the drive's own address: valid */
     uint8_t identity[JHARTUPAL_IDENTITY]; /* any bytes */
-    uint8_t accept[JHARTUPAL_ACCEPT];     /* words 1 to 28 of its login accept: they pass the PLOGI rules, with W20/B1 = 01h */
+    uint8_t accept[JHARTUPAL_ACCEPT];     /* words 1 to 28 of its login accept: they pass the PLOGI rules, with W20/B1 = 1 */
 };
+
+/* The layout that the library was compiled for: where a compiler has another, it stops here. */
+#if defined __cplusplus && __cplusplus >= 201703L
+#define JHARTUPAL_HOLDS(what, test) static_assert(test, "jhartupal.h: " #what)
+#elif !defined __cplusplus && defined __STDC_VERSION__ && __STDC_VERSION__ >= 201112L
+#define JHARTUPAL_HOLDS(what, test) _Static_assert(test, "jhartupal.h: " #what)
+#else
+#define JHARTUPAL_HOLDS(what, test) typedef char jhartupal_##what[(test) ? 1 : -1]
+#endif
+#define JHARTUPAL_SIZE(type, bytes) JHARTUPAL_HOLDS(size_of_##type, sizeof(struct jhartupal_##type) == (bytes))
+#define JHARTUPAL_PLACE(type, field, at) JHARTUPAL_HOLDS(place_of_##type##_##field, offsetof(struct jhartupal_##type, field) == (at))
+JHARTUPAL_HOLDS(pointers_have_64_bits, sizeof(void *) == 8 && sizeof(size_t) == 8);
+JHARTUPAL_SIZE(exchange, 32);
+JHARTUPAL_PLACE(exchange, start, 0);
+JHARTUPAL_PLACE(exchange, blocks, 8);
+JHARTUPAL_PLACE(exchange, wanted, 12);
+JHARTUPAL_PLACE(exchange, expected, 16);
+JHARTUPAL_PLACE(exchange, sent, 20);
+JHARTUPAL_PLACE(exchange, ox_id, 24);
+JHARTUPAL_PLACE(exchange, count, 26);
+JHARTUPAL_PLACE(exchange, kind, 28);
+JHARTUPAL_SIZE(login, 288);
+JHARTUPAL_PLACE(login, used, 0);
+JHARTUPAL_PLACE(login, proven, 1);
+JHARTUPAL_PLACE(login, paired, 2);
+JHARTUPAL_PLACE(login, attention, 3);
+JHARTUPAL_PLACE(login, concurrent, 4);
+JHARTUPAL_PLACE(login, sequences, 5);
+JHARTUPAL_PLACE(login, size, 6);
+JHARTUPAL_PLACE(login, address, 8);
+JHARTUPAL_PLACE(login, port_name, 12);
+JHARTUPAL_PLACE(login, node_name, 20);
+JHARTUPAL_PLACE(login, places, 32);
+JHARTUPAL_SIZE(port, 2424);
+JHARTUPAL_PLACE(port, address, 0);
+JHARTUPAL_PLACE(port, accept, 4);
+JHARTUPAL_PLACE(port, logins, 120);
+JHARTUPAL_SIZE(unit, 40);
+JHARTUPAL_PLACE(unit, capacity, 0);
+JHARTUPAL_PLACE(unit, identity, 8);
+JHARTUPAL_SIZE(drive, 2464);
+JHARTUPAL_PLACE(drive, unit, 0);
+JHARTUPAL_PLACE(drive, port, 40);
+JHARTUPAL_SIZE(setup, 152);
+JHARTUPAL_PLACE(setup, capacity, 0);
+JHARTUPAL_PLACE(setup, address, 8);
+JHARTUPAL_PLACE(setup, identity, 12);
+JHARTUPAL_PLACE(setup, accept, 40);
+#undef JHARTUPAL_PLACE
+#undef JHARTUPAL_SIZE
+#undef JHARTUPAL_HOLDS
 
 /* Makes a drive with no logins in *d, whatever stood there: well formed, as every call leaves it. Answers 0, or refusal 8 where capacity,
  * address or accept words break a rule. */
 uint64_t jhartupal_make(struct jhartupal_drive *d, const struct jhartupal_setup *setup);
 
-/* Takes a frame, SOF, EOF and CRC removed, and writes its reply. A command that has bytes to send answers 0 and opens an exchange, whose
- * frames jhartupal_next gives. Refusals 1 to 7. */
+/* Takes a frame, SOF, EOF and CRC removed, and writes its reply: 28 to 140 bytes, or 0. A command (frame[0] is 06h) that is answered with 0 has
+ * opened an exchange, whose frames jhartupal_next gives: it is that of the frame's S_ID, bytes 5 to 7, and OX_ID, bytes 16 and 17, and stands at
+ * a place of that login. Any other frame answered with 0 has R_CTL 23h, and has changed nothing. Refusals 1 to 7. */
 uint64_t jhartupal_frame(struct jhartupal_drive *d, const uint8_t *frame, size_t n, uint8_t *reply, size_t room);
 
-/* Writes the next frame of the open exchange of a login's address and an OX_ID: its data frames one after the other, then its FCP_RSP,
- * which frees the place. The window is n bytes of the unit from block start on, and holds all bytes of this frame where it carries READ
- * data; for made data and FCP_RSP it may hold none. What stands in it is sent as it is. Never 0; refusals 1, 2, 9, 7, 10. */
-uint64_t jhartupal_next(struct jhartupal_drive *d, uint32_t address, uint16_t ox_id, uint64_t start, const uint8_t *window, size_t n,
-                    uint8_t *reply, size_t room);
+/* Writes the next frame of the open exchange of a login's address and an OX_ID: its data frames one after the other, 24 bytes and n rounded up to
+ * a multiple of 4 (n of the exchange, above), then its FCP_RSP, 48 bytes, which frees the place. Exchanges are served in any order; one may have
+ * ended by what arrived since, and is refused with 9.
+ *
+ * The window is length bytes of the unit from block start on. Where the frame carries READ data, all n bytes of it are in the window: they begin at
+ * byte 512 * e.start + e.sent of the unit, so a window from block e.start + e.sent / 512 on, of e.sent % 512 + n bytes or more, has them, and one of
+ * JHARTUPAL_MOST_DATA + JHARTUPAL_BLOCK bytes always does. It may start at any other block, go past the end of the unit, and end inside a block.
+ * What stands in it is sent as it is. Made data and FCP_RSP need no window, and length may be 0; one of more than JHARTUPAL_MOST_WINDOW bytes is
+ * refused with 10 also there. Never 0; refusals 1, 2, 9, 7, 10. */
+uint64_t jhartupal_next(struct jhartupal_drive *d, uint32_t address, uint16_t ox_id, uint64_t start, const uint8_t *window, size_t length,
+                        uint8_t *reply, size_t room);
 
 /* The loop was reset: every login is to be verified, and until then its frames but PLOGI, PDISC, ADISC and LOGO are refused with 7, and
  * its next frames too. Answers 0, or refusal 2. */

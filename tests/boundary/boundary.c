@@ -18,6 +18,7 @@ static const struct field login_fields[] = {FIELD(login, used, 0, 1),       FIEL
                                             FIELD(login, port_name, 12, 8), FIELD(login, node_name, 20, 8)};
 static const struct field port_fields[] = {FIELD(port, address, 0, 4), FIELD(port, accept, 4, 112)};
 static const struct field unit_fields[] = {FIELD(unit, capacity, 0, 8), FIELD(unit, identity, 8, 28)};
+static const struct field setup_fields[] = {FIELD(setup, capacity, 0, 8), FIELD(setup, address, 8, 4), FIELD(setup, identity, 12, 28), FIELD(setup, accept, 40, 112)};
 static const struct field tables[] = {FIELD(drive, unit, 0, 40), FIELD(drive, port, 40, 2424), FIELD(port, logins, 120, 2304), FIELD(login, places, 32, 256)};
 #define COUNT(table) (sizeof(table) / sizeof(table)[0])
 
@@ -26,6 +27,7 @@ struct beside_login { char c; struct jhartupal_login x; };
 struct beside_port { char c; struct jhartupal_port x; };
 struct beside_unit { char c; struct jhartupal_unit x; };
 struct beside_drive { char c; struct jhartupal_drive x; };
+struct beside_setup { char c; struct jhartupal_setup x; };
 
 static void fields_stand(const struct field *table, size_t n) {
     for (size_t i = 0; i < n; i++) {
@@ -40,11 +42,13 @@ static void sizes(void) {
     check(sizeof(struct jhartupal_port) == 2424, "port: %zu bytes and not 2,424", sizeof(struct jhartupal_port));
     check(sizeof(struct jhartupal_unit) == 40, "unit: %zu bytes and not 40", sizeof(struct jhartupal_unit));
     check(sizeof(struct jhartupal_drive) == 2464, "drive: %zu bytes and not 2,464", sizeof(struct jhartupal_drive));
+    check(sizeof(struct jhartupal_setup) == 152, "setup: %zu bytes and not 152", sizeof(struct jhartupal_setup));
     check(offsetof(struct beside_exchange, x) == 8, "exchange: aligned to %zu", offsetof(struct beside_exchange, x));
     check(offsetof(struct beside_login, x) == 8, "login: aligned to %zu", offsetof(struct beside_login, x));
     check(offsetof(struct beside_port, x) == 8, "port: aligned to %zu", offsetof(struct beside_port, x));
     check(offsetof(struct beside_unit, x) == 8, "unit: aligned to %zu", offsetof(struct beside_unit, x));
     check(offsetof(struct beside_drive, x) == 8, "drive: aligned to %zu", offsetof(struct beside_drive, x));
+    check(offsetof(struct beside_setup, x) == 8, "setup: aligned to %zu", offsetof(struct beside_setup, x));
 }
 
 static void mark_all(size_t base, const struct field *table, size_t n) {
@@ -73,6 +77,7 @@ static void layout(void) {
     fields_stand(login_fields, COUNT(login_fields));
     fields_stand(port_fields, COUNT(port_fields));
     fields_stand(unit_fields, COUNT(unit_fields));
+    fields_stand(setup_fields, COUNT(setup_fields));
     fields_stand(tables, COUNT(tables));
     mark_state();
 }

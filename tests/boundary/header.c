@@ -9,6 +9,9 @@ struct number {
 #define NUMBER(name, by_hand) {#name, JHARTUPAL_##name, by_hand}
 
 static const struct number numbers[] = {
+    /* the base is 1.0, and each request of document 02 is the next minor number */
+    NUMBER(VERSION_MAJOR, 1),
+    NUMBER(VERSION_MINOR, 0),
     /* "Numbers returned for refused calls" */
     NUMBER(SHORT_BUFFER, 1),
     NUMBER(ILL_FORMED, 2),
@@ -55,6 +58,11 @@ static const struct number numbers[] = {
     NUMBER(SENSE_CLEARED, 7),
     NUMBER(SENSE_OTHER_UNIT, 8),
     NUMBER(REFUSED, 65536),
+    /* what bench/stack reckons for either library, rounded up */
+    NUMBER(STACK_MAKE, 5632),
+    NUMBER(STACK_FRAME, 2816),
+    NUMBER(STACK_NEXT, 2560),
+    NUMBER(STACK_EVENT, 1024),
 };
 
 void header(void) {
