@@ -78,6 +78,17 @@ uint64_t next_out(struct jhartupal_drive *d, uint32_t address, uint16_t ox_id, u
 uint64_t event(struct jhartupal_drive *d, int number);
 enum { LOOP_RESET, TIME_OVER, POWER_ON };
 
+/* caller.c: what the header tells of an answered call, and of a next frame that is refused with neither 1 nor 2 */
+struct asked { /* for a next frame */
+    uint32_t address;
+    uint16_t ox_id;
+    uint64_t start;
+    size_t length;
+};
+void freed(const struct jhartupal_drive *before, const struct jhartupal_drive *after);
+void frame_told(const struct jhartupal_drive *before, const struct jhartupal_drive *after, const uint8_t *frame, uint64_t said);
+void next_told(const struct jhartupal_drive *before, const struct asked *a, uint64_t said);
+
 /* session.c: a call with a reply buffer of just the room that is asked for, and that its reply is the wanted one */
 uint64_t take(struct jhartupal_drive *d, const struct frame *f);
 void replies(const char *what, uint64_t said, const struct frame *wanted);

@@ -154,6 +154,7 @@ static uint64_t told(const struct call *c, unsigned long long said, struct jhart
         promise(same(after, d), "%s: answers %llu and the state is changed", c->name, said);
     } else {
         promise((n == 0 || n >= 28) && c->least <= n && n <= c->most && n % 4 == 0, "%s: answers %llu", c->name, said);
+        freed(d, after);
     }
     promise(guarded(drive_end, sizeof *d), "%s: wrote before the state", c->name);
     if (c->writes) {
@@ -174,16 +175,23 @@ uint64_t make(struct jhartupal_drive *d, uint64_t capacity, uint32_t address, co
 }
 
 uint64_t frame_in(struct jhartupal_drive *d, const uint8_t *bytes, size_t n, size_t room) {
-    struct jhartupal_drive *lent = lend_drive(d);
+    struct jhartupal_drive *lent = lend_drive(d), before = *d;
     uint64_t said = jhartupal_frame(lent, lend(in_end, bytes, n), n, lend(reply_end, pattern, room), room);
     promise(untouched(in_end, bytes, n), "jhartupal_frame: the frame is changed");
-    return told(&frame_call, said, d, room);
+    told(&frame_call, said, d, room);
+    if (said < JHARTUPAL_REFUSED) {
+        frame_told(&before, d, bytes, said);
+    }
+    return said;
 }
 
 uint64_t next_out(struct jhartupal_drive *d, uint32_t address, uint16_t ox_id, uint64_t start, const uint8_t *bytes, size_t n, size_t room) {
     struct jhartupal_drive *lent = lend_drive(d);
     uint64_t said = jhartupal_next(lent, address, ox_id, start, lend(in_end, bytes, n), n, lend(reply_end, pattern, room), room);
     promise(untouched(in_end, bytes, n), "jhartupal_next: the window is changed");
+    if (said != JHARTUPAL_REFUSED + JHARTUPAL_SHORT_BUFFER && said != JHARTUPAL_REFUSED + JHARTUPAL_ILL_FORMED) {
+        next_told(d, &(struct asked){address, ox_id, start, n}, said);
+    }
     return told(&next_call, said, d, room);
 }
 

@@ -1,0 +1,105 @@
+/* What a caller tells by the header alone, held to every call: which place is taken and what a freed one holds, what 0 says of a frame in, and what a next frame answers. */
+#include "check.h"
+
+static uint32_t number(const uint8_t *at, size_t bytes) {
+    uint32_t n = 0;
+    for (size_t i = 0; i < bytes; i++) {
+        n = n << 8 | at[i];
+    }
+    return n;
+}
+
+static size_t least(size_t a, size_t b) {
+    return a < b ? a : b;
+}
+
+/* The place of the login of an address, and of its open exchange of an OX_ID; 8 where there is none. */
+static size_t login_of(const struct jhartupal_drive *d, uint32_t address) {
+    size_t i = 0;
+    while (i < JHARTUPAL_LOGINS && !(d->port.logins[i].used == 1 && d->port.logins[i].address == address)) {
+        i++;
+    }
+    return i;
+}
+
+static size_t exchange_of(const struct jhartupal_login *l, uint16_t ox_id) {
+    size_t j = 0;
+    while (j < JHARTUPAL_PLACES && !(l->places[j].kind != JHARTUPAL_FREE && l->places[j].ox_id == ox_id)) {
+        j++;
+    }
+    return j;
+}
+
+static bool zeros(const void *at, size_t n) {
+    static const uint8_t none[sizeof(struct jhartupal_login)];
+    return memcmp(at, none, n) == 0;
+}
+
+/* "Where a login or an exchange ends, every field of its place is 0 then." */
+void freed(const struct jhartupal_drive *before, const struct jhartupal_drive *after) {
+    for (size_t i = 0; i < JHARTUPAL_LOGINS; i++) {
+        const struct jhartupal_login *l = &before->port.logins[i], *m = &after->port.logins[i];
+        promise(l->used == 0 || m->used == 1 || (zeros(m, offsetof(struct jhartupal_login, node_name) + JHARTUPAL_NAME) && zeros(m->places, sizeof m->places)),
+                "the login at place %zu has ended, and its place is not all 0", i);
+        for (size_t j = 0; j < JHARTUPAL_PLACES; j++) {
+            promise(l->places[j].kind == JHARTUPAL_FREE || m->places[j].kind != JHARTUPAL_FREE || zeros(&m->places[j], sizeof m->places[j]),
+                    "the exchange at place %zu of login %zu has ended, and its place is not all 0", j, i);
+        }
+    }
+}
+
+/* "the lowest free place of its login" */
+static bool opened(const struct jhartupal_drive *before, const struct jhartupal_drive *after, const uint8_t *frame) {
+    size_t i = login_of(after, number(frame + 5, 3)), j = 0;
+    if (i == JHARTUPAL_LOGINS) {
+        return false;
+    }
+    while (j < JHARTUPAL_PLACES && before->port.logins[i].places[j].kind != JHARTUPAL_FREE) {
+        j++;
+    }
+    return j < JHARTUPAL_PLACES && j == exchange_of(&after->port.logins[i], (uint16_t)number(frame + 16, 2));
+}
+
+/* "the lowest free place for a login, after the sender's own login, if any, has ended" */
+static bool seated(const struct jhartupal_drive *before, const struct jhartupal_drive *after, uint32_t from) {
+    size_t i = 0;
+    while (i < JHARTUPAL_LOGINS && before->port.logins[i].used == 1 && before->port.logins[i].address != from) {
+        i++;
+    }
+    return i < JHARTUPAL_LOGINS && i == login_of(after, from);
+}
+
+void frame_told(const struct jhartupal_drive *before, const struct jhartupal_drive *after, const uint8_t *frame, uint64_t said) {
+    if (said == 0) {
+        promise(frame[0] == 0x06 ? opened(before, after, frame) : frame[0] == 0x23 && same(before, after), "a frame with R_CTL %02X is answered with 0", frame[0]);
+    } else if (frame[0] == 0x22 && frame[24] == 0x03 && reply[24] == 0x02) {
+        promise(seated(before, after, number(frame + 5, 3)), "an accepted PLOGI is not at the lowest free place");
+    }
+}
+
+/* The n bytes of a READ's next frame are in the window. */
+static bool held(const struct jhartupal_exchange *e, size_t n, uint64_t start, size_t length) {
+    uint64_t block = e->start + e->sent / JHARTUPAL_BLOCK;
+    return start <= block && block - start <= JHARTUPAL_MOST_WINDOW && (block - start) * JHARTUPAL_BLOCK + e->sent % JHARTUPAL_BLOCK + n <= length;
+}
+
+/* What the next frame of a login's exchange answers, by the numbers full, total and n of the header. */
+static uint64_t answer_of(const struct jhartupal_login *l, const struct jhartupal_exchange *e, uint64_t start, size_t length) {
+    size_t n = least(least(l->size, JHARTUPAL_MOST_DATA), least(e->wanted, e->expected) - e->sent);
+    if (l->proven == 0) {
+        return JHARTUPAL_REFUSED + JHARTUPAL_UNPROVEN;
+    }
+    if (length > JHARTUPAL_MOST_WINDOW || (e->kind == JHARTUPAL_READ && n > 0 && !held(e, n, start, length))) {
+        return JHARTUPAL_REFUSED + JHARTUPAL_BAD_WINDOW;
+    }
+    return n > 0 ? 24 + (n + 3) / 4 * 4 : 48;
+}
+
+void next_told(const struct jhartupal_drive *before, const struct asked *a, uint64_t said) {
+    uint64_t wanted = JHARTUPAL_REFUSED + JHARTUPAL_NO_EXCHANGE;
+    size_t i = login_of(before, a->address), j;
+    if (i < JHARTUPAL_LOGINS && (j = exchange_of(&before->port.logins[i], a->ox_id)) < JHARTUPAL_PLACES) {
+        wanted = answer_of(&before->port.logins[i], &before->port.logins[i].places[j], a->start, a->length);
+    }
+    promise(said == wanted, "a next frame answers %llu and not %llu", (unsigned long long)said, (unsigned long long)wanted);
+}
