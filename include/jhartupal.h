@@ -263,7 +263,7 @@ uint64_t jhartupal_frame(struct jhartupal_drive *d, const uint8_t *frame, size_t
  *
  * The window is length bytes of the unit from block start on. Where the frame carries READ data, all n bytes of it are in the window: they begin at
  * byte 512 * e.start + e.sent of the unit, so a window from block e.start + e.sent / 512 on, of e.sent % 512 + n bytes or more, has them, and one of
- * JHARTUPAL_MOST_DATA + JHARTUPAL_BLOCK bytes always does. It may start at any other block, go past the end of the unit, and end inside a block.
+ * JHARTUPAL_MOST_DATA + JHARTUPAL_BLOCK bytes always does. It may start anywhere as long as it has them, pass the end of the unit, and end inside a block.
  * What stands in it is sent as it is. Made data and FCP_RSP need no window, and length may be 0; one of more than JHARTUPAL_MOST_WINDOW bytes is
  * refused with 10 also there. Never 0; refusals 1, 2, 9, 7, 10. */
 uint64_t jhartupal_next(struct jhartupal_drive *d, uint32_t address, uint16_t ox_id, uint64_t start, const uint8_t *window, size_t length,
