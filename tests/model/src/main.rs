@@ -1,4 +1,4 @@
-//! model: histories of calls to the program recorder, each answer compared with the model's.
+//! model: histories of calls to a drive on a pipe, each answer compared with the model's.
 
 mod call;
 mod compare;
