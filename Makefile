@@ -20,7 +20,7 @@ fmt:
 wrong:
 	tests/wrong
 
-# random histories against the independent model: make soak N=2000000 SEED=7
+# random histories against the independent model, shared by recorder and the C archive: make soak N=2000000 SEED=7
 N ?= 1000000
 SEED ?= 1
 soak:

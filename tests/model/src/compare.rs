@@ -16,6 +16,13 @@ pub struct Program {
     pub wait: Duration,
 }
 
+impl Program {
+    /// Its command line.
+    pub fn line(&self) -> String {
+        self.words.join(" ")
+    }
+}
+
 /// Where a recorder's answers differ from the model's.
 pub struct Difference {
     /// the number of the call, from 0; the number of calls where it is the end that differs

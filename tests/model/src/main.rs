@@ -1,4 +1,4 @@
-//! model: histories of calls to the program recorder, each answer compared with the model's.
+//! model: histories of calls to a drive on a pipe, each answer compared with the model's.
 
 mod call;
 mod compare;
@@ -11,6 +11,7 @@ use histories::{History, Kind};
 use model::record::Recorder;
 use model::rules::{counts, TABLE, UNREACHABLE};
 use random::Random;
+use std::collections::BTreeSet;
 use std::io::{BufReader, BufWriter, Write};
 use std::process::exit;
 use std::time::{Duration, Instant};
@@ -26,6 +27,8 @@ macro_rules! say {
 
 const USAGE: &str = "\
 usage: model [options] --program PROGRAM [ARGUMENT..]   compare a recorder with the model
+       model [options] --program PROGRAM [ARGUMENT..] --and PROGRAM [ARGUMENT..]
+                                                        compare two, which share the histories
        model [options] --self                           only run the model over the histories
        model [options] --replay FILE [--program ..]     replay a history; without a program, show the model's answers
        model --serve                                    be a recorder: the model on standard input and output
@@ -39,7 +42,8 @@ options:
   --shrink-time N seconds for shrinking (60)
   --wait N        seconds to wait for an answer (60)
   --save FILE     write a history that differs to FILE, too
-PROGRAM and all words after it are the recorder's command line. Exit status: 0 all alike, 1 a difference, 2 not run.";
+PROGRAM and all words after it are a recorder's command line. Of two the first, which may be slow, takes every fifth history, and the
+other the rest and the long read; each replays a file. Exit status: 0 all alike, 1 a difference, 2 not run.";
 
 struct Options {
     seed: u64,
@@ -54,7 +58,7 @@ struct Options {
     replay: Option<String>,
     alone: bool,
     serve: bool,
-    program: Vec<String>,
+    programs: Vec<Vec<String>>,
 }
 
 fn wrong(message: &str) -> ! {
@@ -76,7 +80,7 @@ fn options() -> Options {
         replay: None,
         alone: false,
         serve: false,
-        program: vec![],
+        programs: vec![],
     };
     let mut words = std::env::args().skip(1);
     while let Some(word) = words.next() {
@@ -98,9 +102,10 @@ fn options() -> Options {
             "--self" => o.alone = true,
             "--serve" => o.serve = true,
             "--program" => {
-                o.program = words.by_ref().collect();
-                if o.program.is_empty() {
-                    wrong(&format!("--program needs a program\n{USAGE}"));
+                let words: Vec<String> = words.by_ref().collect();
+                o.programs = words.split(|word| word == "--and").map(<[String]>::to_vec).collect();
+                if o.programs.len() > 2 || o.programs.iter().any(Vec::is_empty) {
+                    wrong(&format!("--program needs a program, and --and one more\n{USAGE}"));
                 }
             }
             "--help" | "-h" => {
@@ -122,14 +127,15 @@ fn main() {
         );
         return;
     }
-    let program = Program { words: o.program.clone(), wait: Duration::from_secs(o.wait) };
+    let wait = Duration::from_secs(o.wait);
+    let programs: Vec<Program> = o.programs.iter().map(|words| Program { words: words.clone(), wait }).collect();
     if let Some(file) = &o.replay {
-        exit(replay_file(&o, &program, file));
+        exit(replay_file(&programs, file));
     }
-    if o.alone == !o.program.is_empty() {
+    if o.alone == !programs.is_empty() {
         wrong(&format!("give either --program or --self\n{USAGE}"));
     }
-    exit(run(&o, &program));
+    exit(run(&o, &programs));
 }
 
 /// A history that is run: its number, its seed, its kind and how many calls.
@@ -148,6 +154,44 @@ impl Part {
         } else {
             0
         }
+    }
+
+    /// Which of the programs takes it. Of two the first takes every fifth; 5 and 8, after which the kinds come round, have no common
+    /// divisor, so each program meets every kind, slow beginnings and cut ends.
+    fn taker(&self, programs: usize) -> usize {
+        usize::from(programs > 1 && (self.kind == Kind::Long || self.number % 5 != 0))
+    }
+
+    /// Every second history ends in a cut record.
+    fn cut(&self) -> Vec<u8> {
+        if self.number % 2 == 1 {
+            History::new(self.seed, Kind::Calm).cut_record()
+        } else {
+            vec![]
+        }
+    }
+
+    /// Its calls, made one by one, and where the program's answers differ from the model's; without a program they are only made.
+    fn play(&self, program: Option<&Program>, cut: &[u8]) -> (Vec<Call>, Option<Difference>) {
+        let mut history = History::new(self.seed, self.kind);
+        let mut calls = vec![];
+        let mut next = || {
+            if calls.len() == self.calls {
+                return None;
+            }
+            let (call, body, answer) = history.step();
+            let letter = call.letter;
+            calls.push(call);
+            Some((letter, body, answer))
+        };
+        let difference = match program {
+            Some(program) => compare(program, self.slow(), cut, next).unwrap_or_else(|e| wrong(&e)),
+            None => {
+                while next().is_some() {}
+                None
+            }
+        };
+        (calls, difference)
     }
 }
 
@@ -168,57 +212,65 @@ fn parts(o: &Options) -> Vec<Part> {
     parts
 }
 
-fn run(o: &Options, program: &Program) -> i32 {
+/// What a program has taken: calls, and rule branches in them.
+#[derive(Default)]
+struct Taken {
+    calls: usize,
+    branches: BTreeSet<usize>,
+}
+
+impl Taken {
+    /// The calls of a history, from the counts before it.
+    fn add(&mut self, calls: usize, before: &[u64]) {
+        self.calls += calls;
+        self.branches.extend(counts().iter().zip(before).enumerate().filter(|(_, (now, then))| now > then).map(|(i, _)| i));
+    }
+}
+
+fn run(o: &Options, programs: &[Program]) -> i32 {
     let from = Instant::now();
-    let mut passed = 0;
+    let (mut passed, mut taken) = (0, [Taken::default(), Taken::default()]);
     for part in parts(o) {
-        let mut history = History::new(part.seed, part.kind);
-        // every second history ends in a cut record
-        let cut = if part.number % 2 == 1 { History::new(part.seed, Kind::Calm).cut_record() } else { vec![] };
-        let mut calls = vec![];
-        let mut next = || {
-            if calls.len() == part.calls {
-                return None;
-            }
-            let (call, body, answer) = history.step();
-            let letter = call.letter;
-            calls.push(call);
-            Some((letter, body, answer))
-        };
-        let difference = if o.alone {
-            while next().is_some() {}
-            None
-        } else {
-            compare(program, part.slow(), &cut, next).unwrap_or_else(|e| wrong(&e))
-        };
+        let taker = part.taker(programs.len());
+        let (cut, before) = (part.cut(), counts());
+        let (calls, difference) = part.play(programs.get(taker), &cut);
         if let Some(difference) = difference {
             passed += difference.call;
+            let (at, line) = (difference.call, programs[taker].line());
             say!(
-                "difference: seed {}, history {} ({:?}), call {} of it, call {passed} of the run",
+                "difference: {line}, seed {}, history {} ({:?}), call {at} of it, call {passed} of the run",
                 o.seed,
                 part.number,
-                part.kind,
-                difference.call
+                part.kind
             );
-            report(o, program, &part, &calls, &cut, &difference);
+            report(o, &programs[taker], &part, &calls, &cut, &difference);
             say!("{passed} passed, 1 failed");
             return 1;
         }
         passed += part.calls;
+        taken[taker].add(part.calls, &before);
         if o.progress {
-            let taken = counts().iter().filter(|&&n| n > 0).count();
-            let rate = passed as f64 / from.elapsed().as_secs_f64();
-            eprintln!(
-                "history {} {:?}: {} calls, {passed} in all, {taken} branches, {rate:.0} calls a second",
-                part.number, part.kind, part.calls
-            );
+            progress(&part, passed, from.elapsed());
         }
     }
     let seconds = from.elapsed().as_secs_f64();
     say!("{passed} calls {} in {seconds:.1} seconds, seed {}", if o.alone { "made" } else { "compared" }, o.seed);
+    for (program, t) in programs.iter().zip(&taken) {
+        say!("  {} by {}, {} rule branches", t.calls, program.line(), t.branches.len());
+    }
     coverage(o);
     say!("{passed} passed, 0 failed");
     0
+}
+
+/// The line of a history that passed.
+fn progress(part: &Part, passed: usize, time: Duration) {
+    let branches = counts().iter().filter(|&&n| n > 0).count();
+    let rate = passed as f64 / time.as_secs_f64();
+    eprintln!(
+        "history {} {:?}: {} calls, {passed} in all, {branches} branches, {rate:.0} calls a second",
+        part.number, part.kind, part.calls
+    );
 }
 
 /// Prints how many rule branches were taken, and which were not.
@@ -280,7 +332,7 @@ fn report(o: &Options, program: &Program, part: &Part, calls: &[Call], cut: &[u8
     }
 }
 
-fn replay_file(o: &Options, program: &Program, file: &str) -> i32 {
+fn replay_file(programs: &[Program], file: &str) -> i32 {
     let text = std::fs::read_to_string(file).unwrap_or_else(|e| wrong(&format!("cannot read {file}: {e}")));
     let (mut calls, mut cut) = (vec![], vec![]);
     for (i, line) in text.lines().enumerate() {
@@ -293,7 +345,7 @@ fn replay_file(o: &Options, program: &Program, file: &str) -> i32 {
             None => calls.push(Call::parse(line).unwrap_or_else(|| wrong(&format!("{file}:{}: no call", i + 1)))),
         }
     }
-    if o.program.is_empty() {
+    if programs.is_empty() {
         let mut model = Recorder::default();
         for call in &calls {
             say!("; {}\n{}\n  {}", call.words(), call.line(), show(&model.call(call.letter, &call.full_body()).bytes()));
@@ -301,16 +353,16 @@ fn replay_file(o: &Options, program: &Program, file: &str) -> i32 {
         say!("{} passed, 0 failed", calls.len());
         return 0;
     }
-    match replay(program, 0, &calls, &cut).unwrap_or_else(|e| wrong(&e)) {
-        None => {
-            say!("{} passed, 0 failed", calls.len());
-            0
-        }
-        Some(d) => {
-            say!("difference at call {}", d.call);
+    let mut passed = 0;
+    for program in programs {
+        if let Some(d) = replay(program, 0, &calls, &cut).unwrap_or_else(|e| wrong(&e)) {
+            say!("difference: {}, call {}", program.line(), d.call);
             tell(&calls, &cut, &d);
-            say!("{} passed, 1 failed", d.call);
-            1
+            say!("{} passed, 1 failed", passed + d.call);
+            return 1;
         }
+        passed += calls.len();
     }
+    say!("{passed} passed, 0 failed");
+    0
 }
