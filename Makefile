@@ -1,5 +1,5 @@
 # make: prove and build everything, judge the sample logins, and show the sample session. make test: the gate.
-.PHONY: all test lib fmt wrong soak mutants peers bench
+.PHONY: all test lib fmt sizes wrong soak mutants peers bench
 
 all:
 	rt check
@@ -15,6 +15,10 @@ lib:
 
 fmt:
 	rt fmt
+
+# what each crate holds, its lines, and the seconds of its last proof
+sizes:
+	tests/sizes
 
 # every wrong answer of docs/PROMISES.md, each of which the prover must refuse for a fact
 wrong:
