@@ -55,26 +55,26 @@ alike-has : {l m : Login} → Alike l m → (a : ℕ) → hasAddress a m ≡ has
 unfolding hasAddress
 alike-has (alike n es) a = refl
 
--- the task flags end logins of nobody
-data Mild : Task → Type 0 where
-  code : (n : ℕ) → Mild (task.Code n)
-  abort : (a : ℕ) → Mild (task.Apply (EndExchangesOf a))
-  reset : Mild (task.Apply Reset)
-  clear : (a : ℕ) → Mild (task.Apply (Clear a))
-  execute : Mild task.Execute
+-- the task flags of a sender end logins of nobody
+pub data Mild (from : ℕ) : Task → Type 0 where
+  code : (n : ℕ) → Mild from (task.Code n)
+  abort : Mild from (task.Apply (EndExchangesOf from))
+  reset : Mild from (task.Apply Reset)
+  clear : Mild from (task.Apply (Clear from))
+  execute : Mild from task.Execute
 
-task-mild : (c : Cmnd) (n from : ℕ) → Mild (taskOf c n from)
+pub task-mild : (c : Cmnd) (n from : ℕ) → Mild from (taskOf c n from)
 unfolding taskOf taskFor
 task-mild c n from =
     let t = c .task in
     let zero = eqb (c .lun) 0 in
-    on-cond Mild (malformed n (c .bits)) (code 2)
-    (on-cond Mild (eqb t 0x00) execute
-    (on-cond Mild (eqb t 0x80) (code 4)
-    (on-cond Mild (eqb t 0x40) (code 4)
-    (on-cond Mild (eqb t 0x20) reset
-    (on-cond Mild (eqb t 0x04) (on-cond Mild zero (clear from) (code 5))
-    (on-cond Mild (eqb t 0x02) (on-cond Mild zero (abort from) (code 5)) (code 2)))))))
+    on-cond (Mild from) (malformed n (c .bits)) (code 2)
+    (on-cond (Mild from) (eqb t 0x00) execute
+    (on-cond (Mild from) (eqb t 0x80) (code 4)
+    (on-cond (Mild from) (eqb t 0x40) (code 4)
+    (on-cond (Mild from) (eqb t 0x20) reset
+    (on-cond (Mild from) (eqb t 0x04) (on-cond (Mild from) zero clear (code 5))
+    (on-cond (Mild from) (eqb t 0x02) (on-cond (Mild from) zero abort (code 5)) (code 2)))))))
 
 aborted-alike : (a : ℕ) (l : Login) → Alike l (abortedOf a l)
 unfolding abortedOf withoutExchanges
@@ -181,11 +181,11 @@ module _ (u : Unit) (p : Port) (h : Header) (f : List ℕ) where
     abbrev Same : Decided → Type 0
     Same x = (b : ℕ) → Alike (loginOf p b) (loginOf (x .port) b)
 
-    done-same : (t : Task) → Mild t → (x : Decided) → Same x → Same (doneAs t p x)
+    done-same : (t : Task) → Mild from t → (x : Decided) → Same x → Same (doneAs t p x)
     done-same t (code n) x s b = itself (loginOf p b)
-    done-same t (abort a) x s b = rw (changed-sees p d (EndExchangesOf a) b) (aborted-alike a (loginOf p b))
+    done-same t abort x s b = rw (changed-sees p d (EndExchangesOf from) b) (aborted-alike from (loginOf p b))
     done-same t reset x s b = rw (changed-sees p d Reset b) (reset-alike (loginOf p b))
-    done-same t (clear a) x s b = rw (changed-sees p d (Clear a) b) (cleared-alike a (loginOf p b))
+    done-same t clear x s b = rw (changed-sees p d (Clear from) b) (cleared-alike from (loginOf p b))
     done-same t execute x s b = s b
 
     commanded-same : (i : ℕ) → findLogin p from ≡ At i → Same (commandedAt u p i h (cmndOf f) (length f))
@@ -204,11 +204,11 @@ module _ (u : Unit) (p : Port) (h : Header) (f : List ℕ) where
     abbrev v : View
     v = viewOf u p from
 
-    task-another : (b : ℕ) {t : Task} → Mild t → (i : ℕ) (s : Served) → hasAddress b (loginAt p i) ≡ false → hasAddress b (s .login) ≡ false → Elsewhere p b (taskTurn t (servedIn i s))
+    task-another : (b : ℕ) {t : Task} → Mild from t → (i : ℕ) (s : Served) → hasAddress b (loginAt p i) ≡ false → hasAddress b (s .login) ≡ false → Elsewhere p b (taskTurn t (servedIn i s))
     task-another b (code n) i s x y = (tt, tt)
-    task-another b (abort a) i s x y = (tt, tt)
+    task-another b abort i s x y = (tt, tt)
     task-another b reset i s x y = (tt, tt)
-    task-another b (clear a) i s x y = (tt, tt)
+    task-another b clear i s x y = (tt, tt)
     task-another b execute i s x y = ((x, y), tt)
 
     -- it stores nothing of another address, and ends no login of it

@@ -1,6 +1,6 @@
--- Every byte of every data frame of a READ. Assumes nothing.
+-- Every byte of every data frame of an exchange. Assumes nothing.
 use mathlib.Core.Path.{_≡_, refl, sym, ap, _∙_, subst}
-use mathlib.Core.Bool.{true}
+use mathlib.Core.Bool.{true, cond}
 use mathlib.Core.List.{List, [], _∷_}
 use Prim.Native.Nat.{ℕ, zero, suc, _+_, _-_, _*_, _%_, _≤_, _<_, min}
 use native.Mathlib.Nat.{zero-mul, add-mul, one-mul}
@@ -13,21 +13,25 @@ use borrow.Author.Tests.{le-leb, lt-leb, eq-eqb, ne-eqb}
 use Rattle.cover.specs.Cover.{cut}
 use Rattle.state.specs.declared.Exchange.{Exchange}
 use Rattle.state.specs.declared.Port.{Port}
+use Rattle.state.specs.declared.Unit.{Unit}
 use Rattle.state.specs.Standing.{Open}
 use Rattle.state.specs.Changes.{advanced}
 use Rattle.state.specs.Kinds.{kindRead}
 use Rattle.state.specs.Tables.{lookupOf}
-use Rattle.formed.specs.Formed.{total, nextBytes, framesOf, wellFormed}
-use Rattle.formed.proofs.Advance.{is-read, no-frames, sent-counted, then-sent}
+use Rattle.formed.specs.Formed.{fullFrame, total, nextBytes, framesOf, wellFormed}
+use Rattle.formed.proofs.Advance.{no-frames, sent-counted, then-sent}
+use Rattle.serve.specs.Made.{madeBytes}
 use Rattle.serve.specs.Next.{hasMore, exchangeOf, fullOf, Frame, stepOf, frameBytes, movedOn, nextOf}
 use Rattle.serve.specs.Whole.{payloadAt, dataOf}
 use Rattle.serve.proofs.Steps.{passed}
 use Rattle.serve.proofs.Keeping.{next-kept}
 use Rattle.serve.proofs.Frames.{runs, full-pos, total-small, more-left, source-is, payload-is, port-is}
-use Rattle.serve.proofs.Whole.{next-open, next-exchange, next-full, read-enough}
+use Rattle.serve.proofs.Whole.{next-open, next-exchange, next-full}
 use Rattle.drive.specs.declared.Drive.{Drive}
-use Rattle.demands.specs.Reading.{isData, Reads, carries, responds, OpenRead, dataHeader, framed, dataFrame, dataFrames}
+use Rattle.demands.specs.Between.{after, Left}
+use Rattle.demands.specs.Reading.{isData, Reads, carries, responds, between, Fresh, dataHeader, framed, dataFrame, dataFrames}
 use Rattle.demands.proofs.Decoding.{more-reply, data-frame}
+use Rattle.demands.proofs.Between.{leaves-open}
 use Rattle.demands.proofs.Stepping.{data-left, own-stays, Stepped, stepped}
 
 same-take : (m n : ℕ) (l : List ℕ) → m ≡ n → take m l ≡ take n l
@@ -68,13 +72,14 @@ whole-then sent full all then e l = omega arith
 round : (number count : ℕ) → count ≡ number % 65536 → (count + 1) % 65536 ≡ (number + 1) % 65536
 round number count h = omega arith
 
--- a READ r to a login whose frames carry `full` bytes, all of them on the unit
-module _ (unit : List ℕ) (own a x i j full : ℕ) (r : Exchange) (reads : r .kind ≡ kindRead) (enough : total r ≤ length (drop (512 * r .start) unit)) where
+-- an exchange r of the unit u to a login whose frames carry `full` bytes, all of its data there
+module _ (u : Unit) (unit : List ℕ) (own a x i j full : ℕ) (r : Exchange) (enough : total r ≤ length (dataOf u unit r)) where
   abbrev all : List ℕ
-  all = take (total r) (drop (512 * r .start) unit)
+  all = take (total r) (dataOf u unit r)
 
   -- it stands where it stood, and so many frames of it were sent
   record Running (number : ℕ) (d : Drive) : Type 0 where
+    same : d .unit ≡ u
     formed : wellFormed (d .unit) (d .port) ≡ true
     stands : lookupOf (d .port) a x ≡ Open i j
     from : d .port .address ≡ own
@@ -97,17 +102,17 @@ module _ (unit : List ℕ) (own a x i j full : ℕ) (r : Exchange) (reads : r .k
     total-same = λ n. min (on .wanted n) (on .expected n)
 
     all-long : length all ≡ total r
-    all-long = let l = length-take (total r) (drop (512 * r .start) unit) in omega arith
+    all-long = let l = length-take (total r) (dataOf u unit r) in omega arith
 
     -- what it carries
     payload-left : payloadAt (d .unit) (d .port) a x i j k W ≡ take full (drop (number * full) all)
     payload-left =
         let given = payload-is (d .unit) (d .port) a x i j k W _ (more-reply (d .unit) (d .port) a x i j k W more) in
         let here = source-is (d .unit) unit (fullOf (d .port) i) e start len k more (passed (d .port) a x start (length W) i j k step .place) in
-        let read : dataOf (d .unit) unit e ≡ drop (512 * r .start) unit = rw (eq-eqb (e .kind) kindRead (on .kind ∙ reads), on .start) in
-        let same : take (nextBytes (fullOf (d .port) i) e) (drop (e .sent) (dataOf (d .unit) unit e)) ≡ take (min full (total r - number * full)) (drop (number * full) (drop (512 * r .start) unit))
-        = λ n. take (min (on .size n) (total-same n - on .sent more n)) (drop (on .sent more n) (read n)) in
-        given ∙ here ∙ same ∙ sym (take-left full (number * full) (total r) (drop (512 * r .start) unit))
+        let data-same : dataOf (d .unit) unit e ≡ dataOf u unit r = λ n. cond (eqb (on .kind n) kindRead) (drop (512 * on .start n) unit) (madeBytes (on .same n) (on .kind n)) in
+        let same : take (nextBytes (fullOf (d .port) i) e) (drop (e .sent) (dataOf (d .unit) unit e)) ≡ take (min full (total r - number * full)) (drop (number * full) (dataOf u unit r))
+        = λ n. take (min (on .size n) (total-same n - on .sent more n)) (drop (on .sent more n) (data-same n)) in
+        given ∙ here ∙ same ∙ sym (take-left full (number * full) (total r) (dataOf u unit r))
 
     -- whether it is the last
     last-left : eqb (e .sent + nextBytes (fullOf (d .port) i) e) (total e) ≡ leb (length all) (number * full + full)
@@ -143,6 +148,7 @@ module _ (unit : List ℕ) (own a x i j full : ℕ) (r : Exchange) (reads : r .k
     then-running : Running (number + 1) record { unit = d .unit; port = then }
     then-running =
         record {
+          same = on .same;
           formed = next-kept (d .unit) (d .port) a x start W (on .formed);
           stands = next-open (d .unit) (d .port) a x i j (on .stands) then more moved;
           from = own-stays (d .unit) (d .port) a x start W i j k step ∙ on .from;
@@ -175,6 +181,24 @@ module _ (unit : List ℕ) (own a x i j full : ℕ) (r : Exchange) (reads : r .k
         then = subst (Running (number + 1)) (sym (t .drive)) (then-running number d on (t .start) (t .len) (t .k) step more);
       }
 
+  -- a call between that leaves it open
+  stays-running : (number : ℕ) (d d₁ : Drive) → Running number d → Left a x i j d d₁ → Running number d₁
+  stays-running number d d₁ on t =
+      let e-is = t .stays .exchange in
+      record {
+        same = t .unit ∙ on .same;
+        formed = t .formed;
+        stands = t .stays .after;
+        from = t .stays .own ∙ on .from;
+        size = ap fullFrame (t .stays .size) ∙ on .size;
+        kind = ap (λ (s : Exchange). s .kind) e-is ∙ on .kind;
+        start = ap (λ (s : Exchange). s .start) e-is ∙ on .start;
+        wanted = ap (λ (s : Exchange). s .wanted) e-is ∙ on .wanted;
+        expected = ap (λ (s : Exchange). s .expected) e-is ∙ on .expected;
+        count = ap (λ (s : Exchange). s .count) e-is ∙ on .count;
+        sent = λ more. ap (λ (s : Exchange). s .sent) e-is ∙ on .sent (ap hasMore (sym e-is) ∙ more);
+      }
+
   -- every data frame of the run is the one of its number
   every-frame : {d e : Drive} {frames : List (List ℕ)} {last : List ℕ} (number : ℕ) → Running number d → Reads unit a x d frames last e → frames ≡ dataFrames own a x full all (length frames) number
   every-frame number on (responds s shown) = refl
@@ -182,20 +206,22 @@ module _ (unit : List ℕ) (own a x i j full : ℕ) (r : Exchange) (reads : r .k
       let t = sent-one number d d₁ f on (stepped s) shown in
       let more = every-frame (number + 1) (t .then) rest in
       λ n. t .is n ∷ more n
+  every-frame {d} {e} number on (between c leaves rest) = every-frame number (stays-running number d (after d c) on (leaves-open d a x i j (on .formed) (on .stands) c leaves)) rest
 
--- from an open READ on, of which nothing was sent
-pub reads-each : (d e : Drive) (unit : List ℕ) (a x i j : ℕ) (frames : List (List ℕ)) (last : List ℕ) → wellFormed (d .unit) (d .port) ≡ true → length unit ≡ 512 * d .unit .capacity
-    → OpenRead d a x i j → Reads unit a x d frames last e
-    → frames ≡ dataFrames (d .port .address) a x (fullOf (d .port) i) (take (total (exchangeOf (d .port) i j)) (drop (512 * exchangeOf (d .port) i j .start) unit)) (length frames) 0
-reads-each d e unit a x i j frames last w long o reads =
+-- from an open exchange on, of which nothing was sent
+pub reads-each : (d e : Drive) (unit : List ℕ) (a x i j : ℕ) (frames : List (List ℕ)) (last : List ℕ) → wellFormed (d .unit) (d .port) ≡ true
+    → total (exchangeOf (d .port) i j) ≤ length (dataOf (d .unit) unit (exchangeOf (d .port) i j)) → Fresh d a x i j → Reads unit a x d frames last e
+    → frames ≡ dataFrames (d .port .address) a x (fullOf (d .port) i) (take (total (exchangeOf (d .port) i j)) (dataOf (d .unit) unit (exchangeOf (d .port) i j))) (length frames) 0
+reads-each d e unit a x i j frames last w enough o reads =
     let u = d .unit in
     let p = d .port in
     let r = exchangeOf p i j in
     let full = fullOf p i in
     let known = runs u p a x i j w (o .stands) in
     let none : framesOf (r .sent) full ≡ 0 = ap (λ (s : ℕ). framesOf s full) (o .fresh) ∙ no-frames full (full-pos u p a x i j w (o .stands)) in
-    every-frame unit (p .address) a x i j full r (o .kind) (read-enough u unit r long (is-read u r (o .kind) (known .wanted))) 0
+    every-frame u unit (p .address) a x i j full r enough 0
     record {
+      same = refl;
       formed = w;
       stands = o .stands;
       from = refl;

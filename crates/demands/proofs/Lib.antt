@@ -4,6 +4,7 @@ pub mod Login
 pub mod Judges
 pub mod Numbers
 pub mod Decoding
+pub mod Between
 pub mod Calls
 pub mod Contracts
 pub mod Lengths

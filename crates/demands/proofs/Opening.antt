@@ -20,6 +20,7 @@ use Rattle.state.specs.declared.Exchange.{Exchange}
 use Rattle.state.specs.declared.Login.{Login}
 use Rattle.state.specs.declared.Port.{Port}
 use Rattle.state.specs.Standing.{Open}
+use Rattle.state.proofs.Places.{opened-login, opened-open, opened-stored}
 use Rattle.state.specs.Changes.{emptyExchange, emptyLogin, hasAddress, isClosed, ownOf, loginAt, exchangeAt, withLogin, withExchange}
 use Rattle.state.specs.Tables.{hasId, findLogin, findExchange, freeExchange, loginIn, loginOf, lookupOf}
 use Rattle.formed.specs.Formed.{fullFrame, wellFormed}
@@ -41,10 +42,10 @@ use Rattle.drive.specs.declared.Answer.{Answer}
 use Rattle.drive.specs.Entry.{answered, decidedIn, replyBytes, frameIn}
 use Rattle.drive.proofs.Keeping.{frame-kept}
 use Rattle.serve.specs.Next.{exchangeOf, fullOf}
-use Rattle.demands.specs.Reading.{Reads, ReadIn, readOf, Opened, Delivered, freed, Comes}
+use Rattle.demands.specs.Reading.{Reads, ReadIn, readOf, Opened, Delivered, readFrom, Frees, Comes}
 use Rattle.demands.proofs.Decoding.{framed-long}
 use Rattle.demands.proofs.Refusals.{frame-answers}
-use Rattle.demands.proofs.Reading.{reads-whole, reads-come}
+use Rattle.demands.proofs.Reading.{reads-read, reads-come}
 
 -- a reply of no bytes is none
 none-silent : (d : Drive) (h : Header) (r : Decided) → Sent (length (replyBytes d h r)) ≡ Sent 0 → silent (r .reply) ≡ true
@@ -57,49 +58,6 @@ none-silent d h r e = by (silent (r .reply)) refl (cc)
     by : (b : Bool) → silent (r .reply) ≡ b → length (cond b [] (headerBytes (headOf h (r .reply) (fillCount (length P))) ++ filled P)) ≡ 0 → silent (r .reply) ≡ true
     by true s n = s
     by false s n = let l = framed-long (headOf h (r .reply) (fillCount (length P))) P in absurd (omega arith)
-
--- an element that passes, stored in a table in which none does, is what is found
-new-step : (b : Bool) (k j : ℕ) (g h : Found) → (g ≡ Nothing → h ≡ At (suc k + j)) → cond b (At k) g ≡ Nothing → cond b (At k) h ≡ At (k + suc j)
-new-step true k j g h rest e = let z : _≡_ {A = ℕ} 0 1 = cc in absurd (omega arith)
-new-step false k j g h rest e = rest e ∙ ap At (omega arith)
-
-new-from : {A : Type 0} (p : A → Bool) (xs : List A) (k j : ℕ) (y : A) → p y ≡ true → j < length xs → firstFrom p k xs ≡ Nothing → firstFrom p k (set xs j y) ≡ At (k + j)
-new-from p [] k j y h l e = absurd (omega arith)
-new-from p (x ∷ xs) k zero y h l e = rw h (ap At (omega arith))
-new-from p (x ∷ xs) k (suc j) y h l e = new-step (p x) k j (firstFrom p (suc k) xs) (firstFrom p (suc k) (set xs j y)) (new-from p xs (suc k) j y h (omega arith)) e
-
--- an exchange that opens at a free place of a login that had none of its OX_ID stands there
-module _ (p : Port) (a x i j : ℕ) (e : Exchange) (seat : findLogin p a ≡ At i) (none : findExchange (loginAt p i) x ≡ Nothing) (free : freeExchange (loginAt p i) ≡ At j) (has : hasId x e ≡ true) where
-  abbrev stored : Port
-  stored = withLogin p i (withExchange (loginAt p i) j e)
-
-  seat-same : findLogin stored a ≡ At i
-  unfolding findLogin withLogin withExchange loginAt hasAddress
-  seat-same = same-found emptyLogin (hasAddress a) (p .logins) i (withExchange (loginAt p i) j e) refl ∙ seat
-
-  login-new : loginAt stored i ≡ withExchange (loginAt p i) j e
-  unfolding findLogin loginAt withLogin
-  login-new = getD-set-same (p .logins) i (withExchange (loginAt p i) j e) emptyLogin (found-below emptyLogin (hasAddress a) (p .logins) seat)
-
-  place-inside : j < length (loginAt p i .places)
-  unfolding freeExchange
-  place-inside = found-below emptyExchange isClosed (loginAt p i .places) free
-
-  exchange-new : findExchange (withExchange (loginAt p i) j e) x ≡ At j
-  unfolding findExchange withExchange
-  exchange-new = new-from (hasId x) (loginAt p i .places) 0 j e has place-inside none ∙ ap At (omega arith)
-
-  new-open : lookupOf stored a x ≡ Open i j
-  unfolding lookupOf loginOf
-  new-open = rw (seat-same, login-new, exchange-new)
-
-  new-stored : exchangeOf stored i j ≡ e
-  unfolding exchangeAt withExchange
-  new-stored = ap (λ (m : Login). exchangeAt m j) login-new ∙ getD-set-same (loginAt p i .places) j e emptyExchange place-inside
-
-  new-full : fullOf stored i ≡ fullOf p i
-  unfolding withExchange
-  new-full = ap (λ (m : Login). fullFrame (m .size)) login-new
 
 module _ (d : Drive) (f l : List ℕ) (known : AllBytes f) (r : ReadIn d f l) where
   abbrev head : Header
@@ -155,7 +113,7 @@ module _ (d : Drive) (f l : List ℕ) (known : AllBytes f) (r : ReadIn d f l) wh
   drive-later = ap (λ (a : Answer). a .drive) command-answered ∙ ap (λ (q : Port). record { unit = d .unit; port = q }) port-later
 
   is-later : exchangeOf (then .port) seat place ≡ readOf f
-  is-later = ap (λ (e : Drive). exchangeOf (e .port) seat place) drive-later ∙ new-stored (d .port) _ _ seat place (readOf f) (opens-at .seat) none-open (opens-at .opens .free) has-own
+  is-later = ap (λ (e : Drive). exchangeOf (e .port) seat place) drive-later ∙ opened-stored (d .port) _ _ seat place (readOf f) (opens-at .seat) none-open (opens-at .opens .free) has-own
 
   place-free : isClosed (exchangeOf (d .port) seat place) ≡ true
   unfolding freeExchange exchangeAt
@@ -176,8 +134,7 @@ module _ (d : Drive) (f l : List ℕ) (known : AllBytes f) (r : ReadIn d f l) wh
         free = place-free;
         read = record {
           stands = ap (λ (e : Drive). lookupOf (e .port) (head .«s_id») (head .«ox_id»)) drive-later
-              ∙ new-open (d .port) (head .«s_id») (head .«ox_id») seat place (readOf f) (opens-at .seat) none-open (opens-at .opens .free) has-own;
-          kind = ap (λ (e : Exchange). e .kind) is-later;
+              ∙ opened-open (d .port) (head .«s_id») (head .«ox_id») seat place (readOf f) (opens-at .seat) none-open (opens-at .opens .free) has-own;
           fresh = ap (λ (e : Exchange). e .sent) is-later;
           ox = ox-small;
           expected = rw is-later expected-small;
@@ -192,13 +149,17 @@ module _ (d : Drive) (f l : List ℕ) (known : AllBytes f) (r : ReadIn d f l) wh
   unit-later : (unit : List ℕ) → length unit ≡ 512 * d .unit .capacity → length unit ≡ 512 * then .unit .capacity
   unit-later unit long = long ∙ ap (λ (s : Drive). 512 * s .unit .capacity) (sym drive-later)
 
+  full-later : fullOf later seat ≡ fullOf (d .port) seat
+  unfolding withExchange
+  full-later = ap (λ (m : Login). fullFrame (m .size)) (opened-login (d .port) (head .«s_id») (head .«ox_id») seat place (readOf f) (opens-at .seat) none-open (opens-at .opens .free) has-own)
+
   -- the frames that follow carry what the frame asked for
-  pub reads-in : (e : Drive) (unit : List ℕ) (frames : List (List ℕ)) (last : List ℕ) → length unit ≡ 512 * d .unit .capacity → Reads unit (head .«s_id») (head .«ox_id») then frames last e
-      → (Delivered unit (d .port .address) (head .«s_id») (fullOf (d .port) (opens-read .i)) (readOf f) frames last) × (e ≡ freed then (opens-read .i) (opens-read .j))
+  pub reads-in : (e : Drive) (unit : List ℕ) (frames : List (List ℕ)) (last : List ℕ) → length unit ≡ 512 * d .unit .capacity → (reads : Reads unit (head .«s_id») (head .«ox_id») then frames last e)
+      → Delivered (readFrom unit (readOf f)) (d .port .address) (head .«s_id») (fullOf (d .port) (opens-read .i)) (readOf f) frames last × Frees (opens-read .i) (opens-read .j) reads
   unfolding opens-read withLogin
   reads-in e unit frames last long reads =
-      let t = reads-whole then e unit (head .«s_id») (head .«ox_id») seat place frames last formed-later (unit-later unit long) (opens-read .read) reads in
-      let full = ap (λ (s : Drive). fullOf (s .port) seat) drive-later ∙ new-full (d .port) (head .«s_id») (head .«ox_id») seat place (readOf f) (opens-at .seat) none-open (opens-at .opens .free) has-own in
+      let t = reads-read then e unit (head .«s_id») (head .«ox_id») seat place frames last formed-later (unit-later unit long) (opens-read .read) (ap (λ (s : Exchange). s .kind) is-later) reads in
+      let full = ap (λ (s : Drive). fullOf (s .port) seat) drive-later ∙ full-later in
       let own : then .port .address ≡ d .port .address = ap (λ (s : Drive). s .port .address) drive-later in
       (rw (own, full, is-later) at (t .0), t .1)
 
@@ -214,7 +175,7 @@ module _ (d : Drive) (f l : List ℕ) (known : AllBytes f) (r : ReadIn d f l) wh
   unfolding withExchange
   proven-later =
       ap (λ (s : Drive). loginAt (s .port) seat .proven) drive-later
-      ∙ ap (λ (m : Login). m .proven) (login-new (d .port) (head .«s_id») (head .«ox_id») seat place (readOf f) (opens-at .seat) none-open (opens-at .opens .free) has-own)
+      ∙ ap (λ (m : Login). m .proven) (opened-login (d .port) (head .«s_id») (head .«ox_id») seat place (readOf f) (opens-at .seat) none-open (opens-at .opens .free) has-own)
       ∙ login-proven
 
   -- and such frames there are

@@ -15,6 +15,8 @@ use Rattle.serve.specs.Next.{hasMore, exchangeOf, Frame, stepOf, frameBytes, mo
 use Rattle.cover.specs.Cover.{cut}
 use Rattle.serve.proofs.Steps.{passed}
 use Rattle.serve.proofs.Frames.{port-is}
+use Rattle.serve.proofs.Keeping.{next-kept}
+use Rattle.serve.proofs.Whole.{next-open}
 use Rattle.drive.specs.declared.Drive.{Drive}
 use Rattle.drive.specs.Entry.{nextFrameBuffer}
 use Rattle.demands.proofs.Decoding.{more-reply, last-reply, data-kind, response-kind}
@@ -88,3 +90,17 @@ stepped {unit} {a} {x} {d} {f} {e} s =
       frame = s .frame ∙ ap (λ (n : ℕ). take n (nextFrameBuffer d a x (s .start) W l)) (sym (g .is)) ∙ front-is d a x (s .start) W l (g .i) (g .j) (g .k) (g .room) (g .formed) (g .step);
       drive = s .drive ∙ drive-is d a x (s .start) W l (g .i) (g .j) (g .k) (g .room) (g .formed) (g .step);
     }
+
+-- after a data frame the drive is well formed, and the exchange stands where it stood
+pub stepped-on : {unit : List ℕ} {a x : ℕ} {d d₁ : Drive} {f : List ℕ} (i j : ℕ) → lookupOf (d .port) a x ≡ Open i j → Stepped unit a x d f d₁ → isData f ≡ true
+    → (wellFormed (d₁ .unit) (d₁ .port) ≡ true) × (lookupOf (d₁ .port) a x ≡ Open i j)
+stepped-on {unit} {a} {x} {d} {d₁} i j o t shown =
+    let u = d .unit in
+    let p = d .port in
+    let W = cut unit (t .start) (t .len) in
+    let q = nextOf u p a x (t .start) W .port in
+    let more = data-left u p a x (t .i) (t .j) (t .k) W (rw (t .frame) at shown) in
+    let stands = next-open u p a x (t .i) (t .j) (t .stands) q more (port-is u p a x (t .start) W (t .i) (t .j) (t .k) (t .step)) in (
+      ap (λ (s : Drive). wellFormed (s .unit) (s .port)) (t .drive) ∙ next-kept u p a x (t .start) W (t .formed),
+      ap (λ (s : Drive). lookupOf (s .port) a x) (t .drive) ∙ stands ∙ sym (t .stands) ∙ o,
+    )

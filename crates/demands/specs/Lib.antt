@@ -2,6 +2,8 @@ pub mod Contracts
 pub mod Driven
 pub mod Refusals
 pub mod Login
+pub mod Between
 pub mod Reading
 pub mod Numbers
 pub mod Judges
+pub mod Demands

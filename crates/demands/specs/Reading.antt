@@ -1,6 +1,6 @@
--- A whole READ and what it delivers, read from the bytes that stand in the lent buffers, as one reads them who knows document 01 and not the code.
+-- A whole exchange and what it delivers, a READ or made data, read from the bytes that stand in the lent buffers, as one reads them who knows document 01 and not the code.
 use mathlib.Core.Path.{_≡_}
-use mathlib.Core.Bool.{Bool, true, cond, _&&_, _||_}
+use mathlib.Core.Bool.{Bool, true, false, cond, _&&_, _||_}
 use mathlib.Core.List.{List, [], _∷_, _++_, map}
 use Prim.Native.Nat.{ℕ, zero, suc, _+_, _-_, _*_, _%_, _<_}
 use lib.Dec.{eqb, leb}
@@ -25,6 +25,7 @@ use Rattle.refusal.specs.declared.Said.the-variants.{Sent}
 use Rattle.refusal.specs.Refusal.{frameOrder}
 use Rattle.arrival.specs.Arrival.{appliesIn}
 use Rattle.drive.specs.Entry.{frameIn, nextFrame, nextFrameBuffer}
+use Rattle.demands.specs.Between.{Call, after, LeavesOpen}
 
 -- "the reply stands at the front of the buffer, its length .. in the answer": the frame in the buffer l after a call that said `Sent n`
 abbrev pub frameAt : List ℕ → ℕ → List ℕ
@@ -77,20 +78,28 @@ pub record Sends (unit : List ℕ) (a x : ℕ) (d : Drive) (f : List ℕ) (e : D
   pub frame : f ≡ frameAt (nextFrameBuffer d a x start (cut unit start len) buffer) n
   pub drive : e ≡ nextFrame d a x start (cut unit start len) (length buffer) .drive
 
--- such calls one after the other from the drive d on: FCP_DATA frames, all of them, and then "FCP_RSP follows", which is the frame `last` and leaves the drive e
+-- such calls one after the other from the drive d on: FCP_DATA frames, all of them, and then "FCP_RSP follows", which is the frame `last` and leaves the drive e;
+-- between them any calls, of whomever, that leave the exchange open
 pub data Reads (unit : List ℕ) (a x : ℕ) : Drive → List (List ℕ) → List ℕ → Drive → Type 0 where
   carries : {d d₁ e : Drive} {f last : List ℕ} {frames : List (List ℕ)} → Sends unit a x d f d₁ → isData f ≡ true → Reads unit a x d₁ frames last e → Reads unit a x d (f ∷ frames) last e
   responds : {d e : Drive} {f : List ℕ} → Sends unit a x d f e → isResponse f ≡ true → Reads unit a x d [] f e
+  between : {d e : Drive} {last : List ℕ} {frames : List (List ℕ)} (c : Call) → LeavesOpen d a x c → Reads unit a x (after d c) frames last e → Reads unit a x d frames last e
 
--- "1 reply buffer under 2,136 bytes": the sizes of the buffers that were lent, call by call
+-- no call came between
+abbrev pub unbroken : {unit : List ℕ} {a x : ℕ} {d e : Drive} {frames : List (List ℕ)} {last : List ℕ} → Reads unit a x d frames last e → Bool
+unbroken (carries s shown rest) = unbroken rest
+unbroken (responds s shown) = true
+unbroken (between c leaves rest) = false
+
+-- "1 reply buffer under 2,136 bytes": the sizes of the buffers that were lent for next frames of this exchange, call by call
 abbrev pub roomsOf : {unit : List ℕ} {a x : ℕ} {d e : Drive} {frames : List (List ℕ)} {last : List ℕ} → Reads unit a x d frames last e → List ℕ
 roomsOf (carries s shown rest) = length (s .buffer) ∷ roomsOf rest
 roomsOf (responds s shown) = length (s .buffer) ∷ []
+roomsOf (between c leaves rest) = roomsOf rest
 
--- "the exchange opens silently": a READ of a and x is open at place j of the login at place i, and nothing of it was sent; "OX_ID(2)" and "FCP_DL 4" are numbers of 2 and 4 bytes
-pub record OpenRead (d : Drive) (a x i j : ℕ) : Type 0 where
+-- "the exchange opens silently": the exchange of a and x is open at place j of the login at place i, and nothing of it was sent; "OX_ID(2)" and "FCP_DL 4" are numbers of 2 and 4 bytes
+pub record Fresh (d : Drive) (a x i j : ℕ) : Type 0 where
   pub stands : lookupOf (d .port) a x ≡ Open i j
-  pub kind : exchangeOf (d .port) i j .kind ≡ kindRead
   pub fresh : exchangeOf (d .port) i j .sent ≡ 0
   pub ox : x < 65536
   pub expected : exchangeOf (d .port) i j .expected < 4294967296
@@ -128,7 +137,7 @@ pub record Opened (d : Drive) (f : List ℕ) (e : Drive) : Type 0 where
   pub i : ℕ
   pub j : ℕ
   pub free : isClosed (exchangeOf (d .port) i j) ≡ true
-  pub read : OpenRead e (headerOf f .«s_id») (headerOf f .«ox_id») i j
+  pub read : Fresh e (headerOf f .«s_id») (headerOf f .«ox_id») i j
   pub is : exchangeOf (e .port) i j ≡ readOf f
   pub drive : e ≡ record { unit = d .unit; port = withLogin (d .port) i (withExchange (loginAt (d .port) i) j (readOf f)) }
 
@@ -187,16 +196,16 @@ dataFrames own a x full bytes (suc n) number = dataFrame own a x full bytes numb
 abbrev pub goodPayload : (flags resid : ℕ) → List ℕ
 goodPayload flags resid = replicate 10 0 ++ (flags ∷ 0x00 ∷ bytes 4 resid) ++ replicate 8 0
 
--- the exchange r of the port a is delivered whole by the port `own` in these frames and the frame `last`, where full is the bytes of a full frame to its login
-pub record Delivered (unit : List ℕ) (own a full : ℕ) (r : Exchange) (frames : List (List ℕ)) (last : List ℕ) : Type 0 where
-  -- "To send: the smaller of wanted and FCP_DL": just so many of the unit's bytes from the first block on, each once and in order
-  pub bytes : joined (map pieceIn frames) ≡ take (total r) (drop (512 * r .start) unit)
+-- the exchange r of the port a, whose data are these, is delivered whole by the port `own` in these frames and the frame `last`, where full is the bytes of a full frame to its login
+pub record Delivered (from : List ℕ) (own a full : ℕ) (r : Exchange) (frames : List (List ℕ)) (last : List ℕ) : Type 0 where
+  -- "To send: the smaller of wanted and FCP_DL": just so many of the data, from the first on, each once and in order
+  pub bytes : joined (map pieceIn frames) ≡ take (total r) from
   -- "OFFSET is the byte offset; SEQ_CNT the frame's number from 0, going round at 65,536"
   pub order : InOrder 0 0 (map pieceIn frames)
   -- "A frame carries the login's W18 size, 2,048 at most, or what is left": as few frames as these take
   pub few : length frames ≡ framesOf (total r) full
   -- and every byte of each of them: the table's header, its part of the bytes, full but for the last, and the fill
-  pub each : frames ≡ dataFrames own a (r .«ox_id») full (take (total r) (drop (512 * r .start) unit)) (length frames) 0
+  pub each : frames ≡ dataFrames own a (r .«ox_id») full (take (total r) from) (length frames) 0
   -- status 00h, and "The signed difference of wanted and FCP_DL above 0 sets flag 04h, below 0 flag 08h, FCP_RESID its size"
   pub status : statusIn last ≡ 0x00
   pub flags : flagsIn last ≡ residualFlag (residualOf (r .wanted) (r .expected))
@@ -210,12 +219,22 @@ pub record Delivered (unit : List ℕ) (own a full : ℕ) (r : Exchange) (frames
 abbrev pub freed : Drive → ℕ → ℕ → Drive
 freed d i j = record { unit = d .unit; port = withLogin (d .port) i (endedAt (loginAt (d .port) i) j) }
 
--- there are windows with which the exchange of a and x is read to its end, each call with a buffer of the least size
+-- the place is free after the run, and where no call came between nothing else of the drive has changed
+pub record Frees {unit : List ℕ} {a x : ℕ} {d e : Drive} {frames : List (List ℕ)} {last : List ℕ} (i j : ℕ) (run : Reads unit a x d frames last e) : Type 0 where
+  pub closed : isClosed (exchangeOf (e .port) i j) ≡ true
+  pub only : unbroken run ≡ true → e ≡ freed d i j
+
+-- a READ's data: the unit's bytes from its first block on
+abbrev pub readFrom : List ℕ → Exchange → List ℕ
+readFrom unit r = drop (512 * r .start) unit
+
+-- there are windows with which the exchange of a and x is read to its end, with no call between and a buffer of the least size for each
 pub record Comes (unit : List ℕ) (a x : ℕ) (d : Drive) : Type 0 where
   pub frames : List (List ℕ)
   pub last : List ℕ
-  pub after : Drive
-  pub reads : Reads unit a x d frames last after
+  pub end : Drive
+  pub reads : Reads unit a x d frames last end
+  pub lone : unbroken reads ≡ true
   pub rooms : roomsOf reads ≡ replicate (suc (length frames)) 2136
 
 -- whom a frame is for and of what: from our address to a, of OX_ID x, and FCP_DATA or FCP_RSP

@@ -91,7 +91,7 @@ module _ (u : Unit) (unit : List ℕ) (long : length unit ≡ 512 * u .capacity)
   ends-here p more ready =
       let e = exchangeOf p i j in
       let step : Passed p a x 0 0 i j (e .sent) = record { stands = ready .stands; proven = ready .proven; short = omega arith; place = none-placed (fullOf p i) e more } in
-      record { pieces = []; response = _; after = _; run = ends 0 0 i j (e .sent) (given step) (last-reply (fullOf p i) e more) }
+      record { pieces = []; response = _; after = _; run = ends 0 0 i j (e .sent) (given step) (last-reply (fullOf p i) e more); lone = refl }
 
   -- the window of the next data frame
   placed : (p : Port) → hasMore (exchangeOf p i j) ≡ true → Ready p → Placed unit len (fullOf p i) (exchangeOf p i j)
@@ -140,6 +140,7 @@ module _ (u : Unit) (unit : List ℕ) (long : length unit ≡ 512 * u .capacity)
           response = rest .response;
           after = rest .after;
           run = piece start len i j k (frameOf (fullOf p i) (exchangeOf p i j)) step (more-reply (fullOf p i) (exchangeOf p i j) more) (rest .run);
+          lone = rest .lone;
         }
 
   comes-next : (p : Port) (b : Bool) → hasMore (exchangeOf p i j) ≡ b → Ready p → ((q : Port) → Ready q → left (exchangeOf q i j) < left (exchangeOf p i j) → Ends u unit a x q) → Ends u unit a x p

@@ -9,13 +9,13 @@ use lib.Dec.{eqb, leb}
 use lib.ListN.{length, take, drop, length-take, length-drop}
 use lib.Seq.{take-add, drop-drop}
 use borrow.Author.Tests.{leb-true, eqb-true, eq-eqb, ne-eqb}
-use Rattle.tables.proofs.Bools.{and-right}
+use Rattle.tables.proofs.Bools.{and-right, apart}
 use Rattle.cover.specs.Cover.{cut}
 use Rattle.state.specs.declared.Exchange.{Exchange}
 use Rattle.state.specs.declared.Port.{Port}
 use Rattle.state.specs.declared.Unit.{Unit}
 use Rattle.state.specs.Standing.{Open}
-use Rattle.state.specs.Changes.{emptyExchange, loginAt, withLogin, withExchange, endedAt, advanced}
+use Rattle.state.specs.Changes.{emptyExchange, loginAt, withLogin, withExchange, endedAt, isClosed, advanced}
 use Rattle.state.specs.Kinds.{kindRead, kindInquiryOther, kindCapacity, kindSenseOther}
 use Rattle.state.specs.Tables.{hasId, lookupOf}
 use Rattle.state.proofs.Places.{open-has, exchange-stored, login-stored, lookup-same, login-twice, exchange-twice}
@@ -29,7 +29,7 @@ use Rattle.reply.specs.declared.Reply.the-variants.{Respond, Data}
 use Rattle.reply.specs.Payload.{senseBytes}
 use Rattle.serve.specs.Made.{inquiryBytes, capacityBytes, senseOf, madeBytes}
 use Rattle.serve.specs.Next.{hasMore, frameOf, nextReply, nextExchange, exchangeOf, fullOf, Frame, stepOf, movedOn, nextOf}
-use Rattle.serve.specs.Whole.{Piece, payloadAt, Run, piece, ends, joined, InOrder, none, one, dataOf, Rest, AllFrames}
+use Rattle.serve.specs.Whole.{StaysOpen, Piece, payloadAt, Run, piece, ends, aside, Freed, joined, InOrder, none, one, dataOf, Rest, AllFrames}
 use Rattle.serve.proofs.Steps.{passed}
 use Rattle.serve.proofs.Keeping.{next-kept}
 use Rattle.serve.proofs.Frames.{runs, full-pos, total-small, is-data, is-response, more-left, none-left, next-counted, source-is, payload-is, port-is}
@@ -118,9 +118,10 @@ module _ (u : Unit) (p : Port) (a x i j : ℕ) (o : lookupOf p a x ≡ Open i j)
         ∙ ap (withLogin p i) (exchange-twice (loginAt p i) j next emptyExchange)
 
 module _ (u : Unit) (unit : List ℕ) (a x i j : ℕ) where
-  -- whatever windows: from a well-formed port on, the frames of an exchange are what is left of it, and the port after them is the one in which it has ended
+  -- whatever windows, and whatever happens between that leaves it open: from a well-formed port on, the frames of an exchange are what is left of it, and its place is free after them;
+  -- where nothing happened between, the port after them is the one in which it has ended
   pub run-serves : {p q : Port} {pieces : List Piece} {r : Response} → wellFormed u p ≡ true → lookupOf p a x ≡ Open i j → total (exchangeOf p i j) ≤ length (dataOf u unit (exchangeOf p i j))
-      → Run u unit a x p pieces r q → (Rest u unit (fullOf p i) (exchangeOf p i j) pieces r) × (q ≡ withLogin p i (endedAt (loginAt p i) j))
+      → (run : Run u unit a x p pieces r q) → Rest u unit (fullOf p i) (exchangeOf p i j) pieces r × Freed i j run
   run-serves {p} {q} {pieces} {r} w o enough (ends start len m n k step reply) =
       let stands = passed p a x start (length (cut unit start len)) m n k step .stands in
       let is-i : m ≡ i = cc in
@@ -131,7 +132,9 @@ module _ (u : Unit) (unit : List ℕ) (a x i j : ℕ) where
       let t = is-response (fullOf p i) e r said in
       let within = sent-within (fullOf p i) e (runs u p a x i j w o .fits) in
       let done = none-left (fullOf p i) e (t .0) in
-      (rest-none u unit (fullOf p i) e r (omega arith) (t .1), port-is u p a x start (cut unit start len) i j k is-step ∙ ended-port u p a x i j o (t .0))
+      let is = port-is u p a x start (cut unit start len) i j k is-step ∙ ended-port u p a x i j o (t .0) in
+      let free : isClosed (exchangeOf q i j) ≡ true = rw is (rw (exchange-stored p a x i j o emptyExchange)) in
+      (rest-none u unit (fullOf p i) e r (omega arith) (t .1), record { closed = free; only = λ _. is })
   run-serves {p} {q} {pieces} {r} w o enough (piece {pieces = fs} start len m n k d step reply rest) =
       let W = cut unit start len in
       let stands = passed p a x start (length W) m n k step .stands in
@@ -155,21 +158,30 @@ module _ (u : Unit) (unit : List ℕ) (a x i j : ℕ) where
       let here : payloadAt u p a x m n k W ≡ payloadAt u p a x i j k W = ap (λ (s : ℕ). payloadAt u p a x s n k W) is-i ∙ ap (λ (s : ℕ). payloadAt u p a x i s k W) is-j in
       let payload = here ∙ payload-is u p a x i j k W d said ∙ source-is u unit full e start len k (t .0) (passed p a x start (length W) i j k is-step .place) in (
         rest-one u unit full e _ fs r pos short enough (then-sent full e pos fits short small) (frames-then full e pos fits short small) (offset-is full e d (t .1)) (next-counted u p a x i j d w o said) payload left,
-        more .1 ∙ next-ended u p a x i j o p₁ (t .0) is,
+        record { closed = more .1 .closed; only = λ h. more .1 .only h ∙ next-ended u p a x i j o p₁ (t .0) is },
       )
+  run-serves {p} {q} {pieces} {r} w o enough (aside {p₁ = p₁} m n s formed rest) =
+      let b = s .before in
+      let is-i : m ≡ i = cc in
+      let is-j : n ≡ j = cc in
+      let t = subst (λ (k : ℕ). StaysOpen a x i k p p₁) is-j (subst (λ (k : ℕ). StaysOpen a x k n p p₁) is-i s) in
+      let full : fullOf p₁ i ≡ fullOf p i = ap fullFrame (t .size) in
+      let enough₁ : total (exchangeOf p₁ i j) ≤ length (dataOf u unit (exchangeOf p₁ i j)) = rw (t .exchange) enough in
+      let more = run-serves formed (t .after) enough₁ rest in
+      (rw (full, t .exchange) at (more .0), record { closed = more .1 .closed; only = λ h. apart h refl })
 
--- from nothing sent on
-all-frames : (u : Unit) (unit : List ℕ) (p q : Port) (a x i j : ℕ) (pieces : List Piece) (r : Response) (from : List ℕ) → wellFormed u p ≡ true → lookupOf p a x ≡ Open i j
-    → dataOf u unit (exchangeOf p i j) ≡ from → total (exchangeOf p i j) ≤ length from → exchangeOf p i j .sent ≡ 0 → Run u unit a x p pieces r q
-    → (AllFrames from (fullOf p i) (exchangeOf p i j) pieces r) × (q ≡ withLogin p i (endedAt (loginAt p i) j))
-all-frames u unit p q a x i j pieces r from w o is enough fresh run =
+-- an exchange of which nothing was sent yet, whatever windows of the unit are lent: its frames are its data, to its total, each once and in order; then comes its response, and its place is free
+pub run-whole : (u : Unit) (unit : List ℕ) (p q : Port) (a x i j : ℕ) (pieces : List Piece) (r : Response) → wellFormed u p ≡ true → lookupOf p a x ≡ Open i j
+    → total (exchangeOf p i j) ≤ length (dataOf u unit (exchangeOf p i j)) → exchangeOf p i j .sent ≡ 0 → (run : Run u unit a x p pieces r q)
+    → AllFrames (dataOf u unit (exchangeOf p i j)) (fullOf p i) (exchangeOf p i j) pieces r × Freed i j run
+run-whole u unit p q a x i j pieces r w o enough fresh run =
     let e = exchangeOf p i j in
-    let t = run-serves u unit a x i j w o (subst (λ (b : List ℕ). total e ≤ length b) (sym is) enough) run in
+    let t = run-serves u unit a x i j w o enough run in
     let s = t .0 in
     let first = no-frames (fullOf p i) (full-pos u p a x i j w o) in
     let all : total e - 0 ≡ total e = omega arith in (
       record {
-        bytes = rw (fresh, all) at (s .bytes) ∙ ap (take (total e)) is;
+        bytes = rw (fresh, all) at (s .bytes);
         order = rw (fresh, first) at (s .order);
         frames = rw (fresh, first, zero-add) at (s .frames);
         response = s .response;
@@ -185,15 +197,6 @@ read-enough u unit e long reads =
     let n = reads .inside in
     omega arith
 
--- a READ of which nothing was sent yet, whatever windows of the unit are lent: its frames are the bytes of its blocks, to its total, each once and in order; then comes its response, and its place is free
-pub run-read : (u : Unit) (unit : List ℕ) (p q : Port) (a x i j : ℕ) (pieces : List Piece) (r : Response) → wellFormed u p ≡ true → length unit ≡ 512 * u .capacity
-    → lookupOf p a x ≡ Open i j → exchangeOf p i j .kind ≡ kindRead → exchangeOf p i j .sent ≡ 0 → Run u unit a x p pieces r q
-    → (AllFrames (drop (512 * exchangeOf p i j .start) unit) (fullOf p i) (exchangeOf p i j) pieces r) × (q ≡ withLogin p i (endedAt (loginAt p i) j))
-run-read u unit p q a x i j pieces r w long o kind fresh run =
-    let e = exchangeOf p i j in
-    all-frames u unit p q a x i j pieces r (drop (512 * e .start) unit) w o (rw (eq-eqb (e .kind) kindRead kind))
-    (read-enough u unit e long (is-read u e kind (runs u p a x i j w o .wanted))) fresh run
-
 -- made data are as many as any command wants of them
 made-case : (b c : Bool) (kind n : ℕ) (x y z : List ℕ) → length x ≡ 36 → length y ≡ 8 → length z ≡ 18
     → cond b (leb 1 n && leb n 36) (cond c (eqb n 8) (leb kind kindSenseOther && leb 1 n && leb n 18)) ≡ true → n ≤ length (cond b x (cond c y z))
@@ -201,17 +204,8 @@ made-case true c kind n x y z lx ly lz h = let m : n ≤ 36 = leb-true n 36 (and
 made-case false true kind n x y z lx ly lz h = let m : n ≡ 8 = eqb-true n 8 h in omega arith
 made-case false false kind n x y z lx ly lz h = let m : n ≤ 18 = leb-true n 18 (and-right (leb kind kindSenseOther && leb 1 n) (leb n 18) h) in omega arith
 
-made-enough : (u : Unit) (e : Exchange) → length (u .identity) ≡ 28 → eqb (e .kind) kindRead ≡ false → wantedFits u e ≡ true → total e ≤ length (madeBytes u (e .kind))
+pub made-enough : (u : Unit) (e : Exchange) → length (u .identity) ≡ 28 → eqb (e .kind) kindRead ≡ false → wantedFits u e ≡ true → total e ≤ length (madeBytes u (e .kind))
 unfolding madeBytes inquiryBytes capacityBytes senseBytes
 made-enough u e long other h =
     let m = made-case (leb (e .kind) kindInquiryOther) (eqb (e .kind) kindCapacity) (e .kind) (e .wanted) (inquiryBytes (u .identity) (e .kind)) (capacityBytes (u .capacity)) (senseBytes (senseOf (e .kind))) (rw long) refl refl (is-made u e other h) in
     omega arith
-
--- the same of made data: all frames of an INQUIRY, a READ CAPACITY or a REQUEST SENSE
-pub run-made : (u : Unit) (unit : List ℕ) (p q : Port) (a x i j : ℕ) (pieces : List Piece) (r : Response) → wellFormed u p ≡ true → length (u .identity) ≡ 28
-    → lookupOf p a x ≡ Open i j → (exchangeOf p i j .kind ≡ kindRead → ⊥) → exchangeOf p i j .sent ≡ 0 → Run u unit a x p pieces r q
-    → (AllFrames (madeBytes u (exchangeOf p i j .kind)) (fullOf p i) (exchangeOf p i j) pieces r) × (q ≡ withLogin p i (endedAt (loginAt p i) j))
-run-made u unit p q a x i j pieces r w long o kind fresh run =
-    let e = exchangeOf p i j in
-    let other = ne-eqb (e .kind) kindRead kind in
-    all-frames u unit p q a x i j pieces r (madeBytes u (e .kind)) w o (rw other) (made-enough u e long other (runs u p a x i j w o .wanted)) fresh run

@@ -12,10 +12,10 @@ use Rattle.state.specs.declared.Exchange.{Exchange}
 use Rattle.state.specs.declared.Port.{Port}
 use Rattle.state.specs.declared.Unit.{Unit}
 use Rattle.state.specs.Standing.{Open}
-use Rattle.state.specs.Changes.{ownOf, loginAt, withPlaces}
+use Rattle.state.specs.Changes.{ownOf, loginAt, withPlaces, withLogin, endedAt, isClosed}
 use Rattle.state.specs.Kinds.{kindRead}
 use Rattle.state.specs.Tables.{lookupOf}
-use Rattle.formed.specs.Formed.{total, framesOf}
+use Rattle.formed.specs.Formed.{total, framesOf, wellFormed}
 use Rattle.residual.specs.Residual.{residualOf}
 use Rattle.reply.specs.declared.DataFrame.{DataFrame}
 use Rattle.reply.specs.declared.Response.{Response}
@@ -42,6 +42,14 @@ pub record MovedOnly (p : Port) (a x : ℕ) (q : Port) : Type 0 where
   pub address : q .address ≡ p .address
   pub accept : q .accept ≡ p .accept
 
+-- the exchange of a and x stands in the port q where it stood in p, at place j of the login at place i, and is as it was, to a login of the same size; our address is the same too
+pub record StaysOpen (a x i j : ℕ) (p q : Port) : Type 0 where
+  pub before : lookupOf p a x ≡ Open i j
+  pub after : lookupOf q a x ≡ Open i j
+  pub exchange : exchangeOf q i j ≡ exchangeOf p i j
+  pub size : loginAt q i .size ≡ loginAt p i .size
+  pub own : q .address ≡ p .address
+
 -- a data frame: its OFFSET, its SEQ_CNT, and its payload before the fill
 pub record Piece : Type 0 where
   pub offset : ℕ
@@ -52,7 +60,8 @@ pub record Piece : Type 0 where
 abbrev pub payloadAt : Unit → Port → ℕ → ℕ → ℕ → ℕ → ℕ → List ℕ → List ℕ
 payloadAt u p a x i j k W = payloadOf (ownOf p) (askedBy (p .address) a x) (nextReply (fullOf p i) (exchangeOf p i j)) (sourceOf u (exchangeOf p i j) k W)
 
--- next frames of the exchange of a and x one after the other from the port p on, none refused, each with some window cut from the unit: data frames, and FCP_RSP, which leaves the port q
+-- next frames of the exchange of a and x one after the other from the port p on, none refused, each with some window cut from the unit: data frames, and FCP_RSP, which leaves the port q;
+-- between them anything may happen that leaves the exchange open and the port well formed
 pub data Run (u : Unit) (unit : List ℕ) (a x : ℕ) : Port → List Piece → Response → Port → Type 0 where
   piece : {p q : Port} {pieces : List Piece} {r : Response} (start len i j k : ℕ) (d : DataFrame)
       → stepOf p a x start (length (cut unit start len)) ≡ Frame i j k → nextReply (fullOf p i) (exchangeOf p i j) ≡ Data d
@@ -61,6 +70,18 @@ pub data Run (u : Unit) (unit : List ℕ) (a x : ℕ) : Port → List Piece → 
   ends : {p : Port} {r : Response} (start len i j k : ℕ)
       → stepOf p a x start (length (cut unit start len)) ≡ Frame i j k → nextReply (fullOf p i) (exchangeOf p i j) ≡ Respond r
       → Run u unit a x p [] r (nextOf u p a x start (cut unit start len) .port)
+  aside : {p p₁ q : Port} {pieces : List Piece} {r : Response} (i j : ℕ) → StaysOpen a x i j p p₁ → wellFormed u p₁ ≡ true → Run u unit a x p₁ pieces r q → Run u unit a x p pieces r q
+
+-- nothing happened between the frames
+abbrev pub alone : {u : Unit} {unit : List ℕ} {a x : ℕ} {p q : Port} {pieces : List Piece} {r : Response} → Run u unit a x p pieces r q → Bool
+alone (piece start len i j k d step reply rest) = alone rest
+alone (ends start len i j k step reply) = true
+alone (aside i j stays formed rest) = false
+
+-- "FCP_RSP follows and frees the place": the place is free after such a run from the port p to the port q; and where nothing happened between its frames, nothing else has changed
+pub record Freed {u : Unit} {unit : List ℕ} {a x : ℕ} {p q : Port} {pieces : List Piece} {r : Response} (i j : ℕ) (run : Run u unit a x p pieces r q) : Type 0 where
+  pub closed : isClosed (exchangeOf q i j) ≡ true
+  pub only : alone run ≡ true → q ≡ withLogin p i (endedAt (loginAt p i) j)
 
 -- the payloads, joined
 abbrev pub joined : List Piece → List ℕ
@@ -91,9 +112,10 @@ pub record AllFrames (from : List ℕ) (full : ℕ) (e : Exchange) (pieces : Lis
   pub frames : length pieces ≡ framesOf (total e) full
   pub response : r ≡ Status 0x00 (residualOf (e .wanted) (e .expected))
 
--- there are windows with which the exchange of a and x is served to its end
+-- there are windows with which the exchange of a and x is served to its end, with nothing between its frames
 pub record Ends (u : Unit) (unit : List ℕ) (a x : ℕ) (p : Port) : Type 0 where
   pub pieces : List Piece
   pub response : Response
   pub after : Port
   pub run : Run u unit a x p pieces response after
+  pub lone : alone run ≡ true
