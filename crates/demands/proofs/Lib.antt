@@ -2,7 +2,6 @@ pub mod Reach
 pub mod Refusals
 pub mod Login
 pub mod Judges
-pub mod Numbers
 pub mod Decoding
 pub mod Between
 pub mod Calls
@@ -11,5 +10,6 @@ pub mod Lengths
 pub mod Stepping
 pub mod Every
 pub mod Reading
+pub mod Numbers
 pub mod Opening
 pub mod Demands

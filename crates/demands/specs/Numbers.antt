@@ -2,17 +2,16 @@
 use Prim.Native.Nat.{ℕ, _*_}
 use mathlib.Core.Path.{_≡_}
 use mathlib.Core.List.{List, [], _∷_, _++_}
-use lib.ListN.{take, drop, replicate}
+use lib.ListN.{length, take, drop, getD, replicate}
 use Rattle.wire.specs.Bytes.{bytes}
 use Rattle.frame.specs.Head.{headerBytes}
-use Rattle.state.specs.Changes.{loginAt, exchangeAt, withLogin, withExchange}
-use Rattle.state.specs.Kinds.{kindRead}
 use Rattle.refusal.specs.declared.Refusal.the-variants.{BadSize, BadWindow}
 use Rattle.drive.specs.declared.Drive.{Drive}
 use Rattle.refusal.specs.declared.Said.{Said}
 use Rattle.refusal.specs.declared.Said.the-variants.{Sent, Refused}
 use Rattle.drive.specs.Drive.{madeFrom}
 use Rattle.drive.specs.Entry.{frameIn, frameInBuffer, nextFrame, nextFrameBuffer}
+use Rattle.demands.specs.Reading.{Reads, Comes}
 
 -- words 1 to 28 of the port of this address with this W18 size; its port name ends with the address, so that it is its own
 abbrev pub words : ℕ → ℕ → List ℕ
@@ -98,24 +97,13 @@ nextAfter d start window = nextFrame d 0x01 0x0004 start window 2136 .drive
 abbrev pub eight : Drive
 eight = after (made 100) (plogi 0x01 256 ∷ plogi 0x02 256 ∷ plogi 0x04 256 ∷ plogi 0x08 256 ∷ plogi 0x0f 256 ∷ plogi 0x10 256 ∷ plogi 0x17 256 ∷ plogi 0x18 256 ∷ [])
 
--- a drive with a READ of 65,535 blocks to a login of size 256, of which so many bytes were sent, in so many frames
-abbrev pub reading : ℕ → ℕ → Drive
-reading bytes frames =
-    let d = after (paired 65535 256) (read 0x01 0x0004 0 65535 33553920 ∷ []) in
-    let l = loginAt (d .port) 0 in
-    record {
-      unit = d .unit;
-      port = withLogin (d .port) 0 (withExchange l 0 record {
-        start = 0;
-        blocks = 65535;
-        wanted = 33553920;
-        expected = 33553920;
-        sent = bytes;
-        «ox_id» = 0x0004;
-        count = frames;
-        kind = kindRead;
-      });
-    }
+-- the drive after a READ of 65,535 blocks by a login of size 256
+abbrev pub long : Drive
+long = after (paired 65535 256) (read 0x01 0x0004 0 65535 33553920 ∷ [])
+
+-- SEQ_ID, DF_CTL, SEQ_CNT, OX_ID, RX_ID and OFFSET of the frame of this number, from 0
+abbrev pub counted : List (List ℕ) → ℕ → List ℕ
+counted frames number = take 12 (drop 12 (getD frames number []))
 
 -- the drive after a READ of one block of a unit that goes past block 8,388,608
 abbrev pub far : ℕ → Drive
@@ -151,7 +139,10 @@ pub record KnownNumbers : Type 0 where
   pub bytes-there : nextSent (far 8388608) 8388607 (lent 512 ++ replicate 512 0xc3) 20 516 ≡ bytes 4 0 ++ replicate 512 0xc3
   pub not-zero : nextSaid (far 8388608) 0 (lent 512) ≡ Refused BadWindow
   pub bytes-zero : nextSent (far 0) 0 (lent 512 ++ replicate 512 0xc3) 20 516 ≡ bytes 4 0 ++ replicate 512 0xa5
-  -- "size 256, frame 65,537 has SEQ_CNT 0": frame 65,536 has FFFFh and OFFSET 65,535 × 256, and the one after it 0 and 65,536 × 256
-  pub frame-65536 : nextSent (reading 16776960 65535) 32767 (lent 512) 12 12 ≡ 0x01 ∷ 0x00 ∷ 0xff ∷ 0xff ∷ 0x00 ∷ 0x04 ∷ 0xff ∷ 0xff ∷ 0x00 ∷ 0xff ∷ 0xff ∷ 0x00 ∷ []
-  pub frame-65537 : nextSent (nextAfter (reading 16776960 65535) 32767 (lent 512)) 32768 (lent 512) 12 12 ≡ 0x01 ∷ 0x00 ∷ 0x00 ∷ 0x00 ∷ 0x00 ∷ 0x04 ∷ 0xff ∷ 0xff ∷ 0x01 ∷ 0x00 ∷ 0x00 ∷ 0x00 ∷ []
-  pub goes-round : exchangeAt (loginAt (nextAfter (reading 16776960 65535) 32767 (lent 512) .port) 0) 0 .count ≡ 0
+  -- "size 256, frame 65,537 has SEQ_CNT 0": over all next frames of a READ, from its FCP_CMND on, frame 65,536 has FFFFh and OFFSET 65,535 × 256, and the one after it 0 and 65,536 × 256;
+  -- whatever windows are lent, and whatever comes between that leaves it open; and such frames there are
+  pub frame-65536 : (unit : List ℕ) (frames : List (List ℕ)) (last : List ℕ) (e : Drive) → length unit ≡ 512 * 65535 → Reads unit 0x01 0x0004 long frames last e
+      → counted frames 65535 ≡ 0x01 ∷ 0x00 ∷ 0xff ∷ 0xff ∷ 0x00 ∷ 0x04 ∷ 0xff ∷ 0xff ∷ 0x00 ∷ 0xff ∷ 0xff ∷ 0x00 ∷ []
+  pub frame-65537 : (unit : List ℕ) (frames : List (List ℕ)) (last : List ℕ) (e : Drive) → length unit ≡ 512 * 65535 → Reads unit 0x01 0x0004 long frames last e
+      → counted frames 65536 ≡ 0x01 ∷ 0x00 ∷ 0x00 ∷ 0x00 ∷ 0x00 ∷ 0x04 ∷ 0xff ∷ 0xff ∷ 0x01 ∷ 0x00 ∷ 0x00 ∷ 0x00 ∷ []
+  pub frames-come : (unit : List ℕ) → length unit ≡ 512 * 65535 → Comes unit 0x01 0x0004 long
