@@ -18,8 +18,12 @@ LEGEND = ("Cross: lost on the loop. Dashed: refused by the drive. Shaded: the ho
 class Picture:
     """Marks from the top down; y is where the next goes."""
 
-    def __init__(self):
-        self.y, self.bands, self.marks, self.doubt = 44, [], [], ("", 0)
+    def __init__(self, hosts):
+        self.y, self.bands, self.marks, self.doubt, self.several = 44, [], [], ("", 0), len(hosts) > 1
+
+    def of(self, address, said):
+        """What is said of a host; where there are several, with its address."""
+        return "%02X: %s" % (address, said) if self.several else said
 
     def text(self, x, y, said, kind="", anchor="middle"):
         self.marks.append('<text x="%d" y="%d" class="%s" text-anchor="%s">%s</text>' % (x, y, kind, anchor, escape(said)))
@@ -30,14 +34,15 @@ class Picture:
     def arrow(self, to_drive, name, note="", kind=""):
         """A frame on its way, whole, `refused`, `lost` midway, or `many`; answers the height of its end."""
         x, end, back, anchor = (HOST, DRIVE, -8, "start") if to_drive else (DRIVE, HOST, 8, "end")
-        y = self.y + 16
-        self.text((x + MID) // 2 if kind == "lost" else MID, y - 3, name)
-        self.y += 26
+        y = self.y + 17
+        self.y += 27
         if kind == "lost":
+            self.text(x - 4 * back, y - 4, name, "", anchor)
             self.line(x, y, MID, y + 3, "bad")
             self.marks.append('<path d="M%d %dl9 9m0 -9l-9 9" class="bad"/>' % (MID - 4, y - 1))
             self.text(MID - 2 * back, y + 7, note, "note", anchor)
         else:
+            self.text(MID, y - 5, name)
             self.line(x, y, end, y + 6, kind)
             self.marks.append('<path d="M%d %dl%d -4v8z" class="head%s"/>' % (end, y + 6, back, " bad" if kind == "refused" else ""))
             self.remark(note)
@@ -106,18 +111,29 @@ def step(p, s, allowed, meaning, refusal):
     note = refusal(s.refused) if s.refused else ""
     p.y += 0 if s.letter == "N" and s.reply else 5
     if s.letter in "SE":
-        y = p.event("a drive is made: " + s.name if s.letter == "S" else s.name, s.name == "loop reset", note)
+        y = p.event("setup: " + s.name if s.letter == "S" else s.name, s.name == "loop reset", note)
     elif s.letter == "N" and not s.reply:
-        y = p.asked("the port asks for " + s.name, note) if s.refused else p.arrow(False, s.name, "", "many")
+        y = p.asked("the port asks for " + s.name, note) if s.refused else p.arrow(False, p.of(s.body[3], s.name), "", "many")
     elif s.letter in "FL":
         notes = ["lost"] if s.letter == "L" else [note] if note else []
-        notes += [] if allowed else ["the host's rules do not allow it here"]
-        y = p.arrow(True, s.name, "; ".join(notes), "lost" if s.letter == "L" else "refused" if note else "")
+        notes += [] if allowed else ["against the host's rules"]
+        name = p.of(s.frame[7], s.name) if len(s.frame) >= 24 else s.name
+        y = p.arrow(True, name, "; ".join(notes), "lost" if s.letter == "L" else "refused" if note else "")
     taken = y if s.letter != "N" else p.y
     if s.reply:
-        y = p.arrow(False, meaning(s.reply), "lost" if s.lost else "", "lost" if s.lost else "")
+        y = p.arrow(False, p.of(s.reply[3], meaning(s.reply)), "lost" if s.lost else "", "lost" if s.lost else "")
     p.remark("" if s.untouched else "bytes behind the reply were changed")
     return taken, y
+
+
+def header(p, hosts, drives):
+    """The names at the top, and what holds before the first step."""
+    p.text(HOST, 28, "%d hosts" % len(hosts) if p.several else "host " + "".join("%02X" % a for a in hosts), "side")
+    p.text(DRIVE, 28, "drive %02X" % drives.pop() if len(drives) == 1 else "drive", "side")
+    p.text(12, 28, "the host's belief", "grey", "start")
+    p.text(WIDTH - 12, 28, "the drive's record", "grey", "end")
+    p.side(HOST - 12, p.y + 12, "end", ["unsure"])
+    p.shade("unsure", 39)
 
 
 def draw(steps, meaning, refusal):
@@ -126,19 +142,14 @@ def draw(steps, meaning, refusal):
     for s in steps:
         first.take(s, meaning)
     hosts = sorted(first.beliefs)
-    p, sides, each = Picture(), Sides(hosts), "%02X: %s" if len(hosts) > 1 else "%.0s%s"
-    p.text(HOST, 28, "host " + ", ".join("%02X" % a for a in hosts), "side")
-    p.text(DRIVE, 28, "drive %02X" % first.own[2] if first.own else "drive", "side")
-    p.text(12, 28, "the host believes", "grey", "start")
-    p.text(WIDTH - 12, 28, "record of the host", "grey", "end")
-    p.side(HOST - 12, p.y + 12, "end", ["unsure"])
-    p.shade("unsure", p.y - 22)
+    p, sides = Picture(hosts), Sides(hosts)
+    header(p, hosts, {s.body[11] for s in steps if s.letter == "S" and not s.refused})
     for s in folded(steps):
-        was = dict(sides.beliefs), dict(sides.records)
+        beliefs, records = dict(sides.beliefs), {a: sides.record(a) for a in hosts}
         taken, heard = step(p, s, sides.take(s, meaning), meaning, refusal)
-        new = [each % (a, words(sides.record(a))) for a in hosts if sides.record(a) != was[1].get(a, "out")]
+        new = [p.of(a, words(sides.record(a))) for a in hosts if sides.record(a) != records[a]]
         p.side(DRIVE + 12, taken, "start", ["out"] if s.letter == "S" and not s.refused else new)
-        p.side(HOST - 12, heard, "end", [each % (a, words(sides.beliefs[a])) for a in hosts if sides.beliefs[a] != was[0][a]])
+        p.side(HOST - 12, heard, "end", [p.of(a, words(sides.beliefs[a])) for a in hosts if sides.beliefs[a] != beliefs[a]])
         if sides.doubt() != p.doubt[0]:
             p.shade(sides.doubt(), heard - 14)
     return p.whole()

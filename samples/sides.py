@@ -70,9 +70,9 @@ class Sides:
         self.own, self.beliefs, self.records = None, dict.fromkeys(hosts, UNSURE), {}
 
     def host(self, s):
-        """The address whose frame to this drive a step is, or None: refusals 3 to 5 say that it is of no host, or not to this drive."""
+        """The address whose frame to this drive a step is, or None; refusal 5 says that it is no host's."""
         f = s.frame
-        return f[7] if len(f) >= 24 and f[1:4] == self.own and f[5:7] == bytes(2) and s.refused not in (3, 4, 5) else None
+        return f[7] if len(f) >= 24 and f[1:4] == self.own and f[5:7] == bytes(2) and s.refused != 5 else None
 
     def take(self, s, meaning):
         """Follows a step, and answers whether the host's rules allow it."""
