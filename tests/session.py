@@ -1,7 +1,7 @@
 #!/usr/bin/env python3
 """A session with the program recorder: its records, and the answer that document 01 ("01") asks for to each.
 
-Usage: tests/session.py stdin | stdout | sample
+Usage: tests/session.py stdin | stdout | sample | lost
 
 Nothing here comes from a run of the program: the replies are put together by hand (frames.py) from 01's sentences, the form of records and
 answers stands at the head of crates/recorder/src/main.rt. Refusal 2 is never asked for: a drive is only made where its setup passes, and
@@ -80,6 +80,16 @@ def event(name, number):
 
 
 LOOP_RESET, TIME_OVER, POWER_ON = 1, 2, 3
+
+
+def lost_on_the_way(name, f):
+    """A frame that never comes to the drive: samples/show marks it, and to the program it is no call."""
+    no_call(name, "L", f)
+
+
+def reply_lost(name):
+    """The reply to the call before never comes to the host."""
+    no_call(name, "L", b"")
 
 # the frames of a command
 
@@ -429,9 +439,31 @@ def sample():
     calls[:] = [one for one in calls if not one.name.endswith("-freed")]  # a refused call changes nothing
 
 
+def lost():
+    """A host keeps to its rules while the loop loses an accept and a LOGO, and is reset in the midst of a READ."""
+    fresh()
+    sends("plogi", login(0x01), login_acc)
+    reply_lost("plogi-acc-lost")
+    sends("plogi-again", login(0x01, ox_id=0x0201), login_acc)
+    sends("prli", prli(0x01), prli_acc)
+    sends("attention", test_unit(0x01), check("06/29/00"))
+    f, first, second = cmnd(0x01, 0x0A01, read(40, 8), 4096), unit(40, 2048), unit(44, 2048)
+    sends("read", f, nothing)
+    asks("read-0", f, data(f, 0, 0, first, False), 40, first)
+    event("reset", LOOP_RESET)
+    asks_in_vain("unproven", 7, 0x01, 0x0A01, 44, second)
+    sends("pdisc", pdisc(0x01), login_acc)
+    asks("read-1", f, data(f, 1, 2048, second, True), 44, second)
+    asks("read-rsp", f, good()(f))
+    lost_on_the_way("logo-lost", logo(0x01))
+    sends("logo-again", changed(logo(0x01), (17, 0x01)), acc)
+
+
+SHOWN = {"sample": sample, "lost": lost}  # the sessions of samples/
+
 if __name__ == "__main__":
-    part = sys.argv[1:]
-    if part not in (["stdin"], ["stdout"], ["sample"]):
+    part = sys.argv[1] if len(sys.argv) == 2 else ""
+    if part not in ("stdin", "stdout", *SHOWN):
         sys.exit(__doc__)
-    for one in session((sample,) if part == ["sample"] else STORED):
-        sys.stdout.buffer.write(one.answer if part == ["stdout"] else one.record)
+    for one in session((SHOWN[part],) if part in SHOWN else STORED):
+        sys.stdout.buffer.write(one.answer if part == "stdout" else one.record)
