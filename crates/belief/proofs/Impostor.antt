@@ -1,12 +1,13 @@
--- Drives that the laws keep out.
+-- Drives that the laws keep out, and those that demand 3 itself does (`specs/Impostor.antt`).
 -- Assumes nothing.
 use mathlib.Core.Path.{_≡_, refl, sym, _∙_, ap, subst}
 use mathlib.Core.Bool.{true, false}
 use mathlib.Core.List.{[], _∷_}
 use Rattle.link.specs.Record.{Kept, out, held}
-use Rattle.belief.specs.Host.{Belief, unsure, sure, Request, plogi, logo, Answer, acc, rjt, dlogo, MayOut, hears, received}
+use Rattle.belief.specs.Host.{Belief, unsure, sure, Request, plogi, logo, Answer, acc, rjt, MayOut, hears, received}
 use Rattle.belief.specs.Side.{Side, Laws, Held, OnPlogi, OnLogo, Meets}
 use Rattle.belief.specs.Demand3.{Event, send, pass, heard, lapse, World, step, Follows, loss, Agrees, Fine, some, Demand3}
+use Rattle.belief.specs.Impostor.{KeptOut}
 
 module _ (D : Side) (laws : Laws D) where
   -- the record after an accepted PLOGI, and after an accepted LOGO
@@ -37,7 +38,7 @@ module _ (D : Side) (laws : Laws D) where
       D .asks f ≡ plogi l → D .answer s f ≡ rjt → D .login (D .take s f) ≡ D .login s → ⊥
   keeps-old s f l k h q a e = subst Held (sym e ∙ rejected s f l k q a) h
 
--- The same from demand 3 itself, without the laws.
+-- From demand 3 itself, without the laws.
 abbrev Sure-held : Belief → Type 0
 Sure-held unsure = ⊥
 Sure-held (sure r) = Held r
@@ -50,17 +51,6 @@ module _ (D : Side) (demand : Demand3 D) where
       let m′ : MayOut (D .asks f) = subst MayOut (sym e) m in
       sym (ap (λ (x : Request). hears x a unsure) e) ∙ sym (ap (λ (x : Answer). hears (D .asks f) x unsure) h)
       ∙ demand .ends-doubt s [] f (record { formed = k; first = tt; then = m′; last = tt }) m′ (ap some h ∙ t)
-
-  pub demand-stores : ((s : D .State) (f : D .Sent) → D .login (D .take s f) ≡ D .login s) →
-      (s : D .State) (f g : D .Sent) (l : Kept) → D .Wf s →
-      D .asks f ≡ plogi l → D .answer s f ≡ acc → D .asks g ≡ logo → D .answer s g ≡ acc → ⊥
-  demand-stores idle s f g l k q a q₂ a₂ =
-      subst Sure-held
-      (answered s f (plogi l) acc k q a tt refl ∙ ap sure (idle s f) ∙ sym (answered s g logo acc k q₂ a₂ tt refl ∙ ap sure (idle s g))) tt
-
-  pub demand-drops-old : (s : D .State) (f : D .Sent) (l : Kept) → D .Wf s → Held (D .login s) →
-      D .asks f ≡ plogi l → D .answer s f ≡ rjt → D .login (D .take s f) ≡ D .login s → ⊥
-  demand-drops-old s f l k h q a e = subst Sure-held (ap sure (sym e) ∙ sym (answered s f (plogi l) rjt k q a tt refl)) h
 
   -- an accepted PLOGI from the start, and one event more that is no loss of memory
   abbrev logged : D .State → D .Sent → Belief → World D
@@ -76,16 +66,17 @@ module _ (D : Side) (demand : Demand3 D) where
       subst (λ (y : Belief). Fine D (step D (logged s f y) e)) b
       (demand .sure-until s [] (send f heard) (e ∷ []) (held false true l) (record { formed = k; first = tt; then = m′; last = (m₂, tt) }) refl b (n₂, tt))
 
-  -- What is no loss of memory leaves the login of an accepted PLOGI: a drive that ends it then is kept out too.
-  pub demand-remembers : (s : D .State) (f : D .Sent) (l : Kept) (x : D .Lapse) → D .Wf s →
-      D .asks f ≡ plogi l → D .answer s f ≡ acc → D .loses (D .take s f) x ≡ false → held false true l ≡ D .login (D .lapse (D .take s f) x)
-  demand-remembers s f l x k q a n = then-fine s f l (lapse x) k q a tt n
-
-  -- One that sends a host that is logged in a LOGO which it did not ask for, say in answer to another port's command, is kept out: where the LOGO is lost the login must stand, where it arrives it must not.
-  pub demand-no-logo : (s : D .State) (f : D .Sent) (l : Kept) (x : D .Else) → D .Wf s →
-      D .asks f ≡ plogi l → D .answer s f ≡ acc → D .Aside (D .take s f) x → D .says (D .take s f) x ≡ dlogo → ⊥
-  demand-no-logo s f l x k q a m e =
-      let r = D .login (D .pass (D .take s f) x) in
-      let lost : held false true l ≡ r = then-fine s f l (pass x false) k q a m refl in
-      let arrived : out ≡ r = subst (λ (y : Answer). Agrees (received y (sure (held false true l))) r) e (then-fine s f l (pass x true) k q a m refl) in
-      subst Held (lost ∙ sym arrived) tt
+  pub kept-out : KeptOut D
+  kept-out =
+      record {
+        demand-stores = λ idle s f g l k q a q₂ a₂.
+            subst Sure-held
+            (answered s f (plogi l) acc k q a tt refl ∙ ap sure (idle s f) ∙ sym (answered s g logo acc k q₂ a₂ tt refl ∙ ap sure (idle s g))) tt;
+        demand-drops-old = λ s f l k h q a e. subst Sure-held (ap sure (sym e) ∙ sym (answered s f (plogi l) rjt k q a tt refl)) h;
+        demand-remembers = λ s f l x k q a n. then-fine s f l (lapse x) k q a tt n;
+        demand-no-logo = λ s f l x k q a m e.
+            let r = D .login (D .pass (D .take s f) x) in
+            let lost : held false true l ≡ r = then-fine s f l (pass x false) k q a m refl in
+            let arrived : out ≡ r = subst (λ (y : Answer). Agrees (received y (sure (held false true l))) r) e (then-fine s f l (pass x true) k q a m refl) in
+            subst Held (lost ∙ sym arrived) tt;
+      }

@@ -6,3 +6,4 @@ pub mod Takes
 pub mod Instance
 pub mod Histories
 pub mod Marked
+pub mod Drive3

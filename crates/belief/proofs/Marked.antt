@@ -1,11 +1,11 @@
--- One history in which all that document 01 tells of happens, with what host and drive hold at marked moments, by computation. Assumes nothing.
+-- The history of `specs/Marked.antt`, by computation. Assumes nothing.
 use Prim.Native.Nat.{ℕ}
 use mathlib.Core.Path.{_≡_, refl, sym, ap, _∙_, subst}
 use mathlib.Core.Bool.{true, false}
-use mathlib.Core.List.{List, [], _∷_, _++_}
+use mathlib.Core.List.{[], _∷_, _++_}
 use native.Mathlib.Omega.{arith}
 use lib.ListN.{replicate}
-use Rattle.wire.specs.Bytes.{bytes, onto}
+use Rattle.wire.specs.Bytes.{onto}
 use Rattle.frame.specs.Head.{headerOf, headerBytes}
 use Rattle.address.specs.Address.{validAddress}
 use Rattle.params.specs.Words.{paramsOf, sizeFails, zeroName, verdictOf, setupPasses}
@@ -29,123 +29,12 @@ use Rattle.serve.specs.Next.{hasMore, readsMore, placeOf, frameOf, nextReply, n
 use Rattle.arrival.specs.Arrival.{badSize, badSource, knownPair, unknownForm, spared, unprovenLogin, formOf}
 use Rattle.drive.specs.Drive.{madeFrom, afterEvent, eventAnswer}
 use Rattle.drive.specs.Entry.{replyBytes, frameIn, frameInBuffer, nextFrame, nextFrameBuffer}
-use Rattle.demands.specs.Numbers as numbers
-use Rattle.belief.specs.Host as host
+use Rattle.demands.specs.Numbers.{words, made}
 use Rattle.belief.specs.Host.{Belief, unsure, sure, dlogo}
 use Rattle.belief.specs.Demand3.{Event, lost, mute, heard, send, next, pass, foreign, reset, lapse, World, step, run, Follows, Keeps, loss, reachesHost, start}
-use Rattle.belief.specs.Wire.{FromHost, ForHost, Others, frame, elsewhere, time-over, theDrive}
-use Rattle.belief.proofs.Histories.{bytes-known, sentKept, buffer, logs-in, pairs, asks, world}
-
--- a PDISC with the parameters of the login
-abbrev pub pdisc : List ℕ
-pdisc = numbers.frame 0x22 0x01 0x01 5 (0x50 ∷ 0x00 ∷ 0x00 ∷ 0x00 ∷ numbers.words 0x01 2048)
-
-pub verifies : FromHost 0x01
-unfolding headerOf headerBytes paramsOf
-verifies =
-    record {
-      request = host.pdisc sentKept;
-      bytes = pdisc;
-      buffer = buffer;
-      known = bytes-known pdisc refl;
-      makes = (record { form = record { routing = refl; source = refl }; coded = refl; sized = refl }, refl);
-    }
-
--- a READ of the first block
-pub reads : FromHost 0x01
-unfolding headerOf headerBytes
-reads =
-    record {
-      request = host.command;
-      bytes = numbers.read 0x01 0x0004 0 1 512;
-      buffer = buffer;
-      known = bytes-known (numbers.read 0x01 0x0004 0 1 512) refl;
-      makes = record { routing = refl; source = refl };
-    }
-
--- its next frame, from a window that has the block
-abbrev pub itsFrame : ForHost
-itsFrame = record { ox = 0x0004; start = 0; window = replicate 512 0xa5; buffer = buffer }
-
--- another port sends a command without a login, and is answered with a LOGO
-pub strangerAsks : Others 0x01
-unfolding headerOf headerBytes
-strangerAsks = frame (numbers.ready 0x02) buffer (bytes-known (numbers.ready 0x02) refl) (λ e. let z : _≡_ {A = ℕ} 2 1 = e in omega arith)
-
--- and logs in
-pub strangerLogsIn : Others 0x01
-unfolding headerOf headerBytes
-strangerLogsIn = frame (numbers.plogi 0x02 2048) buffer (bytes-known (numbers.plogi 0x02 2048) refl) (λ e. let z : _≡_ {A = ℕ} 2 1 = e in omega arith)
-
--- the host's own frame to that port
-abbrev pub hostToStranger : Others 0x01
-hostToStranger = elsewhere (0x22 ∷ bytes 3 0x02 ++ (0x00 ∷ bytes 3 0x01) ++ replicate 16 0) buffer
-
-abbrev pub Day : Type 0
-Day = List (Event (theDrive 0x01))
-
--- a request is lost, and then an answer
-abbrev pub doubtful : Day
-doubtful = send logs-in lost ∷ send logs-in mute ∷ []
-
-abbrev pub pairing : Day
-pairing = doubtful ++ (send logs-in heard ∷ send pairs heard ∷ [])
-
--- frames of the host to another port, of that port to the drive, and of it to the host
-abbrev pub visited : Day
-visited = pairing ++ (pass hostToStranger true ∷ pass strangerAsks true ∷ pass strangerLogsIn true ∷ foreign dlogo ∷ [])
-
--- the first command gets attention 29h; the READ opens silently
-abbrev pub opened : Day
-opened = visited ++ (send asks heard ∷ send reads heard ∷ [])
-
--- data; and then the response
-abbrev pub served : Day
-served = opened ++ (next itsFrame true ∷ [])
-
-abbrev pub answered : Day
-answered = served ++ (next itsFrame true ∷ [])
-
-abbrev pub doubted : Day
-doubted = answered ++ (reset ∷ [])
-
-abbrev pub provenAgain : Day
-provenAgain = doubted ++ (send verifies heard ∷ [])
-
--- the time runs out before the host verifies again
-abbrev pub late : Day
-late = provenAgain ++ (reset ∷ [])
-
-abbrev pub forgotten : Day
-forgotten = late ++ (lapse time-over ∷ [])
-
-abbrev pub corrected : Day
-corrected = forgotten ++ (send verifies heard ∷ [])
-
--- what the host believes, and what the drive's record for it is
-pub record At (h : Day) (b : Belief) (r : Record) : Type 0 where
-  pub belief : world h .belief ≡ b
-  pub record-is : recordOf (world h .drive .port) 0x01 ≡ r
-
-pub record Marked : Type 0 where
-  -- the host keeps its rules throughout
-  pub keeps : Keeps (theDrive 0x01) (start (theDrive 0x01) (numbers.made 100)) corrected
-  -- unsure, though the drive has the login; then sure and right
-  pub unsure-first : At doubtful unsure (held false true sentKept)
-  pub sure-paired : At pairing (sure (held true true sentKept)) (held true true sentKept)
-  -- other ports change nothing
-  pub others-nothing : At visited (sure (held true true sentKept)) (held true true sentKept)
-  -- a READ: data and response reach the host, and change nothing
-  pub data-comes : reachesHost (theDrive 0x01) (world opened) (next itsFrame true) ≡ true
-  pub response-comes : reachesHost (theDrive 0x01) (world served) (next itsFrame true) ≡ true
-  pub read-through : At answered (sure (held true true sentKept)) (held true true sentKept)
-  -- to verify on both sides, and verified
-  pub to-verify : At doubted (sure (held true false sentKept)) (held true false sentKept)
-  pub by-pdisc : At provenAgain (sure (held true true sentKept)) (held true true sentKept)
-  -- the time over is a loss: sure and wrong; and right again by the LOGO that answers
-  pub a-loss : loss (theDrive 0x01) (world late) (lapse time-over) ≡ true
-  pub sure-and-wrong : At forgotten (sure (held true false sentKept)) out
-  pub right-again : At corrected (sure out) out
+use Rattle.belief.specs.Wire.{time-over, theDrive}
+use Rattle.belief.specs.Frames.{sentKept, logs-in, pairs, asks, verifies, reads, itsFrame, strangerAsks, strangerLogsIn, hostToStranger}
+use Rattle.belief.specs.Marked.{Day, doubtful, pairing, visited, opened, served, answered, doubted, provenAgain, late, forgotten, corrected, At, Marked}
 
 -- The moments, spelt out, so that each event is computed from them and not from the first one on.
 abbrev Moment : Type 0
@@ -172,7 +61,7 @@ seat address proven paired attention e =
 abbrev moment : Belief → Login → Login → Moment
 moment b l m =
     record {
-      drive = record { unit = record { capacity = 100; identity = replicate 28 0x20 }; port = record { address = 0xef; accept = numbers.words 0xef 2048; logins = l ∷ m ∷ replicate 6 emptyLogin } };
+      drive = record { unit = record { capacity = 100; identity = replicate 28 0x20 }; port = record { address = 0xef; accept = words 0xef 2048; logins = l ∷ m ∷ replicate 6 emptyLogin } };
       belief = b;
     }
 
@@ -248,7 +137,7 @@ more {w} {v} {u} {h} {e} l b = after w v u h e l b
 
 -- what is computed: the events, each from the moment before it
 record Steps : Type 0 where
-  begins : start (theDrive 0x01) (numbers.made 100) ≡ m₀
+  begins : start (theDrive 0x01) (made 100) ≡ m₀
   e₁ : By m₀ (send logs-in lost) m₀
   e₂ : By m₀ (send logs-in mute) m₁
   e₃ : By m₁ (send logs-in heard) m₂
@@ -314,7 +203,7 @@ steps =
 
 -- from the start to each marked moment
 abbrev Reach : Day → Moment → Type 0
-Reach h v = Leads (start (theDrive 0x01) (numbers.made 100)) h v
+Reach h v = Leads (start (theDrive 0x01) (made 100)) h v
 
 begun : Reach [] m₀
 begun = record { keeps = tt; ends = steps .begins }

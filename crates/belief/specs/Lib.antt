@@ -1,4 +1,9 @@
 pub mod Host
 pub mod Side
 pub mod Demand3
+pub mod Impostor
 pub mod Wire
+pub mod Frames
+pub mod Histories
+pub mod Marked
+pub mod Drive3

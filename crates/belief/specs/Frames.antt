@@ -1,0 +1,117 @@
+-- The frames of the histories of `Histories.antt` and `Marked.antt`, as they arrive: of the host, whose address is 01h, and of another port, whose address is 02h.
+use Prim.Native.Nat.{ℕ}
+use mathlib.Core.Path.{_≡_, refl}
+use mathlib.Core.Bool.{true}
+use mathlib.Core.List.{List, _∷_, _++_}
+use native.Mathlib.Decide.{decLe}
+use native.Mathlib.Omega.{arith}
+use lib.Dec.{ltb}
+use lib.ListN.{length, getD, replicate, List·getD-eq-default}
+use borrow.Author.Tests.{ltb-true}
+use Rattle.tables.specs.Lists.{all}
+use Rattle.tables.proofs.Keeping.{all-at}
+use Rattle.wire.specs.Bytes.{bytes}
+use Rattle.wire.specs.Layout.{AllBytes}
+use Rattle.frame.specs.Head.{headerOf, headerBytes}
+use Rattle.params.specs.Words.{paramsOf}
+use Rattle.link.specs.Record.{Kept, keptFrom}
+use Rattle.demands.specs.Numbers as numbers
+use Rattle.belief.specs.Host as host
+use Rattle.belief.specs.Wire.{FromHost, ForHost, Others, frame, elsewhere}
+
+-- elements that are bytes, by one test
+pub bytes-known : (s : List ℕ) → all (λ b. ltb b 256) s ≡ true → AllBytes s
+bytes-known s t j =
+    elim (decLe (length s) j) [
+      | yes l ↦ (let e = List·getD-eq-default s 0 l in omega arith)
+      | no l ↦ ltb-true (getD s j 0) 256 (all-at (λ b. ltb b 256) 0 s j (omega arith) t)
+    ]
+
+-- the names and parameters that the host of address 01h sends
+abbrev pub sentKept : Kept
+sentKept = keptFrom (paramsOf (numbers.plogi 0x01 2048) 28)
+
+-- what the port lends with each frame
+abbrev pub buffer : List ℕ
+buffer = replicate 2136 0x5a
+
+-- the host's PLOGI
+unfoldable pub logs-in : FromHost 0x01
+unfolding headerOf headerBytes
+logs-in =
+    record {
+      request = host.plogi sentKept;
+      bytes = numbers.plogi 0x01 2048;
+      buffer = buffer;
+      known = bytes-known (numbers.plogi 0x01 2048) refl;
+      makes = (record { form = record { routing = refl; source = refl }; coded = refl; sized = refl }, refl);
+    }
+
+-- its PRLI
+unfoldable pub pairs : FromHost 0x01
+unfolding headerOf headerBytes
+pairs =
+    record {
+      request = host.prli;
+      bytes = numbers.prli 0x01;
+      buffer = buffer;
+      known = bytes-known (numbers.prli 0x01) refl;
+      makes = record { form = record { routing = refl; source = refl }; coded = refl; sized = refl };
+    }
+
+-- its TEST UNIT READY
+unfoldable pub asks : FromHost 0x01
+unfolding headerOf headerBytes
+asks =
+    record {
+      request = host.command;
+      bytes = numbers.ready 0x01;
+      buffer = buffer;
+      known = bytes-known (numbers.ready 0x01) refl;
+      makes = record { routing = refl; source = refl };
+    }
+
+-- its PDISC, with the parameters of the login
+abbrev pub pdisc : List ℕ
+pdisc = numbers.frame 0x22 0x01 0x01 5 (0x50 ∷ 0x00 ∷ 0x00 ∷ 0x00 ∷ numbers.words 0x01 2048)
+
+unfoldable pub verifies : FromHost 0x01
+unfolding headerOf headerBytes paramsOf
+verifies =
+    record {
+      request = host.pdisc sentKept;
+      bytes = pdisc;
+      buffer = buffer;
+      known = bytes-known pdisc refl;
+      makes = (record { form = record { routing = refl; source = refl }; coded = refl; sized = refl }, refl);
+    }
+
+-- its READ of the first block
+unfoldable pub reads : FromHost 0x01
+unfolding headerOf headerBytes
+reads =
+    record {
+      request = host.command;
+      bytes = numbers.read 0x01 0x0004 0 1 512;
+      buffer = buffer;
+      known = bytes-known (numbers.read 0x01 0x0004 0 1 512) refl;
+      makes = record { routing = refl; source = refl };
+    }
+
+-- the READ's next frame, from a window that has the block
+abbrev pub itsFrame : ForHost
+itsFrame = record { ox = 0x0004; start = 0; window = replicate 512 0xa5; buffer = buffer }
+
+-- another port sends a command without a login, and is answered with a LOGO
+unfoldable pub strangerAsks : Others 0x01
+unfolding headerOf headerBytes
+strangerAsks = frame (numbers.ready 0x02) buffer (bytes-known (numbers.ready 0x02) refl) (λ e. let z : _≡_ {A = ℕ} 2 1 = e in omega arith)
+
+-- and logs in
+unfoldable pub strangerLogsIn : Others 0x01
+unfolding headerOf headerBytes
+strangerLogsIn = frame (numbers.plogi 0x02 2048) buffer (bytes-known (numbers.plogi 0x02 2048) refl) (λ e. let z : _≡_ {A = ℕ} 2 1 = e in omega arith)
+
+-- the host's own frame to that port
+abbrev pub hostToStranger : Others 0x01
+hostToStranger = elsewhere (0x22 ∷ bytes 3 0x02 ++ (0x00 ∷ bytes 3 0x01) ++ replicate 16 0) buffer
