@@ -5,6 +5,7 @@ pub mod Judges
 pub mod Numbers
 pub mod Decoding
 pub mod Between
+pub mod Ending
 pub mod Calls
 pub mod Contracts
 pub mod Lengths
