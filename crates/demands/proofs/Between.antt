@@ -74,6 +74,20 @@ use Rattle.drive.proofs.Made.{event-answered, event-unchanged}
 use Rattle.drive.proofs.Ways.{frame-cases}
 use Rattle.demands.specs.Between.{Call, frame, next, event, answerOf, after, asked, EndsAll, Own, Service, pdiscNames, adiscNames, Left, LeavesOpen, refused, next-other, loop-reset, time-over, other, done, abts-other, abts-rejected, coded, command-other, unsized, prli, rrq, logo-rejected, prlo-rejected, pdisc, adisc}
 
+-- what holds at both ends of a choice, each where the test says so, holds of the choice
+pub by-cond : {A : Type 0} (P : A → Type 0) (b : Bool) {x y : A} → (b ≡ true → P x) → (b ≡ false → P y) → P (cond b x y)
+by-cond P true h k = h refl
+by-cond P false h k = k refl
+
+-- the login at a place after a change of every login, and that of an address where it was found
+pub at-changed : (p : Port) (k : ℕ) (c : Change) → loginAt (changedAll c p) k ≡ changedOf c (loginAt p k)
+unfolding loginAt changedAll
+at-changed p k c = ap (getD (map (changedOf c) (p .logins)) k) (sym (empty-changed c)) ∙ List·getD-map (changedOf c) (p .logins) k emptyLogin
+
+login-found : (p : Port) (b k : ℕ) → findLogin p b ≡ At k → loginOf p b ≡ loginAt p k
+unfolding loginOf
+login-found p b k e = rw e
+
 -- a login with the address and size that it had, and at place j the exchange that it had
 record Kept (l m : Login) (j : ℕ) : Type 0 where
   used : m .used ≡ l .used
@@ -123,13 +137,9 @@ module _ (u : Unit) (p : Port) (a x i j : ℕ) (w : wellFormed u p ≡ true) (o 
   unchanged : Stays p
   unchanged = record { own = refl; login = itself (loginAt p i) j }
 
-  at-changed : (c : Change) → loginAt (changedAll c p) i ≡ changedOf c (loginAt p i)
-  unfolding loginAt changedAll
-  at-changed c = ap (getD (map (changedOf c) (p .logins)) i) (sym (empty-changed c)) ∙ List·getD-map (changedOf c) (p .logins) i emptyLogin
-
   changed : (c : Change) → Spares a (loginAt p i) c → Stays (changedAll c p)
   unfolding changedAll
-  changed c s = record { own = refl; login = subst (λ (m : Login). Kept (loginAt p i) m j) (sym (at-changed c)) (spared a (loginAt p i) j c has s) }
+  changed c s = record { own = refl; login = subst (λ (m : Login). Kept (loginAt p i) m j) (sym (at-changed p i c)) (spared a (loginAt p i) j c has s) }
 
   stored : (m : Login) → Kept (loginAt p i) m j → Stays (withLogin p i m)
   unfolding withLogin
@@ -210,16 +220,20 @@ module _ (u : Unit) (p : Port) (a x i j : ℕ) (w : wellFormed u p ≡ true) (o 
     task-others t r mild.clear z c s = absurd (c refl)
     task-others t r mild.execute z c s = s
 
-    command-others : (h : Header) (f : List ℕ) → h .«s_id» ≡ b → (taskOf (cmndOf f) (length f) b ≡ task.Apply Reset → ⊥) → (taskOf (cmndOf f) (length f) b ≡ task.Apply (Clear b) → ⊥) → Says (commandOf u p h f)
+    -- where its login is paired; where it is not, that login ends
+    command-others : (h : Header) (f : List ℕ) → h .«s_id» ≡ b
+        → (loginOf p b .paired ≡ 1 → taskOf (cmndOf f) (length f) b ≡ task.Apply Reset → ⊥) → (loginOf p b .paired ≡ 1 → taskOf (cmndOf f) (length f) b ≡ task.Apply (Clear b) → ⊥) → Says (commandOf u p h f)
     unfolding commandOf commandedAt loggedOut
-    command-others h f is z c =
-        rw is
-        (on-found Says (findLogin p b) _ _
-        (λ k e. on-cond Says (eqb (loginAt p k .paired) 1) (task-others (taskOf (cmndOf f) (length f) b) _ (task-mild (cmndOf f) (length f) b) z c (elsewhere p unchanged k _ (not-here b k n e))) ended-stays)
-        (λ _. ended-stays))
+    command-others h f is z c = rw is (on-found Says (findLogin p b) _ _ (λ k e. by-cond Says (eqb (loginAt p k .paired) 1) (paired k e) (λ _. ended-stays)) (λ _. ended-stays))
+      where
+        paired : (k : ℕ) → findLogin p b ≡ At k → eqb (loginAt p k .paired) 1 ≡ true
+            → Says (doneAs (taskOf (cmndOf f) (length f) b) p (servedAt p k (executeOf u (loginAt p k) (soughtIn p b (h .«ox_id»)) (h .«ox_id») (cmndOf f))))
+        paired k e pair =
+            let its : loginOf p b .paired ≡ 1 = ap (λ (m : Login). m .paired) (login-found p b k e) ∙ eqb-true (loginAt p k .paired) 1 pair in
+            task-others (taskOf (cmndOf f) (length f) b) _ (task-mild (cmndOf f) (length f) b) (z its) (c its) (elsewhere p unchanged k _ (not-here b k n e))
 
   -- its own frames: the login is the one at place i
-  seat : findLogin p a ≡ At i
+  pub seat : findLogin p a ≡ At i
   seat = open-place p a x i j o
 
   abbrev l : Login
@@ -276,18 +290,18 @@ module _ (u : Unit) (p : Port) (a x i j : ℕ) (w : wellFormed u p ≡ true) (o 
     unfolding executeOf refusedWith
     execute-keeps place is = on-found Keeps place _ _ (λ k e. placed l l j k emptyExchange (itself l j) (not-its ox k n (sym is ∙ e))) (λ _. answered-keeps (askedOf u (l .attention) ox c))
 
-  sought-there : (ox : ℕ) → soughtIn p a ox ≡ findExchange l ox
+  pub sought-there : (ox : ℕ) → soughtIn p a ox ≡ findExchange l ox
   unfolding loginOf
   sought-there ox = sought-is p a ox ∙ ap (λ (g : Found). findExchange (loginIn p g) ox) seat
 
-  is-paired : eqb (l .paired) 1 ≡ true
+  pub is-paired : eqb (l .paired) 1 ≡ true
   is-paired = runs u p a x i j w o .pair
 
-  -- its own FCP_CMND: the answer alone, or a command of another OX_ID
-  own-command : (h : Header) (f : List ℕ) (t : Task) → h .«s_id» ≡ a → taskOf (cmndOf f) (length f) a ≡ t
-      → Says (doneAs t p (servedAt p i (executeOf u l (soughtIn p a (h .«ox_id»)) (h .«ox_id») (cmndOf f)))) → Says (commandOf u p h f)
+  -- its own FCP_CMND, by what it asks for
+  pub own-command : (P : Decided → Type 0) (h : Header) (f : List ℕ) (t : Task) → h .«s_id» ≡ a → taskOf (cmndOf f) (length f) (h .«s_id») ≡ t
+      → P (doneAs t p (servedAt p i (executeOf u l (soughtIn p a (h .«ox_id»)) (h .«ox_id») (cmndOf f)))) → P (commandOf u p h f)
   unfolding commandOf commandedAt
-  own-command h f t is asks says = rw (is, seat, is-paired, asks) says
+  own-command P h f t is asks holds = rw (asks, is, seat, is-paired) holds
 
   -- its own link requests
   module _ (h : Header) (f : List ℕ) (is : h .«s_id» ≡ a) where
@@ -330,9 +344,8 @@ module _ (u : Unit) (p : Port) (a x i j : ℕ) (w : wellFormed u p ≡ true) (o 
   unfolding serviceOf adiscOf
   adisc-keeps f same named = rw (same, eq-eqb (num 3 f 49) a named) (flagged l j 1 (l .paired) (l .attention))
 
-  login-there : loginOf p a ≡ l
-  unfolding loginOf
-  login-there = rw seat
+  pub login-there : loginOf p a ≡ l
+  login-there = login-found p a i seat
 
   -- a next frame of another exchange
   moved-stays : (b y : ℕ) (q : Port) → ((b ≡ a) × (y ≡ x) → ⊥) → MovedOnly p b y q → Stays q
@@ -356,7 +369,7 @@ module _ (u : Unit) (p : Port) (a x i j : ℕ) (w : wellFormed u p ≡ true) (o 
           }
 
 -- a frame that passes as a command is an FCP_CMND
-command-form : (h : Header) (n : ℕ) → unknownForm h n ≡ false → formOf (h .«r_ctl») ≡ Command → h .«r_ctl» ≡ 0x06
+pub command-form : (h : Header) (n : ℕ) → unknownForm h n ≡ false → formOf (h .«r_ctl») ≡ Command → h .«r_ctl» ≡ 0x06
 unfolding unknownForm knownPair formOf
 command-form h n known form =
     let is = pair (eqb (h .«r_ctl») 0x22) (eqb (h .«r_ctl») 0x23) (eqb (h .«r_ctl») 0x81) in
@@ -411,12 +424,12 @@ module _ (d : Drive) (a x i j : ℕ) (w : wellFormed (d .unit) (d .port) ≡ tru
       own-left f room known 0x22 (s .own) (service-keeps u p a x i j w o (headerOf f) f (s .own .from) code (s .code-is) no-plogi no-logo t)
 
   -- a frame of another sender
-  other-here : (f : List ℕ) → (headerOf f .«s_id» ≡ a → ⊥) → (EndsAll f → ⊥) → (k : Form) → (k ≡ Command → headerOf f .«r_ctl» ≡ 0x06) → Here (decidedOf u p (headerOf f) k f .port)
+  other-here : (f : List ℕ) → (headerOf f .«s_id» ≡ a → ⊥) → (EndsAll p f → ⊥) → (k : Form) → (k ≡ Command → headerOf f .«r_ctl» ≡ 0x06) → Here (decidedOf u p (headerOf f) k f .port)
   other-here f n spares Link form = link-others u p a x i j w o (headerOf f .«s_id») n (headerOf f) f refl
   other-here f n spares Done form = unchanged u p a x i j w o
   other-here f n spares Abort form = abts-others u p a x i j w o (headerOf f .«s_id») n (headerOf f .«ox_id») (headerOf f .«rx_id»)
   other-here f n spares Command form =
-      command-others u p a x i j w o (headerOf f .«s_id») n (headerOf f) f refl (λ e. spares record { command = form refl; flags = inl e }) (λ e. spares record { command = form refl; flags = inr e })
+      command-others u p a x i j w o (headerOf f .«s_id») n (headerOf f) f refl (λ pair e. spares record { command = form refl; paired = pair; flags = inl e }) (λ pair e. spares record { command = form refl; paired = pair; flags = inr e })
 
   -- a refused call
   refused-same : (c : Call) (r : Refusal) → answerOf d c .said ≡ Refused r → after d c ≡ d
@@ -469,11 +482,11 @@ module _ (d : Drive) (a x i j : ℕ) (w : wellFormed (d .unit) (d .port) ≡ tru
   leaves-open c (abts-rejected f room known its n) =
       own-left f room known 0x81 its (subst (λ (b : ℕ). Here (abtsOf p b (headerOf f .«ox_id») (headerOf f .«rx_id») .port)) (sym (its .from)) (abts-own u p a x i j w o (headerOf f .«ox_id») (headerOf f .«rx_id») (inr n)))
   leaves-open c (coded f room known m its asks-code) =
-      own-left f room known 0x06 its (own-command u p a x i j w o (headerOf f) f (task.Code m) (its .from) (ap (taskOf (cmndOf f) (length f)) (sym (its .from)) ∙ asks-code) (unchanged u p a x i j w o))
+      own-left f room known 0x06 its (own-command u p a x i j w o (λ r. Here (r .port)) (headerOf f) f (task.Code m) (its .from) asks-code (unchanged u p a x i j w o))
   leaves-open c (command-other f room known its asks-it n) =
       let ox = headerOf f .«ox_id» in
       own-left f room known 0x06 its
-      (own-command u p a x i j w o (headerOf f) f task.Execute (its .from) (ap (taskOf (cmndOf f) (length f)) (sym (its .from)) ∙ asks-it)
+      (own-command u p a x i j w o (λ r. Here (r .port)) (headerOf f) f task.Execute (its .from) asks-it
       (stored u p a x i j w o _ (execute-keeps u p a x i j w o ox n (cmndOf f) (soughtIn p a ox) (sought-there u p a x i j w o ox))))
   leaves-open c (unsized f room known its n) = own-left f room known 0x22 its (unsized-keeps u p a x i j w o (headerOf f) f (its .from) n)
   leaves-open c (prli f room known s) = service-left f room known 0x20 s refl refl (prli-keeps u p a x i j w o f)

@@ -21,6 +21,7 @@ use Rattle.demands.proofs.Refusals.{frame-first, frame-refuses, next-fi
 use Rattle.demands.proofs.Lengths.{frame-long, next-long}
 use Rattle.demands.proofs.Login.{login-is}
 use Rattle.demands.proofs.Between.{leaves-open}
+use Rattle.demands.proofs.Ending.{ends-open, no-third-call}
 use Rattle.demands.proofs.Reading.{reads-read, reads-made, reads-come}
 use Rattle.demands.proofs.Opening.{opens-read, reads-in, comes-in}
 use Rattle.demands.proofs.Numbers.{known-numbers}
@@ -65,6 +66,8 @@ demand-2 =
       whole-read = reads-read;
       whole-made = reads-made;
       stays-open = leaves-open;
+      ends-open = ends-open;
+      no-third-call = no-third-call;
       read-opens = opens-read;
       whole-read-in = λ d e unit f l frames last long known r. reads-in d f l known r e unit frames last long;
       whole-comes = reads-come;

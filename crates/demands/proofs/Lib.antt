@@ -4,6 +4,7 @@ pub mod Login
 pub mod Judges
 pub mod Decoding
 pub mod Between
+pub mod Ending
 pub mod Calls
 pub mod Contracts
 pub mod Lengths

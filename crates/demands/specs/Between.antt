@@ -12,6 +12,7 @@ use Rattle.params.specs.Words.{paramsOf}
 use Rattle.refusal.specs.declared.Refusal.{Refusal}
 use Rattle.refusal.specs.declared.Said.the-variants.{Sent, Refused}
 use Rattle.state.specs.declared.Login.{Login}
+use Rattle.state.specs.declared.Port.{Port}
 use Rattle.state.specs.declared.Change.the-variants.{EndExchangesOf, Reset, Clear}
 use Rattle.state.specs.Tables.{loginOf}
 use Rattle.link.specs.Link.{sizeOf, namesDiffer, pageFine}
@@ -46,9 +47,11 @@ after d c = answerOf d c .drive
 abbrev pub asked : List ℕ → Task
 asked f = taskOf (cmndOf f) (length f) (headerOf f .«s_id»)
 
--- "20h target reset ends all exchanges", "04h clear task set ends all": an FCP_CMND (R_CTL 06h) that asks for one of these
-pub record EndsAll (f : List ℕ) : Type 0 where
+-- "20h target reset ends all exchanges", "04h clear task set ends all": an FCP_CMND (R_CTL 06h) of a paired login that asks for one of these;
+-- of any other sender it ends no login but its own ("No paired login: drive LOGO, login ended")
+pub record EndsAll (p : Port) (f : List ℕ) : Type 0 where
   pub command : headerOf f .«r_ctl» ≡ 0x06
+  pub paired : loginOf p (headerOf f .«s_id») .paired ≡ 1
   pub flags : (asked f ≡ task.Apply Reset) ⊎ (asked f ≡ task.Apply (Clear (headerOf f .«s_id»)))
 
 -- a frame of address a with this R_CTL
@@ -80,7 +83,7 @@ pub data LeavesOpen (d : Drive) (a x : ℕ) : Call → Type 0 where
   -- "verification time over ends the unproven ones", and this one is proven
   time-over : loginOf (d .port) a .proven ≡ 1 → LeavesOpen d a x (event TimeOver)
   -- any frame of another sender but one that ends all exchanges
-  other : (f : List ℕ) (room : ℕ) (known : AllBytes f) → (headerOf f .«s_id» ≡ a → ⊥) → (EndsAll f → ⊥) → LeavesOpen d a x (frame f room known)
+  other : (f : List ℕ) (room : ℕ) (known : AllBytes f) → (headerOf f .«s_id» ≡ a → ⊥) → (EndsAll (d .port) f → ⊥) → LeavesOpen d a x (frame f room known)
   -- "A 23h frame that passes .. changes nothing"
   done : (f : List ℕ) (room : ℕ) (known : AllBytes f) → Own a 0x23 f → LeavesOpen d a x (frame f room known)
   -- ABTS of another OX_ID; "RX_ID not FFFFh, BA_RJT"
@@ -106,8 +109,8 @@ pub data EndsOpen (d : Drive) (a x : ℕ) : Call → Type 0 where
   -- "power on ends all"; "verification time over ends the unproven ones", and this one is unproven
   power-on : EndsOpen d a x (event PowerOn)
   time-out : (loginOf (d .port) a .proven ≡ 1 → ⊥) → EndsOpen d a x (event TimeOver)
-  -- "20h target reset ends all exchanges", "04h clear task set ends all", of whatever sender whose login is paired
-  all-end : (f : List ℕ) (room : ℕ) (known : AllBytes f) → EndsAll f → loginOf (d .port) (headerOf f .«s_id») .paired ≡ 1 → EndsOpen d a x (frame f room known)
+  -- "20h target reset ends all exchanges", "04h clear task set ends all", of whatever sender
+  all-end : (f : List ℕ) (room : ℕ) (known : AllBytes f) → EndsAll (d .port) f → EndsOpen d a x (frame f room known)
   -- "02h abort task set the sender's"
   aborts-set : (f : List ℕ) (room : ℕ) (known : AllBytes f) → Own a 0x06 f → asked f ≡ task.Apply (EndExchangesOf a) → EndsOpen d a x (frame f room known)
   -- "(1) OX_ID open at this login: that exchange ends"

@@ -2,6 +2,7 @@
 -- the entries' contracts say that their answers are these, for all input. Each is proved in `proofs/Demands.antt`, and assumes nothing but what stands in it.
 use mathlib.Core.Path.{_≡_}
 use mathlib.Core.Bool.{true, false}
+use mathlib.Core.Logic.{_⊎_}
 use mathlib.Core.List.{List, _++_}
 use Prim.Native.Nat.{ℕ, _*_, _%_, _≤_, _<_}
 use lib.ListN.{length, take}
@@ -37,7 +38,7 @@ use Rattle.demands.specs.Contracts.{OneReply}
 use Rattle.demands.specs.Driven.{Driven}
 use Rattle.demands.specs.Refusals.{appliesOut}
 use Rattle.demands.specs.Login.{LoginIn, PortLogin}
-use Rattle.demands.specs.Between.{Call, after, LeavesOpen, Left}
+use Rattle.demands.specs.Between.{Call, after, LeavesOpen, EndsOpen, Serves, Taken, Left}
 use Rattle.demands.specs.Reading.{Reads, Fresh, ReadIn, readOf, Opened, Delivered, readFrom, Frees, Comes}
 use Rattle.demands.specs.Numbers.{KnownNumbers}
 
@@ -93,6 +94,12 @@ pub record Demand2 : Type 0 where
       → Delivered (madeBytes (d .unit) (exchangeOf (d .port) i j .kind)) (d .port .address) a (fullOf (d .port) i) (exchangeOf (d .port) i j) frames last × Frees i j reads
   -- The calls that leave an exchange open do: it stands where it stood, as it was, at a login of the same size, and the drive is well formed and of the same unit.
   pub stays-open : (d : Drive) (a x i j : ℕ) → wellFormed (d .unit) (d .port) ≡ true → lookupOf (d .port) a x ≡ Open i j → (c : Call) → LeavesOpen d a x c → Left a x i j d (after d c)
+  -- The calls that end it do: where such a call is not refused, the exchange is open nowhere after it.
+  pub ends-open : (d : Drive) (a x i j : ℕ) → wellFormed (d .unit) (d .port) ≡ true → lookupOf (d .port) a x ≡ Open i j → (c : Call) → Taken d c → EndsOpen d a x c
+      → (k m : ℕ) → lookupOf (after d c .port) a x ≡ Open k m → ⊥
+  -- And there is no third kind: every call but the exchange's own next frame leaves it open or ends it.
+  pub no-third-call : (d : Drive) (a x i j : ℕ) → wellFormed (d .unit) (d .port) ≡ true → lookupOf (d .port) a x ≡ Open i j → (c : Call) → (Serves a x c → ⊥)
+      → LeavesOpen d a x c ⊎ (Taken d c × EndsOpen d a x c)
   -- A READ from its FCP_CMND frame: one that is not refused and answered with nothing has opened just the exchange that the frame's bytes say, at a place of the sender's login that was free,
   -- and changed nothing else.
   pub read-opens : (d : Drive) (f l : List ℕ) → AllBytes f → ReadIn d f l → Opened d f (frameIn d f (length l) .drive)
