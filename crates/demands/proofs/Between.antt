@@ -11,10 +11,9 @@ use lib.ListN.{length, getD, List·getD-map}
 use borrow.Author.Tests.{eqb-true, eq-eqb, ne-eqb, not-true, not-false}
 use Rattle.tables.specs.declared.Found.{Found}
 use Rattle.tables.specs.declared.Found.the-variants.{At, Nothing}
-use Rattle.tables.specs.Lists.{onFound}
 use Rattle.tables.proofs.Bools.{and-left, and-right, or-left, apart}
 use Rattle.tables.proofs.Searches.{found-passes}
-use Rattle.wire.specs.Bytes.{num, part}
+use Rattle.wire.specs.Bytes.{num}
 use Rattle.wire.specs.Layout.{AllBytes}
 use Rattle.frame.specs.declared.Header.{Header}
 use Rattle.frame.specs.Head.{headerOf}
@@ -24,26 +23,25 @@ use Rattle.params.specs.declared.Verdict.the-variants as verdict
 use Rattle.params.specs.Words.{paramsOf, verdictOf}
 use Rattle.refusal.specs.declared.Refusal.{Refusal}
 use Rattle.refusal.specs.declared.Refusal.the-variants.{ShortBuffer, IllFormed}
-use Rattle.refusal.specs.declared.Said.the-variants.{Sent, Refused}
+use Rattle.refusal.specs.declared.Said.the-variants.{Refused}
 use Rattle.state.specs.declared.Exchange.{Exchange}
 use Rattle.state.specs.declared.Login.{Login}
 use Rattle.state.specs.declared.Port.{Port}
 use Rattle.state.specs.declared.Unit.{Unit}
 use Rattle.state.specs.declared.Change.{Change}
-use Rattle.state.specs.declared.Change.the-variants.{Keep, EndAll, EndLogin, Unprove, EndUnproven, EndExchangesOf, Reset, Clear}
+use Rattle.state.specs.declared.Change.the-variants.{Keep, EndLogin, Unprove, EndUnproven, EndExchangesOf, Reset, Clear}
 use Rattle.state.specs.Standing.{Standing, Open, NoExchange, NoLogin}
 use Rattle.state.specs.Changes.{emptyExchange, emptyLogin, isUsed, isClosed, hasAddress, loginAt, exchangeAt, withLogin, withState, withPlaces, withExchange, endedAt, endedOf, unproven, verified, abortedOf, changedOf, changedAll}
 use Rattle.state.specs.Tables.{isFree, hasId, findLogin, freeLogin, findExchange, freeExchange, loginIn, loginOf, lookupOf, soughtIn}
 use Rattle.state.proofs.Places.{found-has, found-used, open-place, open-exchange, open-has, open-open, login-stored, login-other, exchange-other}
 use Rattle.formed.specs.Formed.{total, wellFormed}
-use Rattle.formed.proofs.Advance.{Running}
 use Rattle.calls.specs.declared.Served.{Served}
 use Rattle.calls.specs.Turn.{Decided, servedAt}
 use Rattle.calls.proofs.Decisions.{on-cond, on-found}
 use Rattle.calls.proofs.Others.{empty-changed, other-has}
 use Rattle.calls.proofs.Standing.{stands-there}
 use Rattle.calls.proofs.Views.{sought-is}
-use Rattle.link.specs.Link.{newLogin, outcomeAfter, outcomePort, outcomeOf, plogiOf, logoOf, pdiscOf, adiscOf, prliOf, prloOf, rrqOf, serviceOf, sizeOf, linkOf, abortedAt, abtsOf, provenBy, namesDiffer, pairFine, pageFine}
+use Rattle.link.specs.Link.{newLogin, outcomeAfter, outcomePort, outcomeOf, plogiOf, logoOf, pdiscOf, adiscOf, prliOf, prloOf, rrqOf, serviceOf, sizeOf, linkOf, abortedAt, abtsOf, provenBy, pairFine, pageFine}
 use Rattle.command.specs.declared.Cmnd.{Cmnd}
 use Rattle.command.specs.declared.Task.{Task}
 use Rattle.command.specs.declared.Task.the-variants as task
@@ -54,8 +52,7 @@ use Rattle.command.specs.Tests.{askedOf}
 use Rattle.command.specs.Command.{refusedWith, reports, toldOf, openedOf, answeredAs, executeOf, doneAs, commandedAt, loggedOut, commandOf}
 use Rattle.command.proofs.Logins.{Mild, task-mild}
 use Rattle.command.proofs.Logins as mild
-use Rattle.serve.specs.Next.{exchangeOf, Step, Frame, stepOf, nextAt, nextOf}
-use Rattle.serve.specs.Next as serve
+use Rattle.serve.specs.Next.{exchangeOf, nextOf}
 use Rattle.serve.specs.Whole.{isSent, MovedOnly, StaysOpen}
 use Rattle.serve.proofs.Frames.{runs}
 use Rattle.serve.proofs.Moving.{next-stays, next-only}
@@ -65,14 +62,14 @@ use Rattle.arrival.specs.Arrival.{shortBuffer, knownPair, unknownForm, formOf}
 use Rattle.drive.specs.declared.Drive.{Drive}
 use Rattle.drive.specs.declared.Answer.{Answer}
 use Rattle.drive.specs.declared.Event.{Event}
-use Rattle.drive.specs.declared.Event.the-variants.{LoopReset, TimeOver, PowerOn}
-use Rattle.drive.specs.Drive.{nothingSent, changeOf, afterEvent, eventAnswer}
+use Rattle.drive.specs.declared.Event.the-variants.{LoopReset, TimeOver}
+use Rattle.drive.specs.Drive.{changeOf, afterEvent, eventAnswer}
 use Rattle.drive.specs.Drive as drives
-use Rattle.drive.specs.Entry.{decidedOf, decidedIn, answered, frameIn, nextAnswer, nextFrame}
-use Rattle.drive.proofs.Keeping.{fine, frame-kept, next-frame-kept, event-fine}
+use Rattle.drive.specs.Entry.{decidedOf, decidedIn, frameIn, nextAnswer, nextFrame}
+use Rattle.drive.proofs.Keeping.{frame-kept, next-frame-kept, event-fine}
 use Rattle.drive.proofs.Made.{event-answered, event-unchanged}
 use Rattle.drive.proofs.Ways.{frame-cases}
-use Rattle.demands.specs.Between.{Call, frame, next, event, answerOf, after, asked, EndsAll, Own, Service, pdiscNames, adiscNames, Left, LeavesOpen, refused, next-other, loop-reset, time-over, other, done, abts-other, abts-rejected, coded, command-other, unsized, prli, rrq, logo-rejected, prlo-rejected, pdisc, adisc}
+use Rattle.demands.specs.Between.{Call, frame, next, event, answerOf, after, EndsAll, Own, Service, pdiscNames, adiscNames, Left, LeavesOpen, refused, next-other, loop-reset, time-over, other, done, abts-other, abts-rejected, coded, command-other, unsized, prli, rrq, logo-rejected, prlo-rejected, pdisc, adisc}
 
 -- what holds at both ends of a choice, each where the test says so, holds of the choice
 pub by-cond : {A : Type 0} (P : A → Type 0) (b : Bool) {x y : A} → (b ≡ true → P x) → (b ≡ false → P y) → P (cond b x y)

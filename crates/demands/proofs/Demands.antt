@@ -9,7 +9,7 @@ use Rattle.tables.proofs.Bools.{apart}
 use Rattle.frame.proofs.Trips.{write-read, read-write}
 use Rattle.formed.specs.Formed.{wellFormed}
 use Rattle.refusal.specs.declared.Refusal.the-variants.{IllFormed}
-use Rattle.refusal.specs.declared.Said.the-variants.{Sent, Refused}
+use Rattle.refusal.specs.declared.Said.the-variants.{Refused}
 use Rattle.drive.specs.declared.Drive.{Drive}
 use Rattle.drive.specs.Entry.{frameIn, nextFrame}
 use Rattle.drive.proofs.Made.{new-refused, new-made, event-refused, event-answered}

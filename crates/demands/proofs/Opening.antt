@@ -1,17 +1,15 @@
 -- A READ from its FCP_CMND frame on: it opens as the frame's bytes say, and what follows is delivered. Assumes nothing.
 use mathlib.Core.Path.{_≡_, refl, sym, ap, _∙_}
 use mathlib.Core.Bool.{Bool, true, false, cond, not}
-use mathlib.Core.List.{List, [], _∷_, _++_}
-use Prim.Native.Nat.{ℕ, zero, suc, _+_, _*_, _<_}
+use mathlib.Core.List.{List, [], _++_}
+use Prim.Native.Nat.{ℕ, _+_, _*_, _<_}
 use native.Mathlib.Omega.{arith}
 use lib.Dec.{eqb}
-use lib.ListN.{length, set}
-use lib.Seq.{getD-set-same}
+use lib.ListN.{length}
 use borrow.Author.Tests.{eqb-true, eq-eqb, not-false}
 use Rattle.tables.specs.declared.Found.{Found}
-use Rattle.tables.specs.declared.Found.the-variants.{At, Nothing}
-use Rattle.tables.specs.Lists.{firstFrom}
-use Rattle.tables.proofs.Searches.{found-below, found-passes, same-found}
+use Rattle.tables.specs.declared.Found.the-variants.{Nothing}
+use Rattle.tables.proofs.Searches.{found-passes}
 use Rattle.wire.specs.Bytes.{num, fillCount}
 use Rattle.wire.specs.Layout.{AllBytes}
 use Rattle.frame.specs.declared.Header.{Header}
@@ -19,10 +17,9 @@ use Rattle.frame.specs.Head.{headerOf, headerBytes}
 use Rattle.state.specs.declared.Exchange.{Exchange}
 use Rattle.state.specs.declared.Login.{Login}
 use Rattle.state.specs.declared.Port.{Port}
-use Rattle.state.specs.Standing.{Open}
 use Rattle.state.proofs.Places.{opened-login, opened-open, opened-stored}
-use Rattle.state.specs.Changes.{emptyExchange, emptyLogin, hasAddress, isClosed, ownOf, loginAt, exchangeAt, withLogin, withExchange}
-use Rattle.state.specs.Tables.{hasId, findLogin, findExchange, freeExchange, loginIn, loginOf, lookupOf}
+use Rattle.state.specs.Changes.{emptyExchange, isClosed, ownOf, loginAt, exchangeAt, withLogin, withExchange}
+use Rattle.state.specs.Tables.{hasId, findExchange, freeExchange, loginIn, loginOf, lookupOf}
 use Rattle.formed.specs.Formed.{fullFrame, wellFormed}
 use Rattle.reply.specs.Payload.{payloadOf}
 use Rattle.reply.specs.Reply.{headOf, silent, filled, bytesOf}

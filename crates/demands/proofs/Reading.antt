@@ -5,7 +5,7 @@ use mathlib.Core.List.{List, [], _∷_, map}
 use Prim.Native.Nat.{ℕ, _-_, _*_, _≤_, _<_}
 use native.Mathlib.Omega.{arith}
 use lib.Dec.{eqb, ltb}
-use lib.ListN.{length, take, drop, replicate, length-replicate, length-map}
+use lib.ListN.{length, take, replicate, length-replicate, length-map}
 use borrow.Author.Tests.{eqb-true, eq-eqb, ne-eqb}
 use Rattle.tables.proofs.Bools.{and-right, apart}
 use Rattle.wire.proofs.Digits.{num-bytes}
@@ -42,7 +42,7 @@ use Rattle.demands.proofs.Stepping.{shows-data, shows-response, data-le
 use Rattle.demands.proofs.Between.{leaves-open}
 use Rattle.demands.specs.Between.{Left}
 use Rattle.demands.proofs.Every.{reads-each}
-use Rattle.demands.specs.Reading.{isData, isResponse, pieceIn, flagsIn, statusIn, residIn, restIn, Sends, Reads, carries, responds, between, unbroken, roomsOf, Fresh, responseHeader, framed, dataFrames, goodPayload, Delivered, readFrom, Frees, freed, Comes, Shown}
+use Rattle.demands.specs.Reading.{isData, isResponse, pieceIn, flagsIn, statusIn, residIn, restIn, Sends, Reads, carries, responds, between, unbroken, roomsOf, Fresh, responseHeader, framed, dataFrames, goodPayload, Delivered, readFrom, Frees, Comes, Shown}
 
 -- no call is left out of a run: each frame that is sent shows itself as one of the two, and for whom it is
 pub reads-shown : (unit : List ℕ) (a x : ℕ) (d : Drive) (f : List ℕ) (e : Drive) → x < 65536 → Sends unit a x d f e → Shown (d .port .address) a x f

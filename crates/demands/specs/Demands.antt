@@ -1,4 +1,4 @@
--- Demands 1 and 2 over the four entries, from top to bottom; demand 3 is `Demand3` of the crate belief. `frameIn`, `nextFrame`, `eventAnswer` and `newAnswer` are the definitions of record:
+-- Demands 1 and 2 over the four entries, from top to bottom; demand 3 is `Drive3` of the crate belief. `frameIn`, `nextFrame`, `eventAnswer` and `newAnswer` are the definitions of record:
 -- the entries' contracts say that their answers are these, for all input. Each is proved in `proofs/Demands.antt`, and assumes nothing but what stands in it.
 use mathlib.Core.Path.{_≡_}
 use mathlib.Core.Bool.{true, false}

@@ -8,7 +8,7 @@ use native.Mathlib.Omega.{arith}
 use lib.Dec.{eqb, leb}
 use lib.ListN.{length, take, drop, length-take, length-drop}
 use lib.Seq.{take-add, drop-drop}
-use borrow.Author.Tests.{leb-true, eqb-true, eq-eqb, ne-eqb}
+use borrow.Author.Tests.{leb-true, eqb-true}
 use Rattle.tables.proofs.Bools.{and-right, apart}
 use Rattle.cover.specs.Cover.{cut}
 use Rattle.state.specs.declared.Exchange.{Exchange}
@@ -20,7 +20,7 @@ use Rattle.state.specs.Kinds.{kindRead, kindInquiryOther, kindCapacity, kindSen
 use Rattle.state.specs.Tables.{hasId, lookupOf}
 use Rattle.state.proofs.Places.{open-has, exchange-stored, login-stored, lookup-same, login-twice, exchange-twice}
 use Rattle.formed.specs.Formed.{fullFrame, total, nextBytes, framesOf, wantedFits, wellFormed}
-use Rattle.formed.proofs.Advance.{Reads, is-read, is-made, sent-within, no-frames, frames-then, then-sent}
+use Rattle.formed.proofs.Advance.{Reads, is-made, sent-within, no-frames, frames-then, then-sent}
 use Rattle.residual.specs.Residual.{residualOf}
 use Rattle.reply.specs.declared.DataFrame.{DataFrame}
 use Rattle.reply.specs.declared.Response.{Response}
