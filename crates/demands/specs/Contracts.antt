@@ -26,7 +26,7 @@ use Rattle.boundary.proofs.jhartupal_loop_reset as jhartupal-loop-reset
 use Rattle.boundary.proofs.jhartupal_time_over as jhartupal-time-over
 use Rattle.boundary.proofs.jhartupal_power_on as jhartupal-power-on
 use Rattle.judging.specs.declared.Judgement.{Judgement}
-use Rattle.judging.specs.declared.Line.{Line}
+use Rattle.saying.specs.declared.Line.{Line}
 use Rattle.judging.proofs.judge as judge
 use Rattle.judging.proofs.line_for as line-for
 use Rattle.recording.specs.declared.Session.{Session}
