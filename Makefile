@@ -3,7 +3,7 @@
 
 all:
 	rt check
-	tests/program judges < samples/four.logins
+	bin/judges < samples/four.logins
 	samples/show samples/session.calls
 
 test:

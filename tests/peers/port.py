@@ -3,7 +3,7 @@ import os
 import subprocess
 import time
 
-from house import IDENTITY, OWN, TESTS, WORDS
+from house import IDENTITY, OWN, TOP, WORDS
 from frames import unit
 
 ROOM = 2136  # 01: "1 | reply buffer under 2,136 bytes"
@@ -15,7 +15,7 @@ class Recorder:
     """The drive itself: a record to its standard input, its answer from the standard output."""
 
     def __init__(self, capacity):
-        self.ran = subprocess.Popen([os.path.join(TESTS, "program"), "recorder"], stdin=subprocess.PIPE, stdout=subprocess.PIPE)
+        self.ran = subprocess.Popen([os.path.join(TOP, "bin", "recorder")], stdin=subprocess.PIPE, stdout=subprocess.PIPE)
         number, _ = self.ask(b"S", capacity.to_bytes(8, "big") + bytes(1) + OWN + IDENTITY + WORDS)
         if number:
             raise RuntimeError("the setup is refused with %d" % number)

@@ -124,17 +124,29 @@ static bool take(uint64_t n) {
     return fread(body, 1, (size_t)n, stdin) == n;
 }
 
-/* A record that is cut has no answer, and ends the program as the end of the input does. */
-int main(void) {
+/* Reads a record and answers it, and answers whether there may be another. A record that is cut has no answer. */
+static bool record(unsigned long long which, bool *failed) {
     uint8_t head[HEAD];
-    bool answered = true;
-    while (answered && fread(head, 1, HEAD, stdin) == HEAD) {
-        uint64_t n = number(head + 1, 4);
-        if (!take(n)) {
-            break;
-        }
-        memset(lent, FILL, sizeof lent);
-        answered = answer(n > MOST_BODY ? NO_CALL : call(head[0], (size_t)n));
+    size_t got = fread(head, 1, HEAD, stdin);
+    uint64_t n = got == HEAD ? number(head + 1, 4) : 0;
+    if (got == 0) {
+        return false;
     }
-    return answered ? 0 : 1;
+    if (got < HEAD || !take(n)) {
+        fprintf(stderr, "pipe: record %llu: cut by the end of the input\n", which);
+        *failed = true;
+        return false;
+    }
+    memset(lent, FILL, sizeof lent);
+    *failed = !answer(n > MOST_BODY ? NO_CALL : call(head[0], (size_t)n));
+    return !*failed;
+}
+
+int main(void) {
+    unsigned long long which = 1;
+    bool failed = false;
+    while (record(which, &failed)) {
+        which++;
+    }
+    return failed ? 1 : 0;
 }

@@ -33,4 +33,5 @@ one-reply 𝓤 H A mem run =
       judges = λ κs login. from-one 𝓤 _ _ (λ x. id⊢ 𝓤 _) (λ x y p q. p ∙ sym q);
       lines = λ number j. from-one 𝓤 _ _ (λ x. id⊢ 𝓤 _) (λ x y p q. p .is ∙ sym (q .is));
       tells = λ κs s letter body. from-one 𝓤 _ _ (λ x. id⊢ 𝓤 _) (λ x y p q. p .is ∙ sym (q .is));
+      ends = λ κs name number e. from-one 𝓤 _ _ (λ x. id⊢ 𝓤 _) (λ x y p q. p .is ∙ sym (q .is));
     }

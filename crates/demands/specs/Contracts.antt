@@ -26,7 +26,9 @@ use Rattle.boundary.proofs.jhartupal_loop_reset as jhartupal-loop-reset
 use Rattle.boundary.proofs.jhartupal_time_over as jhartupal-time-over
 use Rattle.boundary.proofs.jhartupal_power_on as jhartupal-power-on
 use Rattle.judging.specs.declared.Judgement.{Judgement}
-use Rattle.judging.specs.declared.Line.{Line}
+use Rattle.saying.specs.declared.Line.{Line}
+use Rattle.saying.specs.declared.End.{End}
+use Rattle.saying.proofs.end_line as end-line
 use Rattle.judging.proofs.judge as judge
 use Rattle.judging.proofs.line_for as line-for
 use Rattle.recording.specs.declared.Session.{Session}
@@ -59,7 +61,8 @@ pub record OneReply {M : Type 1} (𝓤 : URA M) (H : Heap 𝓤) (A : Atoms 𝓤)
   pub c-loop-reset : (κs : Lfts 1) (d : RefT Drive) → One 𝓤 (λ (o : ℕ × Drive). jhartupal-loop-reset.clauses 𝓤 H A mem run κs (d, tt) .ensures tt (o .0) (with d (o .1), tt))
   pub c-time-over : (κs : Lfts 1) (d : RefT Drive) → One 𝓤 (λ (o : ℕ × Drive). jhartupal-time-over.clauses 𝓤 H A mem run κs (d, tt) .ensures tt (o .0) (with d (o .1), tt))
   pub c-power-on : (κs : Lfts 1) (d : RefT Drive) → One 𝓤 (λ (o : ℕ × Drive). jhartupal-power-on.clauses 𝓤 H A mem run κs (d, tt) .ensures tt (o .0) (with d (o .1), tt))
-  -- the programs: a judgement and its line, and the answer to a record
+  -- the programs: a judgement and its line, the answer to a record, and what is said at the end
   pub judges : (κs : Lfts 1) (login : RefT (List ℕ)) → One 𝓤 (λ (r : Judgement). judge.clauses 𝓤 H A mem run κs (login, tt) .ensures tt r (login, tt))
   pub lines : (number : ℕ) (j : Judgement) → One 𝓤 (λ (r : Line). line-for.clauses 𝓤 H A mem run tt (number, (j, tt)) .ensures tt r (number, (j, tt)))
   pub tells : (κs : Lfts 1) (s : Session) (letter : ℕ) (body : RefT (List ℕ)) → One 𝓤 (λ (r : Told). tell.clauses 𝓤 H A mem run κs (s, (letter, (body, tt))) .ensures tt r (s, (letter, (body, tt))))
+  pub ends : (κs : Lfts 1) (name : RefT (List ℕ)) (number : ℕ) (e : End) → One 𝓤 (λ (r : Line). end-line.clauses 𝓤 H A mem run κs (name, (number, (e, tt))) .ensures tt r (name, (number, (e, tt))))

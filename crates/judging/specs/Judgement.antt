@@ -1,19 +1,16 @@
 -- What judges finds of a record, and the line that it writes (document 01, "Known numbers and slips").
 use Prim.Native.Nat.{ℕ}
-use mathlib.Core.Path.{_≡_}
 use mathlib.Core.Bool.{cond, not}
 use mathlib.Core.List.{List, _++_}
 use lib.Dec.{eqb, ltb}
-use lib.ListN.{length, getD, replicate}
-use Rattle.io.specs.Counts.{Counts}
+use lib.ListN.{length, getD}
 use Rattle.params.specs.declared.Verdict.{Verdict}
 use Rattle.params.specs.declared.Verdict.the-variants as verdict
 use Rattle.params.specs.Words.{paramsOf, verdictOf}
-use Rattle.wire.specs.Bytes.{onto}
 use Rattle.judging.specs.declared.Judgement.{Judgement}
 use Rattle.judging.specs.declared.Judgement.the-variants.{Accept, Reject, NotPlogi, Short}
-use Rattle.judging.specs.declared.Line.{Line}
-use Rattle.judging.specs.Text.{decimal, textOf}
+use Rattle.saying.specs.Text.{decimal}
+use Rattle.judging.specs.Text.{textOf}
 
 -- the verdict of the word tests; an empty drive has a free place
 abbrev pub judged : Verdict → Judgement
@@ -27,12 +24,3 @@ judgementOf s = cond (ltb (length s) 116) (Short (length s)) (cond (not (eqb (ge
 -- the record's number, and what is said of it
 unfoldable pub lineOf : ℕ → Judgement → List ℕ
 lineOf number j = decimal number ++ textOf j
-
--- a text in a line's 64 bytes
-abbrev pub lineFor : List ℕ → Line
-lineFor text = record { bytes = onto text (replicate 64 0); len = length text }
-
--- r is the line for this text, and all of the text stands in it
-pub record LineIs (text : List ℕ) (r : Line) : Type 0 where
-  pub is : r ≡ lineFor text
-  pub fits : Counts (r .len) (r .bytes)

@@ -1,21 +1,12 @@
 -- What judges says, as ASCII text (document 01, "Known numbers and slips").
-use Prim.Native.Nat.{ℕ, zero, suc, _+_, _/_, _%_}
+use Prim.Native.Nat.{ℕ, _+_, _/_, _%_}
 use mathlib.Core.Bool.{cond}
 use mathlib.Core.List.{List, [], _∷_, _++_}
 use lib.Dec.{ltb}
-use Rattle.io.specs.Digits.{glyph}
+use Rattle.saying.specs.Text.{decimal}
 use Rattle.params.specs.Words.{reasonOf}
 use Rattle.judging.specs.declared.Judgement.{Judgement}
 use Rattle.judging.specs.declared.Judgement.the-variants.{Accept, Reject, NotPlogi, Short}
-
--- n in decimal with no zeros in front, where it has at most m digits
-abbrev pub spell : ℕ → ℕ → List ℕ
-spell zero n = []
-spell (suc m) n = cond (ltb n 10) (glyph n ∷ []) (spell m (n / 10) ++ (glyph (n % 10) ∷ []))
-
--- n in decimal; 20 digits hold every number of 64 bits
-unfoldable pub decimal : ℕ → List ℕ
-decimal n = spell 20 n
 
 -- a digit below 16, in upper case
 unfoldable pub hexDigit : ℕ → ℕ

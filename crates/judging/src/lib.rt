@@ -2,6 +2,8 @@
 use params::Fault;
 use params::Params;
 use params::Verdict;
+use saying::Line;
+use saying::put_decimal;
 use wire::byte_at;
 use wire::put_front;
 ghost use mathlib.Core.Path.{_≡_};
@@ -9,20 +11,15 @@ ghost use Prim.Native.Nat.{_≤_, _<_};
 ghost use lib.ListN.{length};
 ghost use Rattle.params.specs.Words.{reasonOf};
 ghost use Rattle.wire.specs.Bytes.{Wrote};
-ghost use Rattle.judging.specs.Judgement.{judgementOf, lineOf, LineIs};
-ghost use Rattle.judging.specs.Text.{decimal, textOf, hexDigit, acceptText, rejectText, notPlogiText, shortText};
+ghost use Rattle.saying.specs.Text.{LineIs};
+ghost use Rattle.judging.specs.Judgement.{judgementOf, lineOf};
+ghost use Rattle.judging.specs.Text.{textOf, hexDigit, acceptText, rejectText, notPlogiText, shortText};
 
 pub enum Judgement {
     Accept,
     Reject(Fault),
     NotPlogi,
     Short(usize),
-}
-
-// A line of text: its bytes stand at the front, zeros after them.
-pub struct Line {
-    pub bytes: [u8; 64],
-    pub len: usize,
 }
 
 // The judgement of a login record against an empty drive; of fewer than 116 bytes, how many there are.
@@ -47,23 +44,13 @@ pub fn judge(login: &[u8]) -> Judgement
 pub fn line_for(number: u64, j: Judgement) -> Line
     ensures { λ r. ⌜ LineIs (lineOf number j) r ⌝ }
 {
-    let mut bytes = [0u8; 64];
+    let mut bytes = [0u8; 96];
     let n = put_decimal(number, &mut bytes);
     let m = put_text(j, &mut bytes[n..]);
     Line {
         bytes: bytes,
         len: n + m,
     }
-}
-
-// A number in decimal at the front of out; answers how many digits it has.
-fn put_decimal(n: u64, out: &mut [u8]) -> usize
-    ensures { λ r. ⌜ Wrote (decimal n) (now (out .entry)) (now (out .exit)) r 20 ⌝ }
-{
-    let mut digits = [0u8; 20];
-    let k = io::decimal(n, &mut digits);
-    put_front(out, &digits[..k]);
-    k
 }
 
 // What is said of a judgement, at the front of out; answers how many bytes that is.

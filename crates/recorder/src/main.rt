@@ -6,11 +6,15 @@
 //   E  an event: 1 loop reset, 2 verification time over, 3 power on (1 byte)
 // An answer is the refusal's number (1 byte, 0 where it was answered), the reply's length (2 bytes), the reply, and one byte:
 // 1 where every byte of the lent buffer after the reply (after a refusal every byte) still holds the 5Ah it was lent with, else 0.
-// What is no call is answered with 255. A record that is cut ends the program.
+// What is no call is answered with 255. A record that is cut has no answer and ends the program.
+// Where it cannot go on it says so on standard error, with the record's number.
+use libc::STDERR_FILENO;
 use libc::STDOUT_FILENO;
 use recording::Line;
 use recording::start;
 use recording::tell;
+use saying::End;
+use saying::end_line;
 ghost use Rattle.io.specs.Counts.{Counts};
 
 // A proved loop has to end and the input need not, so the records are counted up to a number that no run reaches.
@@ -22,11 +26,14 @@ fn main() {
         let mut body = [0u8; 70000];
         let r = records::next(&mut body);
         if r.over {
+            let e = r.end;
+            stop(number, e);
             return;
         }
         let len = r.len;
         let t = tell(s, r.letter, &body[..len]);
         if !say(t.line) {
+            stop(number, End::Unwritten);
             return;
         }
         s = t.session;
@@ -40,4 +47,12 @@ fn say(l: Line) -> bool
     let bytes = l.bytes;
     let len = l.len;
     io::write_all(STDOUT_FILENO, &bytes[..len])
+}
+
+// Says why it ends, unless its input is over.
+fn stop(number: u64, end: End) {
+    let line = end_line(b"recorder", number, end);
+    let bytes = line.bytes;
+    let len = line.len;
+    io::write_all(STDERR_FILENO, &bytes[..len]);
 }

@@ -5,11 +5,15 @@
 //   l  shows all that the login at a place (1 byte) keeps, but for its exchanges
 //   e  shows the eight places for exchanges of the login at a place (1 byte)
 // What a call answers is the reply in hexadecimal, - for nothing to send, or refused and the number, which for what is no call is 255.
+// Where it cannot go on it says so on standard error, with the record's number.
+use libc::STDERR_FILENO;
 use libc::STDOUT_FILENO;
 use recording::Session;
 use recording::Told;
 use recording::start;
 use recording::tell;
+use saying::End;
+use saying::end_line;
 use state::Exchange;
 use state::Login;
 use state::Port;
@@ -22,6 +26,12 @@ use wire::be32;
 use wire::byte_at;
 use wire::put_front;
 
+// The session after a record, and whether the end of its line was written.
+struct Shown {
+    session: Session,
+    written: bool,
+}
+
 // A proved loop has to end and the input need not, so the records are counted up to a number that no run reaches.
 // The drive that is all zeros counts as made, so that it is called, and refuses.
 fn main() {
@@ -33,31 +43,50 @@ fn main() {
         let mut body = io::buffer();
         let r = records::next(&mut body);
         if r.over {
+            let e = r.end;
+            stop(number, e);
             return;
         }
         let len = r.len;
-        s = taken(s, r.letter, &body[..len]);
+        let w = taken(s, r.letter, &body[..len]);
+        if !w.written {
+            stop(number, End::Unwritten);
+            return;
+        }
+        s = w.session;
     }
 }
 
+// Says why it ends, unless its input is over.
+fn stop(number: u64, end: End) {
+    let line = end_line(b"vectors", number, end);
+    let bytes = line.bytes;
+    let len = line.len;
+    io::write_all(STDERR_FILENO, &bytes[..len]);
+}
+
 // Does what a record says.
-fn taken(s: Session, letter: u8, body: &[u8]) -> Session {
+fn taken(s: Session, letter: u8, body: &[u8]) -> Shown {
     match letter {
         b'n' => {
             print(body);
-            s
+            after(s, true)
         }
-        b'k' => passed(s, body),
-        b'l' | b'e' => {
-            look(s, letter, body);
-            s
-        }
+        b'k' => after(passed(s, body), true),
+        b'l' | b'e' => after(s, look(s, letter, body)),
         _ => answered(tell(s, letter, body)),
     }
 }
 
-// Shows the login at the place that a record names.
-fn look(s: Session, letter: u8, body: &[u8]) {
+fn after(s: Session, written: bool) -> Shown {
+    Shown {
+        session: s,
+        written: written,
+    }
+}
+
+// Shows the login at the place that a record names, and answers as line_feed does.
+fn look(s: Session, letter: u8, body: &[u8]) -> bool {
     let d = s.drive;
     let p = d.port;
     let l = login_at(p, byte_at(body, 0) as usize);
@@ -66,7 +95,7 @@ fn look(s: Session, letter: u8, body: &[u8]) {
     } else {
         print_place(l, true);
     }
-    put(b'\n');
+    line_feed()
 }
 
 // Many next frames, each from a window that goes on to the end of a large buffer.
@@ -87,16 +116,15 @@ fn repeated(s: Session, asking: &[u8], count: u32) -> Session {
     e
 }
 
-// Shows what a call answered and the table after it, and hands on the session.
-fn answered(t: Told) -> Session {
+// Shows what a call answered and the table after it.
+fn answered(t: Told) -> Shown {
     let s = t.session;
     let d = s.drive;
     let p = d.port;
     let line = t.line;
     let bytes = line.bytes;
     print_answer(&bytes);
-    print_table(p);
-    s
+    after(s, print_table(p))
 }
 
 fn print_answer(line: &[u8]) {
@@ -112,15 +140,15 @@ fn print_answer(line: &[u8]) {
     }
 }
 
-// The eight places for logins, and the end of the line.
-fn print_table(p: Port) {
+// The eight places for logins, and the end of the line; answers as line_feed does.
+fn print_table(p: Port) -> bool {
     let mut i: usize = 0;
     while i < 8 {
         put(b' ');
         print_place(login_at(p, i), false);
         i += 1;
     }
-    put(b'\n');
+    line_feed()
 }
 
 // A login and its eight places for exchanges.
@@ -267,7 +295,7 @@ fn digit(b: u8) -> u8 {
     if d < 10 { b'0' + d } else { b'A' - 10 + d }
 }
 
-// Where the output takes no more, the rest is lost.
+// Where the output takes no more, the rest of a line is lost.
 fn print(text: &[u8]) {
     io::write_all(STDOUT_FILENO, text);
 }
@@ -275,4 +303,9 @@ fn print(text: &[u8]) {
 fn put(c: u8) {
     let text = [c];
     print(&text);
+}
+
+// Ends a line, and answers whether the output took that.
+fn line_feed() -> bool {
+    io::write_all(STDOUT_FILENO, b"\n")
 }

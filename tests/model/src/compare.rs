@@ -55,6 +55,7 @@ pub fn compare(
         .args(&program.words[1..])
         .stdin(Stdio::piped())
         .stdout(Stdio::piped())
+        .stderr(Stdio::piped())
         .spawn()
         .map_err(|e| format!("cannot run {}: {e}", program.words[0]))?;
     let (to, from) = pipes(&mut child);
@@ -63,6 +64,12 @@ pub fn compare(
     if result.is_some() || !ends(&mut child, program.wait) {
         let _ = child.kill();
         let _ = child.wait();
+    }
+    // what it says of a cut record is no difference, and is not shown
+    if result.is_some() {
+        let mut said = String::new();
+        let _ = child.stderr.take().unwrap().read_to_string(&mut said);
+        eprint!("{said}");
     }
     Ok(result)
 }

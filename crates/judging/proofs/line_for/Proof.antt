@@ -17,9 +17,9 @@ unfolding lineOf
 returns c =
     let t = c .before in
     let d = t .before .before .before in
-    let w = wrote-then 64 refl (omega arith) (d .put-decimal .ensures) (t .put-text .ensures) in
+    let w = wrote-then 96 refl (omega arith) (d .put-decimal .ensures) (t .put-text .ensures) in
     let text = lineOf (d .before .before .args .number) (d .before .before .args .j) in
-    let long : length (putMid (d .put-decimal .result) (64 - d .put-decimal .result) (d .put-decimal .last .1 .0) (t .put-text .last .1 .0)) ≡ 64 = ap length (w .is) ∙ length-onto text (replicate 64 0) in
+    let long : length (putMid (d .put-decimal .result) (96 - d .put-decimal .result) (d .put-decimal .last .1 .0) (t .put-text .last .1 .0)) ≡ 96 = ap length (w .is) ∙ length-onto text (replicate 96 0) in
     record {
       is = λ i. record { bytes = w .is i; len = w .long i };
       fits = (omega arith, sym (length-take-le _ _ (omega arith)));

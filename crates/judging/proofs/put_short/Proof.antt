@@ -8,7 +8,8 @@ use borrow.Rule.Slice.PartMut.{putMid}
 use Rattle.wire.proofs.Fronts.{length-onto}
 use Rattle.wire.proofs.Parts.{wrote-then}
 use Rattle.wire.specs.Bytes.{Wrote}
-use Rattle.judging.specs.Text.{shortText, shortWord, decimal}
+use Rattle.saying.specs.Text.{decimal}
+use Rattle.judging.specs.Text.{shortText, shortWord}
 use borrow.Author.Needs.{needs}
 use Rattle.judging.proofs.put_short.Statement.{statement}
 use Rattle.judging.proofs.put_short.Tie as tie

@@ -6,6 +6,7 @@ use native.Mathlib.Omega.{arith}
 use lib.ListN.{length, drop, length-append}
 use lib.Seq.{length-take-le}
 use Rattle.io.specs.Counts.{Counts}
+use Rattle.io.proofs.Counting.{counts}
 use borrow.Author.Needs.{needs}
 use Rattle.records.proofs.read_body.Statement.{statement}
 use Rattle.records.proofs.read_body.Tie as tie
@@ -13,25 +14,25 @@ use Rattle.records.proofs.read_body.Tie as tie
 counts-in : (r : ℕ) (a b : List ℕ) → r ≤ length a → Counts r (a ++ b)
 counts-in r a b h =
     let long : length (a ++ b) ≡ length a + length b = length-append a b in
-    let l : r ≤ length (a ++ b) = omega arith in
-    (l, sym (length-take-le r (a ++ b) l))
+    counts r (a ++ b) (omega arith)
 
-slice-aggregate-read-full : tie.Need-slice-aggregate-read-full
-slice-aggregate-read-full c = sym (length-take-le _ (c .before .before .before .args .body .now) (search needs))
+slice-aggregate-fill : tie.Need-slice-aggregate-fill
+slice-aggregate-fill c = sym (length-take-le _ (c .before .before .before .args .body .now) (search needs))
 
-returns-2 : tie.Need-returns-2
-returns-2 c =
+returns : tie.Need-returns
+returns c =
     let f = c .before .before in
-    let a = f .before .before .before .before .args in
-    counts-in (f .read-full .result) (f .read-full .last .1 .0) (drop (a .size) (a .body .now)) (f .read-full .ensures .0)
+    let m = f .before .before in
+    let a = m .before .before .args in
+    counts-in (f .fill .result .len) (f .fill .last .0) (drop (m .least .result) (a .body .now)) (f .fill .ensures .0 .0)
 
 pub read-body-spec : {M : Type 1} → statement M
 read-body-spec =
     tie.close
     (tie.spec
-    (λ c. search needs)
-    (λ c. search needs)
-    slice-aggregate-read-full
     (λ c κs. search needs)
     (λ c. search needs)
-    returns-2)
+    slice-aggregate-fill
+    (λ c κs. search needs)
+    (λ c. search needs)
+    returns)

@@ -9,7 +9,7 @@ use native.Mathlib.Omega.{arith}
 use lib.ListN.{length, length-append}
 use borrow.Author.Tests.{lt-ltb, le-ltb}
 use Rattle.io.specs.Digits.{glyph, digits, Fewest}
-use Rattle.judging.specs.Text.{spell, decimal}
+use Rattle.saying.specs.Text.{spell, decimal}
 
 pub length-digits : (k n : ℕ) → length (digits 10 k n) ≡ k
 length-digits zero n = refl

@@ -1,13 +1,13 @@
--- `judging::put_decimal` meets its contract: the digits of `io::decimal`, copied. Assumes nothing.
+-- `saying::put_decimal` meets its contract: the digits of `io::decimal`, copied. Assumes nothing.
 use mathlib.Core.Path.{_≡_, sym, ap, _∙_}
 use Prim.Native.Nat.{_≤_, _<_, _^_}
 use lib.ListN.{length}
-use Rattle.judging.proofs.Decimal.{length-digits, at-most-20, decimal-is}
-use Rattle.judging.specs.Text.{decimal}
+use Rattle.saying.proofs.Decimal.{length-digits, at-most-20, decimal-is}
+use Rattle.saying.specs.Text.{decimal}
 use Rattle.io.specs.Digits.{digits}
 use borrow.Author.Needs.{needs}
-use Rattle.judging.proofs.put_decimal.Statement.{statement}
-use Rattle.judging.proofs.put_decimal.Tie as tie
+use Rattle.saying.proofs.put_decimal.Statement.{statement}
+use Rattle.saying.proofs.put_decimal.Tie as tie
 
 returns : tie.Need-returns
 returns c =
