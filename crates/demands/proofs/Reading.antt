@@ -10,6 +10,7 @@ use borrow.Author.Tests.{eqb-true, eq-eqb, ne-eqb}
 use Rattle.tables.proofs.Bools.{and-right, apart}
 use Rattle.wire.proofs.Digits.{num-bytes}
 use Rattle.frame.specs.Head.{headerBytes}
+use Rattle.state.specs.declared.Exchange.{Exchange}
 use Rattle.state.specs.declared.Port.{Port}
 use Rattle.state.specs.declared.Unit.{Unit}
 use Rattle.state.specs.Standing.{Open}
@@ -198,30 +199,29 @@ reads-whole d e unit a x i j frames last w enough o reads =
       record { closed = s .1 .closed; only = λ h n. record { unit = t .same n; port = s .1 .only (t .runs-on .lone h) n } },
     )
 
--- a READ: its data are the unit's bytes from its first block on
-pub reads-read : (d e : Drive) (unit : List ℕ) (a x i j : ℕ) (frames : List (List ℕ)) (last : List ℕ) → wellFormed (d .unit) (d .port) ≡ true → length unit ≡ 512 * d .unit .capacity
-    → Fresh d a x i j → exchangeOf (d .port) i j .kind ≡ kindRead → (reads : Reads unit a x d frames last e)
-    → Delivered (readFrom unit (exchangeOf (d .port) i j)) (d .port .address) a (fullOf (d .port) i) (exchangeOf (d .port) i j) frames last × Frees i j reads
-reads-read d e unit a x i j frames last w long o kind reads =
-    let u = d .unit in
-    let r = exchangeOf (d .port) i j in
-    let is : dataOf u unit r ≡ readFrom unit r = rw (eq-eqb (r .kind) kindRead kind) in
-    let enough : total r ≤ length (dataOf u unit r) = rw is (read-enough u unit r long (is-read u r kind (runs u (d .port) a x i j w (o .stands) .wanted))) in
-    let t = reads-whole d e unit a x i j frames last w enough o reads in
-    (subst (λ (from : List ℕ). Delivered from (d .port .address) a (fullOf (d .port) i) r frames last) is (t .0), t .1)
+-- the same by what its data are, a READ's and made data
+module _ (d e : Drive) (unit : List ℕ) (a x i j : ℕ) (frames : List (List ℕ)) (last : List ℕ) (w : wellFormed (d .unit) (d .port) ≡ true) where
+  abbrev u : Unit
+  u = d .unit
 
--- made data: those of its kind
-pub reads-made : (d e : Drive) (unit : List ℕ) (a x i j : ℕ) (frames : List (List ℕ)) (last : List ℕ) → wellFormed (d .unit) (d .port) ≡ true → length (d .unit .identity) ≡ 28
-    → Fresh d a x i j → (exchangeOf (d .port) i j .kind ≡ kindRead → ⊥) → (reads : Reads unit a x d frames last e)
-    → Delivered (madeBytes (d .unit) (exchangeOf (d .port) i j .kind)) (d .port .address) a (fullOf (d .port) i) (exchangeOf (d .port) i j) frames last × Frees i j reads
-reads-made d e unit a x i j frames last w words o kind reads =
-    let u = d .unit in
-    let r = exchangeOf (d .port) i j in
-    let other = ne-eqb (r .kind) kindRead kind in
-    let is : dataOf u unit r ≡ madeBytes u (r .kind) = rw other in
-    let enough : total r ≤ length (dataOf u unit r) = rw is (made-enough u r words other (runs u (d .port) a x i j w (o .stands) .wanted)) in
-    let t = reads-whole d e unit a x i j frames last w enough o reads in
-    (subst (λ (from : List ℕ). Delivered from (d .port .address) a (fullOf (d .port) i) r frames last) is (t .0), t .1)
+  abbrev r : Exchange
+  r = exchangeOf (d .port) i j
+
+  -- it is delivered whole, and its place is free
+  abbrev Served : List ℕ → Reads unit a x d frames last e → Type 0
+  Served from reads = Delivered from (d .port .address) a (fullOf (d .port) i) r frames last × Frees i j reads
+
+  reads-from : (from : List ℕ) → dataOf u unit r ≡ from → total r ≤ length from → Fresh d a x i j → (reads : Reads unit a x d frames last e) → Served from reads
+  reads-from from is enough o reads = subst (λ (data-is : List ℕ). Served data-is reads) is (reads-whole d e unit a x i j frames last w (rw is enough) o reads)
+
+  pub reads-read : length unit ≡ 512 * u .capacity → Fresh d a x i j → r .kind ≡ kindRead → (reads : Reads unit a x d frames last e) → Served (readFrom unit r) reads
+  reads-read long o kind =
+      reads-from (readFrom unit r) (rw (eq-eqb (r .kind) kindRead kind)) (read-enough u unit r long (is-read u r kind (runs u (d .port) a x i j w (o .stands) .wanted))) o
+
+  pub reads-made : length (u .identity) ≡ 28 → Fresh d a x i j → (r .kind ≡ kindRead → ⊥) → (reads : Reads unit a x d frames last e) → Served (madeBytes u (r .kind)) reads
+  reads-made words o kind =
+      let other = ne-eqb (r .kind) kindRead kind in
+      reads-from (madeBytes u (r .kind)) (rw other) (made-enough u r words other (runs u (d .port) a x i j w (o .stands) .wanted)) o
 
 -- frames one after the other are calls one after the other, with any buffers of 2,136 bytes
 module _ (u : Unit) (unit : List ℕ) (a x : ℕ) (l : List ℕ) (room : length l ≡ 2136) where
