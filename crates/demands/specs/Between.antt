@@ -136,7 +136,7 @@ pub record Taken (d : Drive) (c : Call) : Type 0 where
   pub n : ℕ
   pub said : answerOf d c .said ≡ Sent n
 
--- what is left after such a call, where the exchange stood at place j of the login at place i: it stands there as it was, and the drive is well formed and of the same unit
+-- what a call that leaves it open leaves, where the exchange stood at place j of the login at place i: it stands there as it was, and the drive is well formed and of the same unit
 pub record Left (a x i j : ℕ) (d e : Drive) : Type 0 where
   pub formed : wellFormed (e .unit) (e .port) ≡ true
   pub unit : e .unit ≡ d .unit
