@@ -23,7 +23,7 @@ use Rattle.demands.proofs.Login.{login-is}
 use Rattle.demands.proofs.Between.{leaves-open}
 use Rattle.demands.proofs.Ending.{ends-open, no-third-call}
 use Rattle.demands.proofs.Reading.{reads-read, reads-made, reads-come}
-use Rattle.demands.proofs.Opening.{opens-read, reads-in, comes-in}
+use Rattle.demands.proofs.Opening.{opens-command, read-in, made-in, comes-in}
 use Rattle.demands.proofs.Numbers.{known-numbers}
 
 -- 2 is given where the state is not well formed, and a driven one is
@@ -68,9 +68,10 @@ demand-2 =
       stays-open = leaves-open;
       ends-open = ends-open;
       no-third-call = no-third-call;
-      read-opens = opens-read;
-      whole-read-in = λ d e unit f l frames last long known r. reads-in d f l known r e unit frames last long;
+      command-opens = opens-command;
+      whole-read-in = λ d e unit f l frames last long known r. read-in d f l known r e unit frames last long;
+      whole-made-in = λ opens made d e unit f l frames last words known r. made-in opens made d f l known r e unit frames last words;
       whole-comes = reads-come;
-      whole-comes-in = λ d unit f l long known r. comes-in d f l known r unit long;
+      whole-comes-in = λ opens d unit f l long known r. comes-in opens d f l known r unit long;
       p-cases = known-numbers;
     }

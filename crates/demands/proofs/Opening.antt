@@ -1,15 +1,16 @@
--- A READ from its FCP_CMND frame on: it opens as the frame's bytes say, and what follows is delivered. Assumes nothing.
-use mathlib.Core.Path.{_≡_, refl, sym, ap, _∙_}
+-- A command from its FCP_CMND frame on: its exchange opens as the frame's bytes say, and what follows is delivered. Assumes nothing.
+use mathlib.Core.Path.{_≡_, refl, sym, ap, _∙_, subst}
 use mathlib.Core.Bool.{Bool, true, false, cond, not}
 use mathlib.Core.List.{List, [], _++_}
 use Prim.Native.Nat.{ℕ, _+_, _*_, _<_}
 use native.Mathlib.Omega.{arith}
 use lib.Dec.{eqb}
-use lib.ListN.{length}
+use lib.ListN.{length, getD}
+use lib.Seq.{getD-set-same}
 use borrow.Author.Tests.{eqb-true, eq-eqb, not-false}
 use Rattle.tables.specs.declared.Found.{Found}
 use Rattle.tables.specs.declared.Found.the-variants.{Nothing}
-use Rattle.tables.proofs.Searches.{found-passes}
+use Rattle.tables.proofs.Searches.{found-below, found-passes}
 use Rattle.wire.specs.Bytes.{num, fillCount}
 use Rattle.wire.specs.Layout.{AllBytes}
 use Rattle.frame.specs.declared.Header.{Header}
@@ -17,18 +18,24 @@ use Rattle.frame.specs.Head.{headerOf, headerBytes}
 use Rattle.state.specs.declared.Exchange.{Exchange}
 use Rattle.state.specs.declared.Login.{Login}
 use Rattle.state.specs.declared.Port.{Port}
-use Rattle.state.proofs.Places.{opened-login, opened-open, opened-stored}
-use Rattle.state.specs.Changes.{emptyExchange, isClosed, ownOf, loginAt, exchangeAt, withLogin, withExchange}
-use Rattle.state.specs.Tables.{hasId, findExchange, freeExchange, loginIn, loginOf, lookupOf}
+use Rattle.state.proofs.Places.{found-has}
+use Rattle.state.specs.declared.Unit.{Unit}
+use Rattle.state.specs.Kinds.{kindRead, kindInquiry, kindInquiryOther, kindSenseNone, kindSenseReset, kindSenseCleared, kindSenseOther}
+use Rattle.state.specs.Standing.{Open}
+use Rattle.state.specs.Changes.{emptyExchange, emptyLogin, isClosed, hasAddress, ownOf, loginAt, exchangeAt, withLogin, withAttention, withExchange}
+use Rattle.state.specs.Tables.{hasId, findLogin, findExchange, freeExchange, loginIn, loginOf, lookupOf}
 use Rattle.formed.specs.Formed.{fullFrame, wellFormed}
 use Rattle.reply.specs.Payload.{payloadOf}
 use Rattle.reply.specs.Reply.{headOf, silent, filled, bytesOf}
 use Rattle.calls.specs.Turn.{Decided}
+use Rattle.calls.proofs.Decisions.{on-cond}
+use Rattle.calls.proofs.Standing.{stands-there}
 use Rattle.calls.proofs.Views.{sought-is}
-use Rattle.command.specs.declared.Operation.the-variants.{Read}
+use Rattle.command.specs.declared.Operation.the-variants as op
 use Rattle.command.specs.Cmnd.{cmndOf}
 use Rattle.command.specs.Cdb.{range10, decodedOf}
-use Rattle.command.specs.Command.{toldOf, commandOf}
+use Rattle.command.specs.Tests.{inquiryKind, senseKind}
+use Rattle.command.specs.Command.{reports, toldOf, commandOf}
 use Rattle.command.proofs.Moves.{operationOf}
 use Rattle.command.proofs.Silent.{wishOf, OpensAt, command-silent}
 use Rattle.refusal.specs.declared.Said.the-variants.{Sent}
@@ -38,11 +45,12 @@ use Rattle.drive.specs.declared.Drive.{Drive}
 use Rattle.drive.specs.declared.Answer.{Answer}
 use Rattle.drive.specs.Entry.{answered, decidedIn, replyBytes, frameIn}
 use Rattle.drive.proofs.Keeping.{frame-kept}
+use Rattle.serve.specs.Made.{madeBytes}
 use Rattle.serve.specs.Next.{exchangeOf, fullOf}
-use Rattle.demands.specs.Reading.{Reads, ReadIn, readOf, Opened, Delivered, readFrom, Frees, Comes}
+use Rattle.demands.specs.Reading.{Reads, CommandIn, readOf, Opens, read, inquiry, capacity, sense, Opened, Delivered, readFrom, Frees, Comes}
 use Rattle.demands.proofs.Decoding.{framed-long}
 use Rattle.demands.proofs.Refusals.{frame-answers}
-use Rattle.demands.proofs.Reading.{reads-read, reads-come}
+use Rattle.demands.proofs.Reading.{reads-read, reads-made, reads-come}
 
 -- a reply of no bytes is none
 none-silent : (d : Drive) (h : Header) (r : Decided) → Sent (length (replyBytes d h r)) ≡ Sent 0 → silent (r .reply) ≡ true
@@ -56,7 +64,50 @@ none-silent d h r e = by (silent (r .reply)) refl (cc)
     by true s n = s
     by false s n = let l = framed-long (headOf h (r .reply) (fillCount (length P))) P in absurd (omega arith)
 
-module _ (d : Drive) (f l : List ℕ) (known : AllBytes f) (r : ReadIn d f l) where
+-- what a command of each code asks of a login is what its frame's bytes say
+wish-is : {code : ℕ} {wish : List ℕ → Login → Exchange} → Opens code wish → (f : List ℕ) (m : Login) → getD f 36 0 ≡ code → wishOf m (headerOf f .«ox_id») (cmndOf f) ≡ wish f m
+unfolding cmndOf decodedOf range10 headerOf
+wish-is read f m c = let is : operationOf (cmndOf f) ≡ op.Read record { start = num 4 f 38; blocks = num 2 f 43 } = rw c in rw is
+wish-is inquiry f m c = let is : operationOf (cmndOf f) ≡ op.Inquiry (getD f 40 0) = rw c in rw is
+wish-is capacity f m c = let is : operationOf (cmndOf f) ≡ op.ReadCapacity = rw c in rw is
+wish-is sense f m c = let is : operationOf (cmndOf f) ≡ op.RequestSense (getD f 40 0) = rw c in rw is
+
+-- its exchange is open, of the frame's OX_ID and FCP_DL, and nothing of it was sent
+record Anew (f : List ℕ) (e : Exchange) : Type 0 where
+  open-is : isClosed e ≡ false
+  id : e .«ox_id» ≡ num 2 f 16
+  dl : e .expected ≡ num 4 f 52
+  unsent : e .sent ≡ 0
+
+-- a kind of INQUIRY or REQUEST SENSE is not that of a free place, nor of a READ
+module _ (P : ℕ → Type 0) where
+  inquiry-kinds : P kindInquiry → P kindInquiryOther → (lun : ℕ) → P (inquiryKind lun)
+  unfolding inquiryKind
+  inquiry-kinds a b lun = on-cond P (eqb lun 0) a b
+
+  sense-kinds : P kindSenseOther → P kindSenseNone → P kindSenseReset → P kindSenseCleared → (lun attention : ℕ) → P (senseKind lun attention)
+  unfolding senseKind
+  sense-kinds a b c e lun attention = on-cond P (not (eqb lun 0)) a (on-cond P (eqb attention 0) b (on-cond P (eqb attention 0x29) c e))
+
+wish-anew : {code : ℕ} {wish : List ℕ → Login → Exchange} → Opens code wish → (f : List ℕ) (m : Login) → Anew f (wish f m)
+wish-anew read f m = record { open-is = refl; id = refl; dl = refl; unsent = refl }
+wish-anew inquiry f m = record { open-is = inquiry-kinds (λ (k : ℕ). eqb k 0 ≡ false) refl refl (num 8 f 24); id = refl; dl = refl; unsent = refl }
+wish-anew capacity f m = record { open-is = refl; id = refl; dl = refl; unsent = refl }
+wish-anew sense f m = record { open-is = sense-kinds (λ (k : ℕ). eqb k 0 ≡ false) refl refl refl refl (num 8 f 24) (m .attention); id = refl; dl = refl; unsent = refl }
+
+-- and no made data are a READ's
+wish-made : {code : ℕ} {wish : List ℕ → Login → Exchange} → Opens code wish → (code ≡ 0x28 → ⊥) → (f : List ℕ) (m : Login) → wish f m .kind ≡ kindRead → ⊥
+wish-made read n f m = absurd (n refl)
+wish-made inquiry n f m = inquiry-kinds (λ (k : ℕ). k ≡ kindRead → ⊥) (λ e. omega arith) (λ e. omega arith) (num 8 f 24)
+wish-made capacity n f m = λ e. omega arith
+wish-made sense n f m = sense-kinds (λ (k : ℕ). k ≡ kindRead → ⊥) (λ e. omega arith) (λ e. omega arith) (λ e. omega arith) (λ e. omega arith) (num 8 f 24) (m .attention)
+
+-- what is told leaves all of a login but its attention
+told-same : (m : Login) (kind : ℕ) → (P : Login → Type 0) → P m → P (withAttention m 0) → P (toldOf m kind)
+unfolding toldOf
+told-same m kind P a b = on-cond P (reports kind) b a
+
+module _ {code : ℕ} {wish : List ℕ → Login → Exchange} (opens : Opens code wish) (d : Drive) (f l : List ℕ) (known : AllBytes f) (r : CommandIn code d f l) where
   abbrev head : Header
   head = headerOf f
 
@@ -74,108 +125,173 @@ module _ (d : Drive) (f l : List ℕ) (known : AllBytes f) (r : ReadIn d f l) wh
   opens-at : OpensAt (d .port) head (cmndOf f) (decided .port)
   opens-at = command-silent (d .unit) (d .port) head f (none-silent d head decided (sym (ap (λ (a : Answer). a .said) command-answered) ∙ r .silent))
 
-  -- what a CDB of code 28h asks for is what the frame's bytes say
-  wish-read : (m : Login) → wishOf m (head .«ox_id») (cmndOf f) ≡ readOf f
-  unfolding cmndOf decodedOf range10 headerOf
-  wish-read m = let is : operationOf (cmndOf f) ≡ Read record { start = num 4 f 38; blocks = num 2 f 43 } = rw (r .code) in rw is
-
-  -- the login had no exchange of its OX_ID
-  none-open : findExchange (loginAt (d .port) (opens-at .i)) (head .«ox_id») ≡ Nothing
-  unfolding loginOf
-  none-open =
-      let is = sought-is (d .port) (head .«s_id») (head .«ox_id») ∙ ap (λ (g : Found). findExchange (loginIn (d .port) g) (head .«ox_id»)) (opens-at .seat) in
-      sym is ∙ opens-at .opens .none
-
-  has-own : hasId (head .«ox_id») (readOf f) ≡ true
-  unfolding hasId headerOf
-  has-own = eq-eqb (num 2 f 16) (num 2 f 16) refl
-
-  -- the places of its login and of itself
+  -- the places of its login and of itself, and the login
   abbrev seat : ℕ
   seat = opens-at .i
 
   abbrev place : ℕ
   place = opens-at .opens .j
 
+  abbrev its : Login
+  its = loginAt (d .port) seat
+
+  abbrev opened : Exchange
+  opened = wish f its
+
+  anew : Anew f opened
+  anew = wish-anew opens f its
+
+  -- the login had no exchange of its OX_ID
+  none-open : findExchange its (head .«ox_id») ≡ Nothing
+  unfolding loginOf
+  none-open =
+      let is = sought-is (d .port) (head .«s_id») (head .«ox_id») ∙ ap (λ (g : Found). findExchange (loginIn (d .port) g) (head .«ox_id»)) (opens-at .seat) in
+      sym is ∙ opens-at .opens .none
+
+  has-own : hasId (head .«ox_id») opened ≡ true
+  unfolding hasId headerOf
+  has-own = rw (anew .open-is, anew .id) (eq-eqb (num 2 f 16) (num 2 f 16) refl)
+
+  abbrev told : Login
+  told = toldOf its (opened .kind)
+
   abbrev later : Port
-  later = withLogin (d .port) seat (withExchange (loginAt (d .port) seat) place (readOf f))
+  later = withLogin (d .port) seat (withExchange told place opened)
 
   port-later : decided .port ≡ later
-  unfolding toldOf
   port-later =
-      let m = loginAt (d .port) seat in
-      opens-at .is ∙ ap (withLogin (d .port) seat) (opens-at .opens .is ∙ ap (λ (e : Exchange). withExchange (toldOf m (e .kind)) place e) (wish-read m))
+      opens-at .is ∙ ap (withLogin (d .port) seat) (opens-at .opens .is ∙ ap (λ (e : Exchange). withExchange (toldOf its (e .kind)) place e) (wish-is opens f its (r .code)))
 
   drive-later : then ≡ record { unit = d .unit; port = later }
   drive-later = ap (λ (a : Answer). a .drive) command-answered ∙ ap (λ (q : Port). record { unit = d .unit; port = q }) port-later
 
-  is-later : exchangeOf (then .port) seat place ≡ readOf f
-  is-later = ap (λ (e : Drive). exchangeOf (e .port) seat place) drive-later ∙ opened-stored (d .port) _ _ seat place (readOf f) (opens-at .seat) none-open (opens-at .opens .free) has-own
+  -- its login stands where it stood, and the exchange at its place
+  login-later : loginAt later seat ≡ withExchange told place opened
+  unfolding findLogin loginAt withLogin
+  login-later = getD-set-same (d .port .logins) seat (withExchange told place opened) emptyLogin (found-below emptyLogin (hasAddress (head .«s_id»)) (d .port .logins) (opens-at .seat))
+
+  place-inside : place < length (told .places)
+  unfolding freeExchange
+  place-inside = told-same its (opened .kind) (λ (m : Login). place < length (m .places)) within within
+    where
+      within : place < length (its .places)
+      within = found-below emptyExchange isClosed (its .places) (opens-at .opens .free)
+
+  place-later : exchangeAt (withExchange told place opened) place ≡ opened
+  unfolding exchangeAt withExchange
+  place-later = getD-set-same (told .places) place opened emptyExchange place-inside
+
+  is-later : exchangeOf (then .port) seat place ≡ opened
+  is-later = ap (λ (e : Drive). exchangeOf (e .port) seat place) drive-later ∙ ap (λ (m : Login). exchangeAt m place) login-later ∙ place-later
+
+  has-later : hasAddress (head .«s_id») (loginAt later seat) ≡ true
+  unfolding withExchange hasAddress
+  has-later =
+      let has = found-has (d .port) (head .«s_id») seat (opens-at .seat) in
+      ap (hasAddress (head .«s_id»)) login-later ∙ told-same its (opened .kind) (λ (m : Login). hasAddress (head .«s_id») m ≡ true) has has
+
+  full-later : fullOf later seat ≡ fullOf (d .port) seat
+  unfolding withExchange
+  full-later = ap (λ (m : Login). fullFrame (m .size)) login-later ∙ told-same its (opened .kind) (λ (m : Login). fullFrame (m .size) ≡ fullFrame (its .size)) refl refl
+
+  formed-later : wellFormed (then .unit) (then .port) ≡ true
+  formed-later = frame-kept d f (length l) known (passed (d .unit) (d .port) head f (length l) (r .passed) .fine)
+
+  stands-later : lookupOf (then .port) (head .«s_id») (head .«ox_id») ≡ Open seat place
+  stands-later =
+      let has = ap (λ (e : Drive). hasAddress (head .«s_id») (loginAt (e .port) seat)) drive-later ∙ has-later in
+      stands-there (then .unit) (then .port) formed-later (head .«s_id») (head .«ox_id») seat place has (ap (hasId (head .«ox_id»)) is-later ∙ has-own)
 
   place-free : isClosed (exchangeOf (d .port) seat place) ≡ true
   unfolding freeExchange exchangeAt
-  place-free = found-passes emptyExchange isClosed (loginAt (d .port) seat .places) (opens-at .opens .free)
+  place-free = found-passes emptyExchange isClosed (its .places) (opens-at .opens .free)
 
   ox-small : head .«ox_id» < 65536
   unfolding headerOf
   ox-small = let a = known 16 in let b = known 17 in omega arith
 
-  expected-small : num 4 f 52 < 4294967296
-  expected-small = let a = known 52 in let b = known 53 in let c = known 54 in let e = known 55 in omega arith
+  dl-small : num 4 f 52 < 4294967296
+  dl-small = let a = known 52 in let b = known 53 in let c = known 54 in let e = known 55 in omega arith
 
-  pub opens-read : Opened d f then
-  opens-read =
+  pub opens-command : Opened d f (wish f) then
+  opens-command =
       record {
         i = seat;
         j = place;
+        seat = opens-at .seat;
         free = place-free;
-        read = record {
-          stands = ap (λ (e : Drive). lookupOf (e .port) (head .«s_id») (head .«ox_id»)) drive-later
-              ∙ opened-open (d .port) (head .«s_id») (head .«ox_id») seat place (readOf f) (opens-at .seat) none-open (opens-at .opens .free) has-own;
-          fresh = ap (λ (e : Exchange). e .sent) is-later;
+        fresh = record {
+          stands = stands-later;
+          fresh = ap (λ (e : Exchange). e .sent) is-later ∙ anew .unsent;
           ox = ox-small;
-          expected = rw is-later expected-small;
+          expected = subst (λ (n : ℕ). n < 4294967296) (sym (ap (λ (e : Exchange). e .expected) is-later ∙ anew .dl)) dl-small;
         };
         is = is-later;
         drive = drive-later;
       }
 
-  formed-later : wellFormed (then .unit) (then .port) ≡ true
-  formed-later = frame-kept d f (length l) known (passed (d .unit) (d .port) head f (length l) (r .passed) .fine)
+  unit-later : then .unit ≡ d .unit
+  unit-later = ap (λ (s : Drive). s .unit) drive-later
 
-  unit-later : (unit : List ℕ) → length unit ≡ 512 * d .unit .capacity → length unit ≡ 512 * then .unit .capacity
-  unit-later unit long = long ∙ ap (λ (s : Drive). 512 * s .unit .capacity) (sym drive-later)
+  unit-long : (unit : List ℕ) → length unit ≡ 512 * d .unit .capacity → length unit ≡ 512 * then .unit .capacity
+  unit-long unit long = long ∙ ap (λ (u : Unit). 512 * u .capacity) (sym unit-later)
 
-  full-later : fullOf later seat ≡ fullOf (d .port) seat
-  unfolding withExchange
-  full-later = ap (λ (m : Login). fullFrame (m .size)) (opened-login (d .port) (head .«s_id») (head .«ox_id») seat place (readOf f) (opens-at .seat) none-open (opens-at .opens .free) has-own)
-
-  -- the frames that follow carry what the frame asked for
-  pub reads-in : (e : Drive) (unit : List ℕ) (frames : List (List ℕ)) (last : List ℕ) → length unit ≡ 512 * d .unit .capacity → (reads : Reads unit (head .«s_id») (head .«ox_id») then frames last e)
-      → Delivered (readFrom unit (readOf f)) (d .port .address) (head .«s_id») (fullOf (d .port) (opens-read .i)) (readOf f) frames last × Frees (opens-read .i) (opens-read .j) reads
-  unfolding opens-read withLogin
-  reads-in e unit frames last long reads =
-      let t = reads-read then e unit (head .«s_id») (head .«ox_id») seat place frames last formed-later (unit-later unit long) (opens-read .read) (ap (λ (s : Exchange). s .kind) is-later) reads in
-      let full = ap (λ (s : Drive). fullOf (s .port) seat) drive-later ∙ full-later in
+  -- what is delivered of the exchange as it stands is delivered of the one that the frame asked for
+  delivered-later : (from : List ℕ) (frames : List (List ℕ)) (last : List ℕ)
+      → Delivered from (then .port .address) (head .«s_id») (fullOf (then .port) seat) (exchangeOf (then .port) seat place) frames last
+      → Delivered from (d .port .address) (head .«s_id») (fullOf (d .port) seat) opened frames last
+  unfolding withLogin
+  delivered-later from frames last t =
       let own : then .port .address ≡ d .port .address = ap (λ (s : Drive). s .port .address) drive-later in
-      (rw (own, full, is-later) at (t .0), t .1)
+      let full : fullOf (then .port) seat ≡ fullOf (d .port) seat = ap (λ (s : Drive). fullOf (s .port) seat) drive-later ∙ full-later in
+      rw (own, full, is-later) at t
 
   -- 7 did not apply, so the login is proven
-  login-proven : loginAt (d .port) seat .proven ≡ 1
+  login-proven : its .proven ≡ 1
   unfolding spared unprovenLogin
   login-proven =
-      let m = loginAt (d .port) seat in
-      let fails : not (eqb (m .proven) 1) ≡ false = rw (r .command, opens-at .seat) at (passed (d .unit) (d .port) head f (length l) (r .passed) .proven) in
-      eqb-true (m .proven) 1 (not-false (eqb (m .proven) 1) fails)
+      let fails : not (eqb (its .proven) 1) ≡ false = rw (r .command, opens-at .seat) at (passed (d .unit) (d .port) head f (length l) (r .passed) .proven) in
+      eqb-true (its .proven) 1 (not-false (eqb (its .proven) 1) fails)
 
   proven-later : loginAt (then .port) seat .proven ≡ 1
   unfolding withExchange
   proven-later =
-      ap (λ (s : Drive). loginAt (s .port) seat .proven) drive-later
-      ∙ ap (λ (m : Login). m .proven) (opened-login (d .port) (head .«s_id») (head .«ox_id») seat place (readOf f) (opens-at .seat) none-open (opens-at .opens .free) has-own)
-      ∙ login-proven
+      ap (λ (s : Drive). loginAt (s .port) seat .proven) drive-later ∙ ap (λ (m : Login). m .proven) login-later
+      ∙ told-same its (opened .kind) (λ (m : Login). m .proven ≡ its .proven) refl refl ∙ login-proven
 
   -- and such frames there are
   pub comes-in : (unit : List ℕ) → length unit ≡ 512 * d .unit .capacity → Comes unit (head .«s_id») (head .«ox_id») then
-  unfolding opens-read
-  comes-in unit long = reads-come then unit (head .«s_id») (head .«ox_id») seat place formed-later (unit-later unit long) (opens-read .read .stands) proven-later
+  comes-in unit long = reads-come then unit (head .«s_id») (head .«ox_id») seat place formed-later (unit-long unit long) stands-later proven-later
+
+-- the frames that follow carry what the frame asked for: a READ's the unit's bytes
+module _ (d : Drive) (f l : List ℕ) (known : AllBytes f) (r : CommandIn 0x28 d f l) (e : Drive) (unit : List ℕ) (frames : List (List ℕ)) (last : List ℕ) where
+  pub read-in : length unit ≡ 512 * d .unit .capacity → (reads : Reads unit (headerOf f .«s_id») (headerOf f .«ox_id») (frameIn d f (length l) .drive) frames last e)
+      → let o = opens-command read d f l known r in
+      Delivered (readFrom unit (readOf f)) (d .port .address) (headerOf f .«s_id») (fullOf (d .port) (o .i)) (readOf f) frames last × Frees (o .i) (o .j) reads
+  unfolding opens-command
+  read-in long reads =
+      let o = opens-command read d f l known r in
+      let then = frameIn d f (length l) .drive in
+      let is = o .is in
+      let t = reads-read then e unit (headerOf f .«s_id») (headerOf f .«ox_id») (o .i) (o .j) frames last (formed-later read d f l known r) (unit-long read d f l known r unit long) (o .fresh) (ap (λ (s : Exchange). s .kind) is) reads in
+      let from : readFrom unit (exchangeOf (then .port) (o .i) (o .j)) ≡ readFrom unit (readOf f) = ap (readFrom unit) is in
+      (delivered-later read d f l known r (readFrom unit (readOf f)) frames last (rw from at (t .0)), t .1)
+
+-- and of the others the made data
+module _ {code : ℕ} {wish : List ℕ → Login → Exchange} (opens : Opens code wish) (made : code ≡ 0x28 → ⊥) (d : Drive) (f l : List ℕ) (known : AllBytes f) (r : CommandIn code d f l) (e : Drive) (unit : List ℕ)
+    (frames : List (List ℕ)) (last : List ℕ) where
+  pub made-in : length (d .unit .identity) ≡ 28 → (reads : Reads unit (headerOf f .«s_id») (headerOf f .«ox_id») (frameIn d f (length l) .drive) frames last e)
+      → let o = opens-command opens d f l known r in
+      let x = wish f (loginAt (d .port) (o .i)) in
+      Delivered (madeBytes (d .unit) (x .kind)) (d .port .address) (headerOf f .«s_id») (fullOf (d .port) (o .i)) x frames last × Frees (o .i) (o .j) reads
+  unfolding opens-command
+  made-in words reads =
+      let o = opens-command opens d f l known r in
+      let then = frameIn d f (length l) .drive in
+      let x = wish f (loginAt (d .port) (o .i)) in
+      let is = o .is in
+      let same = unit-later opens d f l known r in
+      let other : exchangeOf (then .port) (o .i) (o .j) .kind ≡ kindRead → ⊥ = λ k. wish-made opens made f (loginAt (d .port) (o .i)) (sym (ap (λ (s : Exchange). s .kind) is) ∙ k) in
+      let t = reads-made then e unit (headerOf f .«s_id») (headerOf f .«ox_id») (o .i) (o .j) frames last (formed-later opens d f l known r) (ap (λ (u : Unit). length (u .identity)) same ∙ words) (o .fresh) other reads in
+      let from : madeBytes (then .unit) (exchangeOf (then .port) (o .i) (o .j) .kind) ≡ madeBytes (d .unit) (x .kind) = λ n. madeBytes (same n) (is n .kind) in
+      (delivered-later opens d f l known r (madeBytes (d .unit) (x .kind)) frames last (rw from at (t .0)), t .1)

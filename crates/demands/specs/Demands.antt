@@ -17,6 +17,8 @@ use Rattle.tables.specs.Firsts.{IsFirst}
 use Rattle.wire.specs.Layout.{AllBytes}
 use Rattle.frame.specs.declared.Header.{Header}
 use Rattle.frame.specs.Head.{Fits, headerOf, headerBytes}
+use Rattle.state.specs.declared.Exchange.{Exchange}
+use Rattle.state.specs.declared.Login.{Login}
 use Rattle.state.specs.declared.Setup.{Setup}
 use Rattle.state.specs.Standing.{Open}
 use Rattle.state.specs.Changes.{loginAt}
@@ -39,7 +41,7 @@ use Rattle.demands.specs.Driven.{Driven}
 use Rattle.demands.specs.Refusals.{appliesOut}
 use Rattle.demands.specs.Login.{LoginIn, PortLogin}
 use Rattle.demands.specs.Between.{Call, after, LeavesOpen, EndsOpen, Serves, Taken, Left}
-use Rattle.demands.specs.Reading.{Reads, Fresh, ReadIn, readOf, Opened, Delivered, readFrom, Frees, Comes}
+use Rattle.demands.specs.Reading.{Reads, Fresh, CommandIn, readOf, Opens, read, Opened, Delivered, readFrom, Frees, Comes}
 use Rattle.demands.specs.Numbers.{KnownNumbers}
 
 -- "Every public entry takes every input, ends, and does nothing undefined": that is the contracts', which ask nothing. "Bad input is refused by a number of document 01; a refusal hands back the
@@ -100,17 +102,23 @@ pub record Demand2 : Type 0 where
   -- And there is no third kind: every call but the exchange's own next frame leaves it open or ends it.
   pub no-third-call : (d : Drive) (a x i j : ℕ) → wellFormed (d .unit) (d .port) ≡ true → lookupOf (d .port) a x ≡ Open i j → (c : Call) → (Serves a x c → ⊥)
       → LeavesOpen d a x c ⊎ (Taken d c × EndsOpen d a x c)
-  -- A READ from its FCP_CMND frame: one that is not refused and answered with nothing has opened just the exchange that the frame's bytes say, at a place of the sender's login that was free,
-  -- and changed nothing else.
-  pub read-opens : (d : Drive) (f l : List ℕ) → AllBytes f → ReadIn d f l → Opened d f (frameIn d f (length l) .drive)
-  -- And the frames that follow deliver what that frame asked for, and free the place.
-  pub whole-read-in : (d e : Drive) (unit f l : List ℕ) (frames : List (List ℕ)) (last : List ℕ) → length unit ≡ 512 * d .unit .capacity → (known : AllBytes f) (r : ReadIn d f l)
+  -- A command from its FCP_CMND frame, READ(10), INQUIRY, READ CAPACITY or REQUEST SENSE: one that is not refused and answered with nothing has opened just the exchange that the frame's bytes say,
+  -- at a place of the sender's login that was free, and changed nothing else; a REQUEST SENSE has cleared the attention that it reports.
+  pub command-opens : {code : ℕ} {wish : List ℕ → Login → Exchange} → Opens code wish → (d : Drive) (f l : List ℕ) → AllBytes f → CommandIn code d f l → Opened d f (wish f) (frameIn d f (length l) .drive)
+  -- And the frames that follow deliver what that frame asked for, and free the place: of a READ, and of the others.
+  pub whole-read-in : (d e : Drive) (unit f l : List ℕ) (frames : List (List ℕ)) (last : List ℕ) → length unit ≡ 512 * d .unit .capacity → (known : AllBytes f) (r : CommandIn 0x28 d f l)
       → (reads : Reads unit (headerOf f .«s_id») (headerOf f .«ox_id») (frameIn d f (length l) .drive) frames last e)
-      → let o = read-opens d f l known r in
+      → let o = command-opens read d f l known r in
       Delivered (readFrom unit (readOf f)) (d .port .address) (headerOf f .«s_id») (fullOf (d .port) (o .i)) (readOf f) frames last × Frees (o .i) (o .j) reads
+  pub whole-made-in : {code : ℕ} {wish : List ℕ → Login → Exchange} (opens : Opens code wish) → (code ≡ 0x28 → ⊥) → (d e : Drive) (unit f l : List ℕ) (frames : List (List ℕ)) (last : List ℕ)
+      → length (d .unit .identity) ≡ 28 → (known : AllBytes f) (r : CommandIn code d f l) → (reads : Reads unit (headerOf f .«s_id») (headerOf f .«ox_id») (frameIn d f (length l) .drive) frames last e)
+      → let o = command-opens opens d f l known r in
+      let x = wish f (loginAt (d .port) (o .i)) in
+      Delivered (madeBytes (d .unit) (x .kind)) (d .port .address) (headerOf f .«s_id») (fullOf (d .port) (o .i)) x frames last × Frees (o .i) (o .j) reads
   -- And such a run there is, for every open exchange of a proven login, and so after every such frame.
   pub whole-comes : (d : Drive) (unit : List ℕ) (a x i j : ℕ) → wellFormed (d .unit) (d .port) ≡ true → length unit ≡ 512 * d .unit .capacity → lookupOf (d .port) a x ≡ Open i j
       → loginAt (d .port) i .proven ≡ 1 → Comes unit a x d
-  pub whole-comes-in : (d : Drive) (unit f l : List ℕ) → length unit ≡ 512 * d .unit .capacity → AllBytes f → ReadIn d f l → Comes unit (headerOf f .«s_id») (headerOf f .«ox_id») (frameIn d f (length l) .drive)
+  pub whole-comes-in : {code : ℕ} {wish : List ℕ → Login → Exchange} → Opens code wish → (d : Drive) (unit f l : List ℕ) → length unit ≡ 512 * d .unit .capacity → AllBytes f → CommandIn code d f l
+      → Comes unit (headerOf f .«s_id») (headerOf f .«ox_id») (frameIn d f (length l) .drive)
   -- The known numbers marked P, as one table.
   pub p-cases : KnownNumbers

@@ -2,22 +2,26 @@
 use mathlib.Core.Path.{_≡_}
 use mathlib.Core.Bool.{Bool, true, false, cond, _&&_, _||_}
 use mathlib.Core.List.{List, [], _∷_, _++_, map}
-use Prim.Native.Nat.{ℕ, zero, suc, _+_, _-_, _*_, _%_, _<_}
+use Prim.Native.Nat.{ℕ, zero, suc, _+_, _-_, _*_, _%_, _<_, min}
 use lib.Dec.{eqb, leb}
 use lib.ListN.{length, take, drop, getD, replicate}
+use Rattle.tables.specs.declared.Found.the-variants.{At}
 use Rattle.tables.specs.Firsts.{NoneOf}
 use Rattle.wire.specs.Bytes.{num, bytes, fillCount}
 use Rattle.frame.specs.declared.Header.{Header}
 use Rattle.frame.specs.Head.{headerOf, headerBytes}
 use Rattle.state.specs.declared.Exchange.{Exchange}
+use Rattle.state.specs.declared.Login.{Login}
 use Rattle.state.specs.Standing.{Open}
 use Rattle.state.specs.Changes.{loginAt, withLogin, withExchange, endedAt, isClosed}
-use Rattle.state.specs.Kinds.{kindRead}
-use Rattle.state.specs.Tables.{lookupOf}
+use Rattle.state.specs.Kinds.{kindRead, kindCapacity}
+use Rattle.state.specs.Tables.{findLogin, lookupOf}
 use Rattle.formed.specs.Formed.{total, framesOf}
 use Rattle.residual.specs.Residual.{residualOf}
 use Rattle.reply.specs.Payload.{residualFlag, residualSize}
 use Rattle.serve.specs.Next.{exchangeOf}
+use Rattle.command.specs.Tests.{inquiryKind, senseKind}
+use Rattle.command.specs.Command.{toldOf}
 use Rattle.cover.specs.Cover.{cut}
 use Rattle.serve.specs.Whole.{Piece, joined, InOrder}
 use Rattle.drive.specs.declared.Drive.{Drive}
@@ -104,11 +108,11 @@ pub record Fresh (d : Drive) (a x i j : ℕ) : Type 0 where
   pub ox : x < 65536
   pub expected : exchangeOf (d .port) i j .expected < 4294967296
 
--- a READ that opens: none of 1 to 7 applies to the frame f, with the buffer l lent, it is an FCP_CMND (R_CTL 06h) of code 28h, the first byte of the CDB, and nothing is answered
-pub record ReadIn (d : Drive) (f l : List ℕ) : Type 0 where
+-- a command that opens: none of 1 to 7 applies to the frame f, with the buffer l lent, it is an FCP_CMND (R_CTL 06h) of this code, the first byte of the CDB, and nothing is answered
+pub record CommandIn (operation : ℕ) (d : Drive) (f l : List ℕ) : Type 0 where
   pub passed : NoneOf (appliesIn (d .unit) (d .port) (headerOf f) f (length l)) frameOrder
   pub command : headerOf f .«r_ctl» ≡ 0x06
-  pub code : getD f 36 0 ≡ 0x28
+  pub code : getD f 36 0 ≡ operation
   pub silent : frameIn d f (length l) .said ≡ Sent 0
 
 -- the exchange of a READ(10), from the bytes of its frame: "LUN 8, .. CDB 16, FCP_DL 4" begin at bytes 24, 36 and 52
@@ -132,14 +136,31 @@ readOf f =
       kind = kindRead;
     }
 
--- "Else the exchange opens silently": the drive e is d with the READ of the frame f open at a place that was free, and nothing else has changed
-pub record Opened (d : Drive) (f : List ℕ) (e : Drive) : Type 0 where
+-- the exchange of a command on made data, from the bytes of its frame, of this kind and with this many bytes wanted
+abbrev pub madeOf : List ℕ → ℕ → ℕ → Exchange
+madeOf f kind wanted = record { start = 0; blocks = 0; wanted = wanted; expected = num 4 f 52; sent = 0; count = 0; «ox_id» = num 2 f 16; kind = kind }
+
+-- the commands that open, by their codes, each with its exchange from the bytes of its frame and the login of its sender; "byte 4" of the CDB is byte 40 of the frame
+pub data Opens : ℕ → (List ℕ → Login → Exchange) → Type 0 where
+  -- READ(10)
+  read : Opens 0x28 (λ f l. readOf f)
+  -- INQUIRY: "36 or byte 4 if smaller (.., 7Fh first for another LUN)"
+  inquiry : Opens 0x12 (λ f l. madeOf f (inquiryKind (num 8 f 24)) (min 36 (getD f 40 0)))
+  -- READ CAPACITY: "8 (last address, 512)"
+  capacity : Opens 0x25 (λ f l. madeOf f kindCapacity 8)
+  -- REQUEST SENSE: "18 or byte 4 if smaller (00/00/00, the attention, .. or 05/25/00 for another LUN)"
+  sense : Opens 0x03 (λ f l. madeOf f (senseKind (num 8 f 24) (l .attention)) (min 18 (getD f 40 0)))
+
+-- "Else the exchange opens silently": the drive e is d with this exchange of the frame f open at a place of the sender's login that was free, and nothing else has changed but that
+-- "the attention, cleared as its exchange opens", is cleared where a REQUEST SENSE reports it
+pub record Opened (d : Drive) (f : List ℕ) (wish : Login → Exchange) (e : Drive) : Type 0 where
   pub i : ℕ
   pub j : ℕ
+  pub seat : findLogin (d .port) (headerOf f .«s_id») ≡ At i
   pub free : isClosed (exchangeOf (d .port) i j) ≡ true
-  pub read : Fresh e (headerOf f .«s_id») (headerOf f .«ox_id») i j
-  pub is : exchangeOf (e .port) i j ≡ readOf f
-  pub drive : e ≡ record { unit = d .unit; port = withLogin (d .port) i (withExchange (loginAt (d .port) i) j (readOf f)) }
+  pub fresh : Fresh e (headerOf f .«s_id») (headerOf f .«ox_id») i j
+  pub is : exchangeOf (e .port) i j ≡ wish (loginAt (d .port) i)
+  pub drive : e ≡ record { unit = d .unit; port = withLogin (d .port) i (withExchange (toldOf (loginAt (d .port) i) (wish (loginAt (d .port) i) .kind)) j (wish (loginAt (d .port) i))) }
 
 -- the table of reply headers, "FCP_DATA, last or not": 01 08, 880008 or 800008, 01; "addresses swapped, OX_ID echoed, RX_ID FFFFh, the rest 0"; "FCP frames add the fill count to F_CTL"
 abbrev pub dataHeader : (own a x : ℕ) → Bool → (count at fill : ℕ) → Header

@@ -12,13 +12,12 @@ use Rattle.tables.specs.declared.Found.the-variants.{At, Nothing}
 use Rattle.tables.specs.Lists.{onFound}
 use Rattle.tables.proofs.Bools.{and-left}
 use Rattle.tables.proofs.Searches.{found-below, found-passes, same-found}
-use Rattle.tables.proofs.Only.{new-found}
 use Rattle.state.specs.declared.Exchange.{Exchange}
 use Rattle.state.specs.declared.Login.{Login}
 use Rattle.state.specs.declared.Port.{Port}
 use Rattle.state.specs.Standing.{Open, NoExchange}
 use Rattle.state.specs.Changes.{emptyExchange, emptyLogin, isUsed, hasAddress, loginAt, exchangeAt, withLogin, withExchange, isClosed}
-use Rattle.state.specs.Tables.{hasId, findLogin, findExchange, freeExchange, loginIn, loginOf, standingIn, lookupOf}
+use Rattle.state.specs.Tables.{hasId, findLogin, findExchange, loginIn, loginOf, standingIn, lookupOf}
 
 inner-place : (k i j : ℕ) (g : Found) → onFound g (λ n. Open k n) (NoExchange k) ≡ Open i j → (k ≡ i) × (g ≡ At j)
 inner-place k i j (At n) e = ((cc), ap At (cc))
@@ -96,35 +95,6 @@ module _ (p : Port) (a x i j : ℕ) (e : lookupOf p a x ≡ Open i j) where
   pub lookup-same : (f : Exchange) → hasId x f ≡ true → lookupOf (withLogin p i (withExchange (loginAt p i) j f)) a x ≡ Open i j
   unfolding lookupOf loginOf
   lookup-same f h = rw (found-again f, login-stored (withExchange (loginAt p i) j f), exchange-again f h)
-
--- an exchange that opens at a free place of a login that had none of its OX_ID stands there
-module _ (p : Port) (a x i j : ℕ) (e : Exchange) (seat : findLogin p a ≡ At i) (none : findExchange (loginAt p i) x ≡ Nothing) (free : freeExchange (loginAt p i) ≡ At j) (has : hasId x e ≡ true) where
-  abbrev opened : Port
-  opened = withLogin p i (withExchange (loginAt p i) j e)
-
-  opened-seat : findLogin opened a ≡ At i
-  unfolding findLogin withLogin withExchange loginAt hasAddress
-  opened-seat = same-found emptyLogin (hasAddress a) (p .logins) i (withExchange (loginAt p i) j e) refl ∙ seat
-
-  pub opened-login : loginAt opened i ≡ withExchange (loginAt p i) j e
-  unfolding findLogin loginAt withLogin
-  opened-login = getD-set-same (p .logins) i (withExchange (loginAt p i) j e) emptyLogin (found-below emptyLogin (hasAddress a) (p .logins) seat)
-
-  opened-inside : j < length (loginAt p i .places)
-  unfolding freeExchange
-  opened-inside = found-below emptyExchange isClosed (loginAt p i .places) free
-
-  opened-exchange : findExchange (withExchange (loginAt p i) j e) x ≡ At j
-  unfolding findExchange withExchange
-  opened-exchange = new-found (hasId x) (loginAt p i .places) j e has opened-inside none
-
-  pub opened-open : lookupOf opened a x ≡ Open i j
-  unfolding lookupOf loginOf
-  opened-open = rw (opened-seat, opened-login, opened-exchange)
-
-  pub opened-stored : exchangeAt (loginAt opened i) j ≡ e
-  unfolding exchangeAt withExchange
-  opened-stored = ap (λ (m : Login). exchangeAt m j) opened-login ∙ getD-set-same (loginAt p i .places) j e emptyExchange opened-inside
 
 -- of two changes at a place the later stands
 pub login-twice : (p : Port) (i : ℕ) (l m : Login) → withLogin (withLogin p i l) i m ≡ withLogin p i m

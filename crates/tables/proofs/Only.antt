@@ -4,9 +4,8 @@ use mathlib.Core.Path.{_≡_, refl, ap, _∙_}
 use mathlib.Core.List.{List, [], _∷_}
 use mathlib.Core.Bool.{Bool, true, false, cond}
 use native.Mathlib.Omega.{arith}
-use lib.ListN.{length, getD, set}
-use Rattle.tables.specs.declared.Found.{Found}
-use Rattle.tables.specs.declared.Found.the-variants.{At, Nothing}
+use lib.ListN.{length, getD}
+use Rattle.tables.specs.declared.Found.the-variants.{At}
 use Rattle.tables.specs.Lists.{firstFrom, first, all, pairs}
 use Rattle.tables.proofs.Bools.{and-left, and-right, apart}
 use Rattle.tables.proofs.Keeping.{all-at}
@@ -30,16 +29,3 @@ module _ {A : Type 0} (z : A) (p : A → Bool) (r : A → A → Bool) (none : p 
 
   pub only-found : (xs : List A) (i : ℕ) → pairs r xs ≡ true → p (getD xs i z) ≡ true → first p xs ≡ At i
   only-found xs i d h = only-from xs i 0 d h ∙ ap At (omega arith)
-
--- an element that passes, stored in a list in which none does, is the one that is found
-new-step : (b : Bool) (k j : ℕ) (g h : Found) → (g ≡ Nothing → h ≡ At (suc k + j)) → cond b (At k) g ≡ Nothing → cond b (At k) h ≡ At (k + suc j)
-new-step true k j g h rest e = let z : _≡_ {A = ℕ} 0 1 = cc in absurd (omega arith)
-new-step false k j g h rest e = rest e ∙ ap At (omega arith)
-
-new-from : {A : Type 0} (p : A → Bool) (xs : List A) (k j : ℕ) (y : A) → p y ≡ true → j < length xs → firstFrom p k xs ≡ Nothing → firstFrom p k (set xs j y) ≡ At (k + j)
-new-from p [] k j y h l e = absurd (omega arith)
-new-from p (x ∷ xs) k zero y h l e = rw h (ap At (omega arith))
-new-from p (x ∷ xs) k (suc j) y h l e = new-step (p x) k j (firstFrom p (suc k) xs) (firstFrom p (suc k) (set xs j y)) (new-from p xs (suc k) j y h (omega arith)) e
-
-pub new-found : {A : Type 0} (p : A → Bool) (xs : List A) (j : ℕ) (y : A) → p y ≡ true → j < length xs → first p xs ≡ Nothing → first p (set xs j y) ≡ At j
-new-found p xs j y h l e = new-from p xs 0 j y h l e ∙ ap At (omega arith)
