@@ -20,9 +20,10 @@ use Rattle.demands.proofs.Reach.{driven-fine}
 use Rattle.demands.proofs.Refusals.{frame-first, frame-refuses, next-first, next-refuses, next-unchanged}
 use Rattle.demands.proofs.Lengths.{frame-long, next-long}
 use Rattle.demands.proofs.Login.{login-is}
+use Rattle.demands.proofs.Judges.{judges-is}
 use Rattle.demands.proofs.Between.{leaves-open}
 use Rattle.demands.proofs.Ending.{ends-open, no-third-call}
-use Rattle.demands.proofs.Reading.{reads-read, reads-made, reads-come}
+use Rattle.demands.proofs.Reading.{reads-shown, reads-read, reads-made, reads-come}
 use Rattle.demands.proofs.Opening.{opens-command, read-in, made-in, comes-in}
 use Rattle.demands.proofs.Numbers.{known-numbers}
 
@@ -73,5 +74,7 @@ demand-2 =
       whole-made-in = λ opens made d e unit f l frames last words known r. made-in opens made d f l known r e unit frames last words;
       whole-comes = reads-come;
       whole-comes-in = λ opens d unit f l long known r. comes-in opens d f l known r unit long;
+      frames-shown = reads-shown;
+      judges-is = judges-is;
       p-cases = known-numbers;
     }
