@@ -23,10 +23,13 @@ use Rattle.calls.specs.View.{viewOf}
 use Rattle.calls.specs.Turn.{Decided, decidedAs, servedAt, changes, answersOnly, stores, servedIn, refusedTurn, portAfter, decidedBy}
 use Rattle.calls.proofs.Views.{view-seat}
 
--- what holds at both ends of a choice holds of the choice
+-- what holds at both ends of a choice, each where the test says so, holds of the choice
+pub by-cond : {A : Type 0} (P : A → Type 0) (b : Bool) {x y : A} → (b ≡ true → P x) → (b ≡ false → P y) → P (cond b x y)
+by-cond P true h k = h refl
+by-cond P false h k = k refl
+
 pub on-cond : {A : Type 0} (P : A → Type 0) (b : Bool) {x y : A} → P x → P y → P (cond b x y)
-on-cond P true h k = h
-on-cond P false h k = k
+on-cond P b h k = by-cond P b (λ _. h) (λ _. k)
 
 -- and so of a choice by whether a place is found
 pub on-found : {A : Type 0} (P : A → Type 0) (f : Found) (t : ℕ → A) (e : A) → ((i : ℕ) → f ≡ At i → P (t i)) → (f ≡ Nothing → P e) → P (onFound f t e)

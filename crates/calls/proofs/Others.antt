@@ -134,14 +134,14 @@ unfolding withLogin loginAt
 stored-sees p a (At i) l o = is-seen (withLogin p i l) a ∙ set-seen a (p .logins) i l (o .0) (o .1) ∙ sym (is-seen p a)
 stored-sees p a Nothing l o = refl
 
+-- the login at a place after a change of every login
+pub at-changed : (p : Port) (k : ℕ) (c : Change) → loginAt (changedAll c p) k ≡ changedOf c (loginAt p k)
+unfolding loginAt changedAll
+at-changed p k c = ap (getD (map (changedOf c) (p .logins)) k) (sym (empty-changed c)) ∙ List·getD-map (changedOf c) (p .logins) k emptyLogin
+
 -- the same of what is stored once every login was changed
 another-changed : (p : Port) (c : Change) (a : ℕ) (at : Found) (l : Login) → Another p a at l → Another (changedAll c p) a at l
-unfolding loginAt changedAll
-another-changed p c a (At i) l o = (
-  ap (hasAddress a) (ap (getD (map (changedOf c) (p .logins)) i) (sym (empty-changed c)) ∙ List·getD-map (changedOf c) (p .logins) i emptyLogin)
-      ∙ like-has a (like c (getD (p .logins) i emptyLogin)) (o .0),
-  o .1,
-)
+another-changed p c a (At i) l o = (ap (hasAddress a) (at-changed p i c) ∙ like-has a (like c (loginAt p i)) (o .0), o .1)
 another-changed p c a Nothing l o = tt
 
 -- after any turn that stores nothing of an address its login is what the turn's change makes of what it was, and so are its exchanges

@@ -6,7 +6,6 @@ use Prim.Native.Nat.{ℕ, _<_}
 use native.Mathlib.Decide.{ℕ-discrete}
 use lib.Dec.{eqb}
 use lib.ListN.{length}
-use lib.Seq.{getD-set-same}
 use Rattle.tables.specs.declared.Found.{Found}
 use Rattle.tables.specs.declared.Found.the-variants.{At, Nothing}
 use Rattle.tables.specs.Lists.{all, onFound, pairs}
@@ -20,7 +19,7 @@ use Rattle.state.specs.declared.Unit.{Unit}
 use Rattle.state.specs.declared.Change.the-variants.{EndExchangesOf, Reset, Clear}
 use Rattle.state.specs.Changes.{emptyLogin, isUsed, hasAddress, loginAt, withState, withLogin, withExchange, withoutExchanges, abortedOf, resetOf, losesTo, clearedBy}
 use Rattle.state.specs.Tables.{findLogin, findExchange, freeExchange, loginIn, loginOf, soughtIn}
-use Rattle.state.proofs.Places.{login-other}
+use Rattle.state.proofs.Places.{stored-at, login-other}
 use Rattle.formed.specs.Formed.{total, loginFine, apartAddress}
 use Rattle.reply.specs.declared.Reply.{Reply}
 use Rattle.reply.specs.declared.Reply.the-variants as reply
@@ -101,10 +100,6 @@ moves-alike u l place ox c (opens false j e p n none) = alike _ _
 found-stored : (p : Port) (i : ℕ) (m : Login) → Alike (loginAt p i) m → (b : ℕ) → findLogin (withLogin p i m) b ≡ findLogin p b
 unfolding findLogin withLogin loginAt
 found-stored p i m x b = same-found emptyLogin (hasAddress b) (p .logins) i m (alike-has x b)
-
-stored-at : (p : Port) (i : ℕ) (m : Login) → i < length (p .logins) → loginAt (withLogin p i m) i ≡ m
-unfolding withLogin loginAt
-stored-at p i m below = getD-set-same (p .logins) i m emptyLogin below
 
 at-stored : (p : Port) (i : ℕ) (m : Login) → i < length (p .logins) → Alike (loginAt p i) m → (j : ℕ) → Alike (loginAt p j) (loginAt (withLogin p i m) j)
 at-stored p i m below x j =

@@ -3,11 +3,11 @@ use Prim.Native.Nat.{ℕ, _+_, _%_}
 use mathlib.Core.Path.{_≡_, refl, sym, ap, _∙_, subst}
 use mathlib.Core.Bool.{Bool, true, false, cond, not, _&&_, _||_}
 use mathlib.Core.Logic.{_⊎_, inl, inr}
-use mathlib.Core.List.{List, map}
+use mathlib.Core.List.{List}
 use native.Mathlib.Decide.{ℕ-discrete}
 use native.Mathlib.Omega.{arith}
 use lib.Dec.{eqb, leb}
-use lib.ListN.{length, getD, List·getD-map}
+use lib.ListN.{length, getD}
 use borrow.Author.Tests.{eqb-true, eq-eqb, ne-eqb, not-true, not-false}
 use Rattle.tables.specs.declared.Found.{Found}
 use Rattle.tables.specs.declared.Found.the-variants.{At, Nothing}
@@ -37,8 +37,8 @@ use Rattle.state.proofs.Places.{found-has, found-used, open-place, open-exchang
 use Rattle.formed.specs.Formed.{total, wellFormed}
 use Rattle.calls.specs.declared.Served.{Served}
 use Rattle.calls.specs.Turn.{Decided, servedAt}
-use Rattle.calls.proofs.Decisions.{on-cond, on-found}
-use Rattle.calls.proofs.Others.{empty-changed, other-has}
+use Rattle.calls.proofs.Decisions.{by-cond, on-cond, on-found}
+use Rattle.calls.proofs.Others.{at-changed, other-has}
 use Rattle.calls.proofs.Standing.{stands-there}
 use Rattle.calls.proofs.Views.{sought-is}
 use Rattle.link.specs.Link.{newLogin, outcomeAfter, outcomePort, outcomeOf, plogiOf, logoOf, pdiscOf, adiscOf, prliOf, prloOf, rrqOf, serviceOf, sizeOf, linkOf, abortedAt, abtsOf, provenBy, pairFine, pageFine}
@@ -71,16 +71,7 @@ use Rattle.drive.proofs.Made.{event-answered, event-unchanged}
 use Rattle.drive.proofs.Ways.{frame-cases}
 use Rattle.demands.specs.Between.{Call, frame, next, event, answerOf, after, EndsAll, Own, Service, pdiscNames, adiscNames, Left, LeavesOpen, refused, next-other, loop-reset, time-over, other, done, abts-other, abts-rejected, coded, command-other, unsized, prli, rrq, logo-rejected, prlo-rejected, pdisc, adisc}
 
--- what holds at both ends of a choice, each where the test says so, holds of the choice
-pub by-cond : {A : Type 0} (P : A → Type 0) (b : Bool) {x y : A} → (b ≡ true → P x) → (b ≡ false → P y) → P (cond b x y)
-by-cond P true h k = h refl
-by-cond P false h k = k refl
-
--- the login at a place after a change of every login, and that of an address where it was found
-pub at-changed : (p : Port) (k : ℕ) (c : Change) → loginAt (changedAll c p) k ≡ changedOf c (loginAt p k)
-unfolding loginAt changedAll
-at-changed p k c = ap (getD (map (changedOf c) (p .logins)) k) (sym (empty-changed c)) ∙ List·getD-map (changedOf c) (p .logins) k emptyLogin
-
+-- the login of an address, where it was found
 login-found : (p : Port) (b k : ℕ) → findLogin p b ≡ At k → loginOf p b ≡ loginAt p k
 unfolding loginOf
 login-found p b k e = rw e

@@ -33,12 +33,12 @@ use Rattle.state.specs.declared.Change.the-variants.{EndAll, EndLogin, EndUnpro
 use Rattle.state.specs.Standing.{Open}
 use Rattle.state.specs.Changes.{emptyExchange, emptyLogin, isUsed, hasAddress, loginAt, exchangeAt, withLogin, withExchange, withoutExchanges, endedAt, freedOf, endedOf, verified, abortedOf, resetOf, losesTo, clearedBy, changedOf, changedAll}
 use Rattle.state.specs.Tables.{isFree, hasId, findLogin, freeLogin, loginIn, loginOf, lookupOf, soughtIn}
-use Rattle.state.proofs.Places.{found-has, open-place, open-exchange, open-has, login-inside, exchange-inside, login-other, exchange-other}
+use Rattle.state.proofs.Places.{found-has, open-place, open-exchange, open-has, login-inside, exchange-inside, stored-at, login-other, exchange-other}
 use Rattle.formed.specs.Formed.{wellFormed}
 use Rattle.calls.specs.declared.Served.{Served}
 use Rattle.calls.specs.Turn.{Decided, servedAt}
-use Rattle.calls.proofs.Decisions.{on-cond}
-use Rattle.calls.proofs.Others.{free-has, empty-has}
+use Rattle.calls.proofs.Decisions.{by-cond, on-cond}
+use Rattle.calls.proofs.Others.{at-changed, free-has, empty-has}
 use Rattle.calls.proofs.Standing.{stands-there}
 use Rattle.link.specs.Link.{newLogin, outcomeAfter, outcomePort, outcomeOf, plogiOf, logoOf, pdiscOf, adiscOf, prloOf, serviceOf, sizeOf, linkOf, abtsOf, namesDiffer, pageFine}
 use Rattle.command.specs.declared.Task.{Task}
@@ -58,18 +58,13 @@ use Rattle.drive.proofs.Made.{event-answered}
 use Rattle.drive.proofs.Ways.{frame-cases}
 use Rattle.demands.specs.Between.{Call, frame, next, event, after, asked, EndsAll, Own, Service, pdiscNames, adiscNames, LeavesOpen, EndsOpen, Serves, Taken}
 use Rattle.demands.specs.Between as call
-use Rattle.demands.proofs.Between.{by-cond, at-changed, seat, sought-there, is-paired, own-command, login-there, command-form}
+use Rattle.demands.proofs.Between.{seat, sought-there, is-paired, own-command, login-there, command-form}
 
 -- reading a list of free places gives a free one, past its end too
 all-empty : (n m : ℕ) → getD (replicate n emptyExchange) m emptyExchange ≡ emptyExchange
 all-empty zero m = refl
 all-empty (suc n) zero = refl
 all-empty (suc n) (suc m) = all-empty n m
-
--- a login stored at a place of the table stands there
-stored-at : (q : Port) (i : ℕ) (m : Login) → i < length (q .logins) → loginAt (withLogin q i m) i ≡ m
-unfolding loginAt withLogin
-stored-at q i m below = getD-set-same (q .logins) i m emptyLogin below
 
 -- the exchange of a and x is open nowhere
 module _ (a x : ℕ) where

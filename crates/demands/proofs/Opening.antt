@@ -18,7 +18,7 @@ use Rattle.frame.specs.Head.{headerOf, headerBytes}
 use Rattle.state.specs.declared.Exchange.{Exchange}
 use Rattle.state.specs.declared.Login.{Login}
 use Rattle.state.specs.declared.Port.{Port}
-use Rattle.state.proofs.Places.{found-has}
+use Rattle.state.proofs.Places.{found-has, stored-at}
 use Rattle.state.specs.declared.Unit.{Unit}
 use Rattle.state.specs.Kinds.{kindRead, kindInquiry, kindInquiryOther, kindSenseNone, kindSenseReset, kindSenseCleared, kindSenseOther}
 use Rattle.state.specs.Standing.{Open}
@@ -167,8 +167,8 @@ module _ {code : ℕ} {wish : List ℕ → Login → Exchange} (opens : Opens co
 
   -- its login stands where it stood, and the exchange at its place
   login-later : loginAt later seat ≡ withExchange told place opened
-  unfolding findLogin loginAt withLogin
-  login-later = getD-set-same (d .port .logins) seat (withExchange told place opened) emptyLogin (found-below emptyLogin (hasAddress (head .«s_id»)) (d .port .logins) (opens-at .seat))
+  unfolding findLogin
+  login-later = stored-at (d .port) seat (withExchange told place opened) (found-below emptyLogin (hasAddress (head .«s_id»)) (d .port .logins) (opens-at .seat))
 
   place-inside : place < length (told .places)
   unfolding freeExchange

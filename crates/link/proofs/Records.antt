@@ -7,7 +7,6 @@ use native.Mathlib.Omega.{arith}
 use native.Mathlib.Nat.{add-zero}
 use lib.Dec.{eqb}
 use lib.ListN.{length, getD, set}
-use lib.Seq.{getD-set-same}
 use borrow.Author.Tests.{not-true}
 use Rattle.tables.specs.declared.Found.{Found}
 use Rattle.tables.specs.declared.Found.the-variants.{At, Nothing}
@@ -21,7 +20,7 @@ use Rattle.state.specs.declared.Change.{Change}
 use Rattle.state.specs.declared.Change.the-variants.{Keep, EndAll, EndLogin, Unprove, EndUnproven, EndExchangesOf, Reset, Clear}
 use Rattle.state.specs.Changes.{emptyLogin, isUsed, hasAddress, loginAt, withLogin, withProven, withoutExchanges, freedOf, endedOf, unproven, verified, abortedOf, resetOf, losesTo, clearedBy, changedOf, changedAll}
 use Rattle.state.specs.Tables.{isFree, findLogin, freeLogin, loginIn, loginOf}
-use Rattle.state.proofs.Places.{found-has, found-used}
+use Rattle.state.proofs.Places.{found-has, found-used, stored-at}
 use Rattle.formed.specs.Formed.{apartAddress}
 use Rattle.calls.specs.declared.Turn.{Turn}
 use Rattle.calls.specs.Turn.{portAfter}
@@ -173,12 +172,8 @@ module _ (p : Port) (a i : ℕ) (l : Login) (below : i < length (p .logins)) (no
   unfolding findLogin withLogin
   found-put = first-set a (p .logins) 0 i l below none h ∙ ap At (let e : 0 + i ≡ i = omega arith in e)
 
-  stands-put : loginAt (withLogin p i l) i ≡ l
-  unfolding loginAt withLogin
-  stands-put = getD-set-same (p .logins) i l emptyLogin below
-
   put-record : recordOf (withLogin p i l) a ≡ recordAt l
-  put-record = found-record (withLogin p i l) a i found-put ∙ ap recordAt stands-put
+  put-record = found-record (withLogin p i l) a i found-put ∙ ap recordAt (stored-at p i l below)
 
 -- no login behind one of an address has it, where the addresses are distinct; so none has it once that one ends
 none-behind : (a : ℕ) (l : Login) (ls : List Login) (k : ℕ) → hasAddress a l ≡ true → all (apartAddress l) ls ≡ true → firstFrom (hasAddress a) k ls ≡ Nothing

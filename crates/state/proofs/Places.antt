@@ -38,6 +38,11 @@ pub found-used : (p : Port) (a i : ℕ) → findLogin p a ≡ At i → isUsed (l
 unfolding hasAddress
 found-used p a i e = and-left (isUsed (loginAt p i)) (eqb (loginAt p i .address) a) (found-has p a i e)
 
+-- a login stored at a place of the table stands there
+pub stored-at : (p : Port) (i : ℕ) (m : Login) → i < length (p .logins) → loginAt (withLogin p i m) i ≡ m
+unfolding loginAt withLogin
+stored-at p i m below = getD-set-same (p .logins) i m emptyLogin below
+
 module _ (p : Port) (a x i j : ℕ) (e : lookupOf p a x ≡ Open i j) where
   -- an open exchange stands at the login of its address
   pub open-place : findLogin p a ≡ At i
@@ -74,14 +79,12 @@ module _ (p : Port) (a x i j : ℕ) (e : lookupOf p a x ≡ Open i j) where
 
   -- after a change of the exchange it stands at its place
   pub exchange-stored : (f : Exchange) → exchangeAt (loginAt (withLogin p i (withExchange (loginAt p i) j f)) i) j ≡ f
-  unfolding loginAt withLogin exchangeAt withExchange
+  unfolding exchangeAt withExchange
   exchange-stored f =
-      let l = getD (p .logins) i emptyLogin in
-      ap (λ m. getD (m .places) j emptyExchange) (getD-set-same (p .logins) i _ emptyLogin login-inside) ∙ getD-set-same (l .places) j f emptyExchange exchange-inside
+      ap (λ m. getD (m .places) j emptyExchange) (stored-at p i (withExchange (loginAt p i) j f) login-inside) ∙ getD-set-same (loginAt p i .places) j f emptyExchange exchange-inside
 
   pub login-stored : (m : Login) → loginAt (withLogin p i m) i ≡ m
-  unfolding loginAt withLogin
-  login-stored m = getD-set-same (p .logins) i m emptyLogin login-inside
+  login-stored m = stored-at p i m login-inside
 
   found-again : (f : Exchange) → findLogin (withLogin p i (withExchange (loginAt p i) j f)) a ≡ At i
   unfolding findLogin withLogin withExchange loginAt hasAddress
