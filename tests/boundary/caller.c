@@ -70,6 +70,7 @@ static bool seated(const struct jhartupal_drive *before, const struct jhartupal_
 }
 
 void frame_told(const struct jhartupal_drive *before, const struct jhartupal_drive *after, const uint8_t *frame, uint64_t said) {
+    promise(said == 0 || (said >= 28 && said <= 140), "a frame in is answered with %llu bytes", (unsigned long long)said);
     if (said == 0) {
         promise(frame[0] == 0x06 ? opened(before, after, frame) : frame[0] == 0x23 && same(before, after), "a frame with R_CTL %02X is answered with 0", frame[0]);
     } else if (frame[0] == 0x22 && frame[24] == 0x03 && reply[24] == 0x02) {
