@@ -1,8 +1,8 @@
 /* Jhartupal: the drive side of a private Fibre Channel loop, from a received frame to the reply frame. C99, C11 and C++17.
  *
- * Document 01 (the scope and its exact rules) decides what the drive answers. W18/B2 and the like are words and bytes of a payload, counted
- * from 0; 29h is hexadecimal. Frames, replies, windows, names and accept words are bytes in the order of the loop, numbers in them big-endian;
- * the other fields of a state are the machine's own numbers.
+ * Document 01 (the scope and its exact rules) decides what the drive answers, and request 1 of document 02 (the host that moved) where it says
+ * otherwise. W18/B2 and the like are words and bytes of a payload, counted from 0; 29h is hexadecimal. Frames, replies, windows, names and accept
+ * words are bytes in the order of the loop, numbers in them big-endian; the other fields of a state are the machine's own numbers.
  *
  * Each function answers the length of the reply, which then stands at the front of the reply buffer, the bytes after it as they were;
  * 0 is nothing to send. Or it answers JHARTUPAL_REFUSED plus a number of enum jhartupal_refusal, and then every field of *d and every
@@ -46,7 +46,7 @@ extern "C" {
 
 /* The version: of the header, of the library, and of the state. A state that one version has written is none of another. */
 #define JHARTUPAL_VERSION_MAJOR 1
-#define JHARTUPAL_VERSION_MINOR 0
+#define JHARTUPAL_VERSION_MINOR 1
 
 /* An answer from here on is a refusal: this plus its number. */
 #define JHARTUPAL_REFUSED 65536
@@ -89,7 +89,7 @@ enum jhartupal_refusal {
 #define JHARTUPAL_STACK_MAKE 5632  /* jhartupal_make */
 #define JHARTUPAL_STACK_FRAME 2816 /* jhartupal_frame */
 #define JHARTUPAL_STACK_NEXT 2560  /* jhartupal_next */
-#define JHARTUPAL_STACK_EVENT 1024 /* jhartupal_loop_reset, jhartupal_time_over, jhartupal_power_on */
+#define JHARTUPAL_STACK_EVENT 1280 /* jhartupal_loop_reset, jhartupal_time_over, jhartupal_power_on */
 
 /* What an exchange sends. */
 enum jhartupal_kind {
@@ -137,8 +137,13 @@ enum jhartupal_attention {
  *     W20/B1     not 0                                        accept[77]: of the accept words it is 1
  * The other bytes may be any, and accept words are sent as they are.
  *
- * A PLOGI that is accepted takes the lowest free place for a login, after the sender's own login, if any, has ended; a command that has bytes to
- * send takes the lowest free place of its login. Where a login or an exchange ends, every field of its place is 0 then. */
+ * A PLOGI of right size ends the sender's own login, if any, with its exchanges, accepted or not. Where it passes the rules it also ends the login
+ * of its port name at another address, if any, with its exchanges: that host has moved; node names are not compared. The new login then takes the
+ * lowest free place; where there is none, no login has ended. The old address is not told: its next frame finds no login, and the next frame of an
+ * ended exchange is refused with 9. A PLOGI that fails a rule ends no other login than the sender's.
+ *
+ * A command that has bytes to send takes the lowest free place of its login. Where a login or an exchange ends, every field of its place is 0 then,
+ * but for what takes that place in the same call. */
 
 /* A place for an open exchange. Where kind is 0 it is free, and nothing is asked of its other fields. Else its login is paired. */
 struct jhartupal_exchange {
@@ -162,7 +167,7 @@ struct jhartupal_login {
     uint8_t sequences;                 /* W20/B1 of its PLOGI, not 0 */
     uint16_t size;                     /* low 12 bits of W18/B2-3 of its PLOGI: 256 to 2,112, a multiple of 4 */
     uint32_t address;                  /* its address: valid, not the drive's, no other login's */
-    uint8_t port_name[JHARTUPAL_NAME]; /* its port name, not all 0 */
+    uint8_t port_name[JHARTUPAL_NAME]; /* its port name: not all 0, no other login's */
     uint8_t node_name[JHARTUPAL_NAME]; /* its node name, not all 0 */
     /* 4 bytes of padding */
     struct jhartupal_exchange places[JHARTUPAL_PLACES];

@@ -106,7 +106,7 @@ def folded(steps):
         yield from run
 
 
-def step(p, s, allowed, meaning, refusal):
+def step(p, s, allowed, moved, meaning, refusal):
     """Draws a step; answers the heights at which the drive has taken it and the host has heard of it."""
     note = refusal(s.refused) if s.refused else ""
     p.y += 0 if s.letter == "N" and s.reply else 5
@@ -116,7 +116,7 @@ def step(p, s, allowed, meaning, refusal):
         y = p.asked("the port asks for " + s.name, note) if s.refused else p.arrow(False, p.of(s.body[3], s.name), "", "many")
     elif s.letter in "FL":
         notes = ["lost"] if s.letter == "L" else [note] if note else []
-        notes += [] if allowed else ["against the host's rules"]
+        notes += ([] if allowed else ["against the host's rules"]) + ([moved] if moved else [])
         name = p.of(s.frame[7], s.name) if len(s.frame) >= 24 else s.name
         y = p.arrow(True, name, "; ".join(notes), "lost" if s.letter == "L" else "refused" if note else "")
     taken = y if s.letter != "N" else p.y
@@ -146,7 +146,8 @@ def draw(steps, meaning, refusal):
     header(p, hosts, {s.body[11] for s in steps if s.letter == "S" and not s.refused})
     for s in folded(steps):
         beliefs, records = dict(sides.beliefs), {a: sides.record(a) for a in hosts}
-        taken, heard = step(p, s, sides.take(s, meaning), meaning, refusal)
+        allowed = sides.take(s, meaning)
+        taken, heard = step(p, s, allowed, sides.moved, meaning, refusal)
         new = [p.of(a, words(sides.record(a))) for a in hosts if sides.record(a) != records[a]]
         p.side(DRIVE + 12, taken, "start", ["out"] if s.letter == "S" and not s.refused else new)
         p.side(HOST - 12, heard, "end", [p.of(a, words(sides.beliefs[a])) for a in hosts if sides.beliefs[a] != beliefs[a]])

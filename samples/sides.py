@@ -1,7 +1,8 @@
 """What each host of a session believes, and the drive's record of it, step by step.
 
-A belief is document 01's ("01") "The host's rules" over what the host sent and what came back to it. The record is not printed by recorder: it is what 01
-makes of the drive's own answers, of those that the loop lost too. tests/show holds it to the tables that the program vectors prints.
+A belief is document 01's ("01") "The host's rules" over what the host sent and what came back to it. The record is not printed by recorder: it is what 01,
+and request 1 of document 02, make of the drive's own answers, of those that the loop lost too. tests/show holds it to the tables that the program vectors
+prints.
 """
 from collections import namedtuple
 
@@ -63,11 +64,16 @@ def doubted(states):
     return {a: held._replace(proven=False) if isinstance(held, Held) else held for a, held in states.items()}
 
 
+def port_name(held):
+    """That of a login; the names are kept one after the other."""
+    return held.kept[0][:8] if isinstance(held, Held) else None
+
+
 class Sides:
-    """Beliefs and records by address: 01: "unsure at first", and a drive that is made has no logins."""
+    """Beliefs and records by address: 01: "unsure at first", and a drive that is made has no logins. `moved` says in words whose login the last step ended."""
 
     def __init__(self, hosts=()):
-        self.own, self.beliefs, self.records = None, dict.fromkeys(hosts, UNSURE), {}
+        self.own, self.beliefs, self.records, self.moved = None, dict.fromkeys(hosts, UNSURE), {}, ""
 
     def host(self, s):
         """The address whose frame to this drive a step is, or None; refusal 5 says that it is no host's."""
@@ -76,6 +82,7 @@ class Sides:
 
     def take(self, s, meaning):
         """Follows a step, and answers whether the host's rules allow it."""
+        self.moved = ""
         if s.letter in "SE":
             self.event(s)
         host = self.host(s)
@@ -84,8 +91,17 @@ class Sides:
             return True
         before, answer = self.beliefs.get(host, UNSURE), meaning(s.reply) if s.reply else ""
         self.records[host] = recorded(kind, s.frame, answer, self.records.get(host, OUT))
+        if kind == "PLOGI" and answer == "ACC":
+            self.move(host)
         self.beliefs[host] = believed(kind, s.frame, "" if s.lost else answer, before)
         return allowed(kind, s.frame, before)
+
+    def move(self, host):
+        """02, request 1: an accepted PLOGI "with a port name logged in at another address, ends that login"; who believes in it is not told."""
+        name = port_name(self.records[host])
+        for old in [a for a, held in self.records.items() if a != host and port_name(held) == name]:
+            self.records[old] = OUT
+            self.moved = "%02X has moved to %02X: its login at %02X ends" % (old, host, old)
 
     def event(self, s):
         """01: "loop reset marks every login unproven; verification time over ends the unproven ones; power on ends all"; a host sees the first alone."""

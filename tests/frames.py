@@ -243,6 +243,11 @@ def login(host, code=0x03, ox_id=0x0200, **changes):
     return frame(host, ox_id, bytes(p))
 
 
+def login_as(host, other, **changes):
+    """A PLOGI with the port name of the host at another address, and a node name of its own."""
+    return login(host, **{"port": names_of(other)[0], **changes})
+
+
 def pdisc(host, **changes):
     return login(host, 0x50, 0x0300, **changes)
 

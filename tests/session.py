@@ -1,7 +1,7 @@
 #!/usr/bin/env python3
-"""A session with the program recorder: its records, and the answer that document 01 ("01") asks for to each.
+"""A session with the program recorder: its records, and the answer that document 01 ("01") asks for to each, or a request of document 02 ("02, 1").
 
-Usage: tests/session.py stdin | stdout | sample | lost
+Usage: tests/session.py stdin | stdout | sample | lost | moved
 
 Nothing here comes from a run of the program: the replies are put together by hand (frames.py) from 01's sentences, the form of records and
 answers stands at the head of crates/recorder/src/main.rt. Refusal 2 is never asked for: a drive is only made where its setup passes, and
@@ -408,7 +408,88 @@ def events():
     sends("ninth-login", login(0x1B), rjt("09,29"))  # "P: ninth login 09,29"
 
 
-STORED = (no_drive_yet, setups, no_calls, frame_refusals, next_refusals, a_host, reading, far, many_at_once, events)
+EIGHT = "01" "02" "04" "08" "0F" "10" "17" "18"
+
+
+def stands(name, *hosts):
+    """The logins of these hosts stand, with their own names; ADISC changes nothing of a proven one."""
+    for host in hosts:
+        sends("%s-%02X-stands" % (name, host), adisc(host), adisc_acc)
+
+
+# a PLOGI that fails each word test by itself
+FAULTS = (("03,0F", {"w2": b"\x00\xFC"}), ("03,0E", {"node": bytes(8)}), ("03,01", {"w17": b"\x7F"}), ("03,07", {"w18": b"\x08\x44"}), ("03,09", {"w19": b"\x00"}),
+          ("03,01", {"w20": b"\x00"}))
+
+
+def moved_when_full():
+    """02, 1: "A PLOGI whose parameters pass, with a port name logged in at another address, ends that login and its exchanges before the room test"."""
+    fresh(EIGHT, "01" "08")
+    f, g = (cmnd(host, 0x0901, read(40, 12), 6144) for host in (0x08, 0x01))
+    sends("moved-read", f, nothing)
+    sends("moved-other-read", g, nothing)
+    asks("moved-read-0", f, data(f, 0, 0, unit(40, 2048), False), 40, unit(40, 2048))
+    for name, new in (("name", login(0x1B)), ("node-name", login(0x1B, node=names_of(0x08)[1]))):
+        sends("moved-new-" + name, new, rjt("09,29"))  # nobody has this port name, and there is no room
+    for pair, changes in FAULTS:  # all word tests come first, so 08 stays
+        sends("moved-" + "".join(changes), login_as(0x1B, 0x08, **changes), rjt(pair))
+        stands("moved-" + "".join(changes), 0x08)
+    sends("moved-size", login_as(0x1B, 0x08)[:-4], rjt("03,00"))
+    asks("moved-read-1", f, data(f, 1, 2048, unit(44, 2048), False), 44, unit(44, 2048))  # with its exchange
+    stands("moved-not-yet", *bytes.fromhex(EIGHT))
+    sends("moved", login_as(0x1B, 0x08, w18=b"\x04\x00"), login_acc)
+    for host in (0x08, 0x1B):  # it has ended, and is none of the new login's
+        asks_in_vain("moved-read-%02X" % host, 9, host, 0x0901, 48, unit(48, 2048))
+    sends("moved-old", test_unit(0x08), logout)  # "no login": the host was not told, and its next frame draws the drive LOGO
+    sends("moved-no-room", login(0x1D), rjt("09,29"))
+    sends("moved-names", adisc(0x1B, port=names_of(0x08)[0]), adisc_acc)  # the node name is its own
+    sends("moved-prli", prli(0x1B), prli_acc)
+    sends("moved-attention", test_unit(0x1B), check("06/29/00"))
+    reads("moved-reads", 0x1B, 0x0901, 40, 8, 4096, good(), size=1024)
+    asks("moved-other-0", g, data(g, 0, 0, unit(40, 2048), False), 40, unit(40, 2048))
+    sends("moved-other", test_unit(0x01), good())
+    stands("moved", 0x01, 0x02, 0x04, 0x0F, 0x10, 0x17, 0x18)
+
+
+def moved_both_end():
+    """The sender's login and that of its port name end both; a PLOGI that fails a word test ends the sender's alone."""
+    fresh(EIGHT, "18")
+    for host in (0x01, 0x18):  # at the first place and at the last
+        sends("there-%02X" % host, login_as(0x1B, host), login_acc)
+        sends("there-%02X-old" % host, adisc(host), logout)
+        sends("and-back-%02X" % host, login(host), login_acc)
+    sends("and-back-unpaired", test_unit(0x18), logout)  # the pairing ended with the login; so does the login now
+    sends("and-back-again", login(0x18), login_acc)
+    sends("both-end", login_as(0x10, 0x04), login_acc)
+    sends("both-end-old", adisc(0x04), logout)
+    sends("both-end-room", login(0x1D), login_acc)  # one place is free then, and not two
+    sends("both-end-no-room", login(0x1E), rjt("09,29"))
+    stands("both-end", 0x01, 0x02, 0x08, 0x0F, 0x17, 0x18, 0x1D)
+    sends("own-ends", login_as(0x02, 0x01, w20=b"\x00"), rjt("03,01"))
+    sends("own-ends-own", adisc(0x02), logout)
+    stands("own-ends", 0x01)
+    event("reset", LOOP_RESET)
+    sends("moved-unproven", login_as(0x02, 0x08), login_acc)  # an unproven login ends like any other
+    sends("moved-unproven-old", adisc(0x08), logout)
+    sends("moved-proven", prli(0x02), prli_acc)
+
+
+def names_apart():
+    """"port name" is W5-6 alone, all eight bytes, compared with logins and by PLOGI alone."""
+    fresh("01")
+    port, node = names_of(0x01)
+    others = [("bit-in-%d" % at, {"port": port[:at] + bytes([port[at] ^ 0x80 >> at]) + port[at + 1:]}) for at in range(8)]
+    for name, changes in others + [("one-node", {"node": node}), ("node-as-port", {"port": node}), ("drive's", {"port": OWN_PORT})]:
+        sends("name-" + name, login(0x02, **changes), login_acc)
+        stands("name-" + name, 0x01)
+        sends("name-%s-too" % name, adisc(0x02, **changes), adisc_acc)
+    for name, f in (("pdisc", pdisc(0x02, port=port)), ("adisc", adisc(0x02, port=port))):
+        sends("own-login", login(0x02), login_acc)
+        sends("another's-name-" + name, f, logout)  # it differs from the sender's own login
+        stands("another's-name-" + name, 0x01)
+
+
+STORED = (no_drive_yet, setups, no_calls, frame_refusals, next_refusals, a_host, reading, far, many_at_once, events, moved_when_full, moved_both_end, names_apart)
 LONG = (windows_too_long,)  # not in the stored run: half a megabyte of windows and bodies
 
 
@@ -459,7 +540,26 @@ def lost():
     sends("logo-again", changed(logo(0x01), (17, 0x01)), acc)
 
 
-SHOWN = {"sample": sample, "lost": lost}  # the sessions of samples/
+def moved():
+    """After a loop reset in the midst of a READ a host comes back at another address; another host stays where it is."""
+    fresh("01" "08", "01" "08")
+    f = cmnd(0x08, 0x0A01, read(40, 8), 4096)
+    sends("read", f, nothing)
+    asks("read-0", f, data(f, 0, 0, unit(40, 2048), False), 40, unit(40, 2048))
+    event("reset", LOOP_RESET)
+    sends("pdisc", pdisc(0x01), login_acc)
+    port, node = names_of(0x08)
+    sends("plogi-moved", login(0x1B, port=port, node=node), login_acc)
+    asks_in_vain("read-ended", 9, 0x08, 0x0A01, 44, unit(44, 2048))
+    sends("prli", prli(0x1B), prli_acc)
+    sends("attention", test_unit(0x1B), check("06/29/00"))
+    reads("read-again", 0x1B, 0x0A01, 40, 8, 4096, good())
+    sends("old-address", adisc(0x08), logout)
+    sends("other-host", test_unit(0x01), good())
+    calls[:] = [one for one in calls if not one.name.endswith("-freed")]  # a refused call changes nothing
+
+
+SHOWN = {"sample": sample, "lost": lost, "moved": moved}  # the sessions of samples/
 
 if __name__ == "__main__":
     part = sys.argv[1] if len(sys.argv) == 2 else ""

@@ -4,7 +4,7 @@
 Usage: tests/vectors.py stdin | stdout
 
 Nothing here comes from a run of the program. Each answer is put together by hand (frames.py) from the sentence of document 01 ("01")
-that stands beside it; the program `vectors` reads the records and must write these lines.
+that stands beside it, or of a request of document 02 ("02, 1"); the program `vectors` reads the records and must write these lines.
 """
 import sys
 
@@ -198,8 +198,84 @@ def places():
     answers("logo", logo(0x01), acc, ". 1Dp29 04p29 08p29 1Bp29 . 17p29 18p29")
     answers("moves-down", login(0x18), login_acc, "18p29 1Dp29 04p29 08p29 1Bp29 . 17p29")  # its old place is free and is not the lowest
     fresh("01")
-    answers("one-port-name", login(0x02, port=names_of(0x01)[0]), login_acc, "01p29 02p29")  # "not compared between addresses"
-    answers("one-name", login(0x04, port=names_of(0x01)[0], node=names_of(0x01)[1]), login_acc, "01p29 02p29 04p29")
+    answers("one-port-name", login(0x02, port=names_of(0x01)[0]), login_acc, "02p29")  # 02, 1: the login at the other address ends
+    answers("one-name", login(0x04, port=names_of(0x01)[0], node=names_of(0x01)[1]), login_acc, "04p29")
+
+
+def moved_when_full():
+    """02, 1: "A PLOGI whose parameters pass, with a port name logged in at another address, ends that login and its exchanges before the room test"."""
+    ready("01020408" "0F101718")
+    eight = "01P 02P 04P %s 0FP 10P 17P 18P"
+    answers("moved-read", cmnd(0x08, 0x0101, read(40, 8), 4096), nothing, eight % "08P:0101")
+    for name, pair, changes in WORD_TESTS:  # all word tests come first: the sender has no login, and the other stays
+        if "port" not in changes:
+            answers("moved-" + name, login_as(0x1B, 0x08, **changes), rjt(pair), eight % "08P:0101")
+    answers("moved-size", login_as(0x1B, 0x08)[:-4], rjt("03,00"), eight % "08P:0101")  # "Of right size"
+    answers("moved-ninth", login(0x1B), rjt("09,29"), eight % "08P:0101")  # a new name: no room, and nothing is changed
+    answers("moved-node-name", login(0x1B, node=names_of(0x08)[1]), rjt("09,29"), eight % "08P:0101")  # "port name" is W5-6 alone
+    shows("moved-not-yet", 3, "08P", exchange(0x0101, "READ", 4096, 4096, 40, 8))
+    others = {"w18": b"\x04\x00", "w19": b"\x7E", "w20": b"\x03"}
+    answers("moved-full", login_as(0x1B, 0x08, **others), login_acc, eight % "1Bp29")
+    keeps("moved-kept", 3, "01" "01" "00" "29" "7E" "03" "0400" "0000001B 2000525400120008 100052540012001B")  # nothing of the old login but its port name
+    refuses("moved-next", 9, "N", asking(0x08, 0x0101), eight % "1Bp29")  # its exchange has ended
+    refuses("moved-next-here", 9, "N", asking(0x1B, 0x0101), eight % "1Bp29")  # and is none of the new login's
+    answers("moved-told", test_unit(0x08), logout, eight % "1Bp29")  # "no login": its next frame draws the drive LOGO
+    answers("moved-ninth-again", login(0x08, port=names_of(0x1B)[0]), rjt("09,29"), eight % "1Bp29")
+    answers("moved-back", login(0x08), login_acc, eight % "08p29")
+
+
+def moved_to_a_place():
+    """Both logins end, the sender's and that of its port name; "the lowest free place" is looked for after that."""
+    eight = "01020408" "0F101718"
+    fresh(eight)
+    for n, host in enumerate(bytes.fromhex(eight)):
+        places = ["%02Xp29" % h for h in bytes.fromhex(eight)]
+        answers("moved-from-%d" % n, login_as(0x1B, host), login_acc, " ".join(places[:n] + ["1Bp29"] + places[n + 1:]))
+        answers("moved-back-to-%d" % n, login(host), login_acc, " ".join(places))
+    answers("moved-down", login_as(0x10, 0x04), login_acc, "01p29 02p29 10p29 08p29 0Fp29 . 17p29 18p29")  # from place 5 to 2
+    fresh(eight)
+    answers("moved-up", login_as(0x04, 0x10), login_acc, "01p29 02p29 04p29 08p29 0Fp29 . 17p29 18p29")  # the name at 5, the sender at 2
+    fresh(eight)
+    answers("logo", logo(0x02), acc, "01p29 . 04p29 08p29 0Fp29 10p29 17p29 18p29")
+    answers("moved-lower", login_as(0x10, 0x08), login_acc, "01p29 10p29 04p29 . 0Fp29 . 17p29 18p29")  # place 1 was free before
+    answers("moved-rejected", login_as(0x17, 0x18, w19=LOW), rjt("03,09"), "01p29 10p29 04p29 . 0Fp29 . . 18p29")  # the sender's own alone
+    fresh("0102")
+    answers("names-swapped", login_as(0x01, 0x02), login_acc, "01p29")
+    answers("names-swapped-both", login_as(0x02, 0x01), login_acc, "01p29 02p29")  # nobody has that name now
+    answers("names-swapped-back", login(0x01), login_acc, "01p29")
+    answers("logo", logo(0x01), acc, "")
+    answers("moved-after-logo", login_as(0x02, 0x01), login_acc, "02p29")
+
+
+def moved_whatever_it_holds():
+    """An unproven, unpaired or exchange-holding login at the other address ends like any other; no third login is touched."""
+    ready("010204")
+    opens(0x01, 0x0101, "01P:0101 02P 04P")
+    opens(0x02, 0x0101, "01P:0101 02P:0101 04P")
+    opens(0x04, 0x0101, "01P:0101 02P:0101 04P:0101")
+    answers("moved-both-open", login_as(0x02, 0x01), login_acc, "02p29 . 04P:0101")
+    event("reset", LOOP_RESET, "02u29 . 04U:0101")
+    answers("moved-unproven", login_as(0x08, 0x04), login_acc, "02u29 08p29")
+    answers("moved-unpaired", login_as(0x01, 0x01), login_acc, "01p29 08p29")  # 02 has the port name of 01
+    event("verification-over", TIME_OVER, "01p29 08p29")
+
+
+def names_apart():
+    """"port name" is W5-6 alone, all eight bytes; other logins are compared by PLOGI alone."""
+    fresh("01")
+    port, node = names_of(0x01)
+    for at in range(8):  # a bit in each byte, the first of the first to the last of the last
+        other = port[:at] + bytes([port[at] ^ 0x80 >> at]) + port[at + 1:]
+        answers("port-name-%d" % at, login(0x02, port=other), login_acc, "01p29 02p29")
+    answers("one-node-name", login(0x02, node=node), login_acc, "01p29 02p29")
+    answers("node-as-port", login(0x02, port=node, node=port), login_acc, "01p29 02p29")
+    answers("port-of-the-drive", login(0x02, port=OWN_PORT), login_acc, "01p29 02p29")  # the drive is no login
+    for name, f in (("pdisc", pdisc(0x02, port=port)), ("pdisc-both", pdisc(0x02, port=port, node=node)), ("adisc", adisc(0x02, port=port)),
+                    ("adisc-both", adisc(0x02, port=port, node=node))):
+        answers("plogi", login(0x02), login_acc, "01p29 02p29")
+        answers("name-of-another-" + name, f, logout, "01p29")  # it differs from the login's own
+        answers("name-of-another-%s-no-login" % name, f, logout, "01p29")
+        answers("plogi-rejected", login_as(0x02, 0x01, w20=LOW), rjt("03,01"), "01p29")
 
 
 def verified():
@@ -936,8 +1012,9 @@ def refusals():
         refuses("unproven-" + name, 7, "F", framed(g), "01U")
 
 
-for part in (no_drive_yet, a_linux_host, other_codes_and_sizes, no_login, plogi_tests, places, verified, other_names, pairing, logo_and_rrq,
-             aborts, headers, unnamed, no_paired_login, response_codes, target_reset, clear_task_set, abort_task_set, overlapped,
+for part in (no_drive_yet, a_linux_host, other_codes_and_sizes, no_login, plogi_tests, places, moved_when_full, moved_to_a_place,
+             moved_whatever_it_holds, names_apart, verified, other_names, pairing, logo_and_rrq, aborts, headers, unnamed,
+             no_paired_login, response_codes, target_reset, clear_task_set, abort_task_set, overlapped,
              other_units, attentions, codes_and_writes, fields, edges, no_read_bit, room, wanted, unnamed_of_commands,
              refusals, reading, far, going_round, made_data, next_refusals):
     part()

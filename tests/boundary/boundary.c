@@ -87,6 +87,7 @@ int main(void) {
     header();
     layout();
     session();
+    moved();
     example();
     refusals();
     damages();

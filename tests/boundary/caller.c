@@ -1,6 +1,9 @@
 /* What a caller tells by the header alone, held to every call: which place is taken and what a freed one holds, what 0 says of a frame in, and what a next frame answers. */
 #include "check.h"
 
+/* Bytes of a login's own fields, before its padding and its places. */
+enum { LOGIN_FIELDS = offsetof(struct jhartupal_login, node_name) + JHARTUPAL_NAME };
+
 static uint32_t number(const uint8_t *at, size_t bytes) {
     uint32_t n = 0;
     for (size_t i = 0; i < bytes; i++) {
@@ -35,11 +38,11 @@ static bool zeros(const void *at, size_t n) {
     return memcmp(at, none, n) == 0;
 }
 
-/* "Where a login or an exchange ends, every field of its place is 0 then." */
+/* "Where a login or an exchange ends, every field of its place is 0 then, but for what takes that place in the same call." */
 void freed(const struct jhartupal_drive *before, const struct jhartupal_drive *after) {
     for (size_t i = 0; i < JHARTUPAL_LOGINS; i++) {
         const struct jhartupal_login *l = &before->port.logins[i], *m = &after->port.logins[i];
-        promise(l->used == 0 || m->used == 1 || (zeros(m, offsetof(struct jhartupal_login, node_name) + JHARTUPAL_NAME) && zeros(m->places, sizeof m->places)),
+        promise(l->used == 0 || m->used == 1 || (zeros(m, LOGIN_FIELDS) && zeros(m->places, sizeof m->places)),
                 "the login at place %zu has ended, and its place is not all 0", i);
         for (size_t j = 0; j < JHARTUPAL_PLACES; j++) {
             promise(l->places[j].kind == JHARTUPAL_FREE || m->places[j].kind != JHARTUPAL_FREE || zeros(&m->places[j], sizeof m->places[j]),
@@ -60,21 +63,54 @@ static bool opened(const struct jhartupal_drive *before, const struct jhartupal_
     return j < JHARTUPAL_PLACES && j == exchange_of(&after->port.logins[i], (uint16_t)number(frame + 16, 2));
 }
 
-/* "the lowest free place for a login, after the sender's own login, if any, has ended" */
-static bool seated(const struct jhartupal_drive *before, const struct jhartupal_drive *after, uint32_t from) {
+/* What a PLOGI ends: "the sender's own login", and "where it passes the rules .. the login of its port name"; name is 0 where it does not pass. */
+static bool ended_by(const struct jhartupal_login *l, uint32_t from, const uint8_t *name) {
+    return l->used == 1 && (l->address == from || (name != 0 && memcmp(l->port_name, name, JHARTUPAL_NAME) == 0));
+}
+
+/* "The new login then takes the lowest free place" */
+static bool seated(const struct jhartupal_drive *before, const struct jhartupal_drive *after, uint32_t from, const uint8_t *name) {
     size_t i = 0;
-    while (i < JHARTUPAL_LOGINS && before->port.logins[i].used == 1 && before->port.logins[i].address != from) {
+    while (i < JHARTUPAL_LOGINS && before->port.logins[i].used == 1 && !ended_by(&before->port.logins[i], from, name)) {
         i++;
     }
     return i < JHARTUPAL_LOGINS && i == login_of(after, from);
+}
+
+static bool same_login(const struct jhartupal_login *l, const struct jhartupal_login *m) {
+    return memcmp(l, m, LOGIN_FIELDS) == 0 && memcmp(l->places, m->places, sizeof l->places) == 0;
+}
+
+/* Each login that the PLOGI ends is gone, and each other place is as it was, but for the one that the new login takes. */
+static bool no_other(const struct jhartupal_drive *before, const struct jhartupal_drive *after, uint32_t from, const uint8_t *name) {
+    for (size_t i = 0, seat = name != 0 ? login_of(after, from) : JHARTUPAL_LOGINS; i < JHARTUPAL_LOGINS; i++) {
+        const struct jhartupal_login *l = &before->port.logins[i], *m = &after->port.logins[i];
+        if (i != seat && !(ended_by(l, from, name) ? m->used == 0 : same_login(l, m))) {
+            return false;
+        }
+    }
+    return true;
+}
+
+/* A PLOGI that was accepted, that failed a rule (03 and an explanation), or that had a wrong size (03,00) or no room (09,29). */
+static void plogi_told(const struct jhartupal_drive *before, const struct jhartupal_drive *after, const uint8_t *frame) {
+    uint32_t from = number(frame + 5, 3);
+    if (reply[24] == 0x02) {
+        promise(seated(before, after, from, frame + 44), "an accepted PLOGI is not at the lowest free place");
+        promise(no_other(before, after, from, frame + 44), "an accepted PLOGI ends what it does not name, or leaves what it names");
+    } else if (reply[29] == 0x03 && reply[30] != 0x00) {
+        promise(no_other(before, after, from, 0), "a PLOGI that fails a rule ends another login, or leaves the sender's");
+    } else {
+        promise(same(before, after), "a PLOGI of wrong size or without room changes the state");
+    }
 }
 
 void frame_told(const struct jhartupal_drive *before, const struct jhartupal_drive *after, const uint8_t *frame, uint64_t said) {
     promise(said == 0 || (said >= 28 && said <= 140), "a frame in is answered with %llu bytes", (unsigned long long)said);
     if (said == 0) {
         promise(frame[0] == 0x06 ? opened(before, after, frame) : frame[0] == 0x23 && same(before, after), "a frame with R_CTL %02X is answered with 0", frame[0]);
-    } else if (frame[0] == 0x22 && frame[24] == 0x03 && reply[24] == 0x02) {
-        promise(seated(before, after, number(frame + 5, 3)), "an accepted PLOGI is not at the lowest free place");
+    } else if (frame[0] == 0x22 && frame[24] == 0x03) {
+        plogi_told(before, after, frame);
     }
 }
 

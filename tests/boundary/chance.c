@@ -84,12 +84,12 @@ static struct frame some_command(void) {
 }
 
 static struct frame some_request(void) {
-    uint8_t from = host();
+    uint8_t from = host(), as = below(2) == 0 ? host() : from; /* half of the PLOGIs have the port name of any host */
     uint16_t id = some_id(), size = some_size();
     switch (below(12)) {
     case 0:
     case 1:
-        return plogi(from, size);
+        return named_as(plogi(from, size), as, from);
     case 2:
         return pdisc(from, size);
     case 3:
@@ -151,19 +151,30 @@ static size_t some_length(void) {
     }
 }
 
-/* Any bytes; a good state with a few bytes changed; or what the last call left. */
+/* A place gets the port name of another. */
+static void name_again(struct jhartupal_drive *d) {
+    const struct jhartupal_login *l = &d->port.logins[below(JHARTUPAL_LOGINS)];
+    memcpy(d->port.logins[below(JHARTUPAL_LOGINS)].port_name, l->port_name, JHARTUPAL_NAME);
+}
+
+/* Any bytes; a good state with a few bytes changed or a name copied; or what the last call left. */
 static void some_state(struct jhartupal_drive *d) {
     uint32_t kind = below(16);
     if (kind < 2) {
         scatter(d, sizeof *d);
     } else if (kind < 8 || !well_formed(d)) {
         memcpy(d, &good[below(2) == 0 ? GOOD_STATES - 1 : below(GOOD_STATES)], sizeof *d);
-        spoil((uint8_t *)d, sizeof *d, below(4));
+        if (kind == 2) {
+            name_again(d);
+        } else {
+            spoil((uint8_t *)d, sizeof *d, below(4));
+        }
     }
 }
 
 enum { FRAME, NEXT, EVENT, MAKE, FUNCTIONS };
 static unsigned tally[FUNCTIONS][LAST_REFUSAL + 1]; /* of each function: the answers, and each refusal */
+static unsigned moves;                              /* accepted PLOGIs with the port name of a login at another address */
 
 static uint64_t some_next(struct jhartupal_drive *d, size_t room) {
     const struct jhartupal_login *l;
@@ -193,18 +204,31 @@ static int some_function(void) {
     return n < 32 ? FRAME : n < 58 ? NEXT : n < 62 ? EVENT : MAKE;
 }
 
+/* Whether a login of another address than the sender's has the port name W5-6 of a frame. */
+static bool names_another(const struct jhartupal_drive *d, const struct frame *f) {
+    for (size_t i = 0; i < JHARTUPAL_LOGINS; i++) {
+        const struct jhartupal_login *l = &d->port.logins[i];
+        if (l->used == 1 && l->address != f->b[7] && memcmp(l->port_name, f->b + 44, JHARTUPAL_NAME) == 0) {
+            return true;
+        }
+    }
+    return false;
+}
+
 /* A call with a state, and what is asked of it. */
 static void one_call(struct jhartupal_drive *d) {
     bool formed = well_formed(d);
     int function = some_function();
     size_t room = function == FRAME || function == NEXT ? some_room() : ROOM;
     struct frame f = function == FRAME ? some_frame() : test_unit(0x01);
+    bool another = names_another(d, &f);
     uint64_t said = function == FRAME ? frame_in(d, f.b, f.n, room) : function == NEXT ? some_next(d, room) : function == EVENT ? event(d, (int)below(3)) : some_make(d);
     bool two = said == JHARTUPAL_REFUSED + JHARTUPAL_ILL_FORMED;
     promise(two == (!formed && room >= ROOM && function != MAKE), "function %d answers %llu, and the state is%s well formed", function, (unsigned long long)said,
             formed ? "" : " not");
     promise(room >= ROOM || said == JHARTUPAL_REFUSED + JHARTUPAL_SHORT_BUFFER, "function %d answers %llu with a room of %zu", function, (unsigned long long)said, room);
     tally[function][said < JHARTUPAL_REFUSED ? 0 : (said - JHARTUPAL_REFUSED) % (LAST_REFUSAL + 1)]++;
+    moves += function == FRAME && another && f.b[24] == 0x03 && said == 28 + JHARTUPAL_ACCEPT;
     if (said < JHARTUPAL_REFUSED) {
         struct jhartupal_drive after;
         memcpy(&after, d, sizeof after);
@@ -224,6 +248,7 @@ static void varied(void) {
             }
         }
     }
+    check(moves >= 100, "only %u accepted PLOGIs end the login of another address by chance", moves);
 }
 
 void chances(void) {

@@ -44,6 +44,7 @@ const uint8_t *accept_words(void);
 void put(uint8_t *at, uint64_t number, size_t bytes);
 struct frame plogi(uint8_t host, uint16_t size);
 struct frame pdisc(uint8_t host, uint16_t size);
+struct frame named_as(struct frame f, uint8_t port, uint8_t node); /* a PLOGI or PDISC with the names of other hosts */
 struct frame prli(uint8_t host);
 struct frame prlo(uint8_t host);
 struct frame adisc(uint8_t host);
@@ -57,6 +58,7 @@ struct frame test_unit(uint8_t host);
 struct frame reading(uint8_t host, uint16_t ox_id, uint32_t block, uint16_t count, uint32_t dl);
 /* and the replies to them */
 struct frame login_acc(const struct frame *f);
+struct frame ls_rjt(const struct frame *f, uint8_t reason, uint8_t explanation);
 struct frame adisc_acc(const struct frame *f);
 struct frame prli_acc(const struct frame *f);
 struct frame drive_logo(const struct frame *f);
@@ -92,16 +94,19 @@ void next_told(const struct jhartupal_drive *before, const struct asked *a, uint
 /* session.c: a call with a reply buffer of just the room that is asked for, and that its reply is the wanted one */
 uint64_t take(struct jhartupal_drive *d, const struct frame *f);
 void replies(const char *what, uint64_t said, const struct frame *wanted);
+/* the login that an accepted PLOGI leaves at its place */
+void logged_in(struct jhartupal_login *l, const struct frame *f);
 /* a made drive; a login, paired, its attention taken; eight of them with eight exchanges each */
 void made(struct jhartupal_drive *d, uint64_t capacity);
 void paired(struct jhartupal_drive *d, uint8_t host, uint16_t size);
 void full(struct jhartupal_drive *d);
-/* formed.c: 01's "Well formed", written from its sentences */
+/* formed.c: 01's "Well formed", and 02's addition to it, written from their sentences */
 bool well_formed(const struct jhartupal_drive *d);
 
 /* the parts of the test */
 void header(void);
 void session(void);
+void moved(void);
 void refusals(void);
 void damages(void);
 void chances(void);

@@ -236,6 +236,12 @@ static void exchange_rules(const struct jhartupal_drive *good) {
     }
 }
 
+/* A login ends, and all but its exchanges stays where it was. */
+static void left_free(struct jhartupal_login *l) {
+    memset(l->places, 0, sizeof l->places);
+    l->used = 0;
+}
+
 /* "login addresses .. distinct", "OX_IDs distinct within a login": each two places; of free ones nothing is asked. */
 static void each_two(const struct jhartupal_drive *good) {
     struct jhartupal_drive d;
@@ -253,10 +259,52 @@ static void each_two(const struct jhartupal_drive *good) {
             memcpy(&d, good, sizeof d);
             d.port.logins[i].address = d.port.logins[k].address;
             sees("\"login addresses .. distinct\"", i, k, &d, ILL);
-            memset(&d.port.logins[k].places, 0, sizeof d.port.logins[k].places);
-            d.port.logins[k].used = 0;
+            left_free(&d.port.logins[k]);
             sees("the address of a free place", i, k, &d, FINE);
         }
+    }
+}
+
+/* The names of two logins: all eight bytes of the port names are compared, where both places are in use, and no node name. */
+static void two_names(const struct jhartupal_drive *good, size_t i, size_t k) {
+    struct jhartupal_drive d;
+    struct jhartupal_login *l = &d.port.logins[i], *m = &d.port.logins[k];
+    for (unsigned unused = 0; unused < 4; unused++) { /* none of the two places is free, one, the other, or both */
+        memcpy(&d, good, sizeof d);
+        memcpy(l->port_name, m->port_name, JHARTUPAL_NAME);
+        if (unused & 1) {
+            left_free(l);
+        }
+        if (unused & 2) {
+            left_free(m);
+        }
+        sees(unused == 0 ? "\"Login port names are then distinct\"" : "the port name of a free place", i, k, &d, unused == 0 ? ILL : FINE);
+    }
+    for (unsigned b = 0; b < JHARTUPAL_NAME; b++) { /* the first bit of the first byte to the last of the last */
+        memcpy(&d, good, sizeof d);
+        memcpy(l->port_name, m->port_name, JHARTUPAL_NAME);
+        l->port_name[b] = (uint8_t)(l->port_name[b] ^ 0x80 >> b);
+        sees("port names that differ in one bit", i, b, &d, FINE);
+    }
+    memcpy(&d, good, sizeof d);
+    memcpy(l->node_name, m->node_name, JHARTUPAL_NAME);
+    sees("one node name", i, k, &d, FINE);
+    memcpy(l->port_name, m->node_name, JHARTUPAL_NAME);
+    sees("a port name that is another's node name, and its own", i, k, &d, FINE);
+}
+
+/* "Login port names are then distinct" (02, request 1): each two places, whichever comes first. */
+static void each_two_names(const struct jhartupal_drive *good) {
+    struct jhartupal_drive d;
+    for (size_t i = 0; i < JHARTUPAL_LOGINS; i++) {
+        for (size_t k = 0; k < JHARTUPAL_LOGINS; k++) {
+            if (k != i) {
+                two_names(good, i, k);
+            }
+        }
+        memcpy(&d, good, sizeof d);
+        memcpy(d.port.logins[i].port_name, accept_words() + 16, JHARTUPAL_NAME);
+        sees("the drive's own port name", i, 0, &d, FINE); /* the drive is no login */
     }
 }
 
@@ -288,5 +336,6 @@ void damages(void) {
     login_rules(&good, idle, COUNT(idle), false);
     exchange_rules(&good);
     each_two(&good);
+    each_two_names(&good);
     left_over(&good);
 }

@@ -1,4 +1,4 @@
-/* "Well formed", written from document 01's sentences and the readings of them: what the drive's own test is held to. */
+/* "Well formed", written from the sentences of document 01 and of 02's request 1, and the readings of them: what the drive's own test is held to. */
 #include "check.h"
 
 /* "a low byte among FC-AL's 127 loop addresses, 00h excepted": the characters to EFh whose 8B/10B code has as many ones as zeros, which is
@@ -84,6 +84,11 @@ static bool login_fits(const struct jhartupal_login *l, uint32_t own) {
         && l->sequences != 0;
 }
 
+/* "login addresses .. distinct"; "Login port names are then distinct, and the well-formed rule says so" (02): among places in use */
+static bool apart(const struct jhartupal_login *l, const struct jhartupal_login *m) {
+    return l->used == 0 || m->used == 0 || (l->address != m->address && memcmp(l->port_name, m->port_name, JHARTUPAL_NAME) != 0);
+}
+
 bool well_formed(const struct jhartupal_drive *d) {
     const struct jhartupal_port *p = &d->port;
     if (d->unit.capacity < JHARTUPAL_LEAST_BLOCKS || d->unit.capacity > JHARTUPAL_MOST_BLOCKS || !valid_address(p->address) || !words_pass(p->accept)) {
@@ -94,8 +99,8 @@ bool well_formed(const struct jhartupal_drive *d) {
         if (l->used > 1 || (l->used == 1 && !login_fits(l, p->address)) || !places_fit(l, d->unit.capacity)) {
             return false;
         }
-        for (size_t k = 0; k < i; k++) { /* "distinct" */
-            if (l->used == 1 && p->logins[k].used == 1 && p->logins[k].address == l->address) {
+        for (size_t k = 0; k < i; k++) {
+            if (!apart(l, &p->logins[k])) {
                 return false;
             }
         }

@@ -45,9 +45,10 @@ static struct frame request(uint8_t host, uint16_t ox_id, uint8_t code, size_t s
     return f;
 }
 
-static void put_names(uint8_t *at, uint8_t host) {
-    put(at, 0x2000525400120000 + host, 8);
-    put(at + 8, 0x1000525400120000 + host, 8);
+/* The port name of one host, and the node name of the same or another. */
+static void put_names(uint8_t *at, uint8_t port, uint8_t node) {
+    put(at, 0x2000525400120000 + port, 8);
+    put(at + 8, 0x1000525400120000 + node, 8);
 }
 
 /* PLOGI, or with its code PDISC: W2, W18 size, W5-6 port name, W7-8 node name, W17 bit 31, W19/B1, W20/B1 */
@@ -55,7 +56,7 @@ static struct frame parameters(uint8_t code, uint8_t host, uint16_t size) {
     struct frame f = request(host, 0x0200, code, 116);
     uint8_t *p = f.b + 24;
     put(p + 10, size, 2);
-    put_names(p + 20, host);
+    put_names(p + 20, host, host);
     p[68] = 0x80;
     put(p + 74, size, 2);
     p[77] = 0x07;
@@ -69,6 +70,11 @@ struct frame plogi(uint8_t host, uint16_t size) {
 
 struct frame pdisc(uint8_t host, uint16_t size) {
     return parameters(0x50, host, size);
+}
+
+struct frame named_as(struct frame f, uint8_t port, uint8_t node) {
+    put_names(f.b + 44, port, node); /* W5-6, W7-8 */
+    return f;
 }
 
 /* "B1-3 = 10 00 14 and W1/B0 = 08h"; "PRLI also needs W1/B2 bit 5 and, in W4, bits 5 and 1" */
@@ -90,8 +96,8 @@ struct frame prlo(uint8_t host) {
 
 struct frame adisc(uint8_t host) {
     struct frame f = request(host, 0x0400, 0x52, 28);
-    put_names(f.b + 32, host); /* W2-3 port name, W4-5 node name (000) */
-    f.b[51] = host;            /* W6/B1-3 */
+    put_names(f.b + 32, host, host); /* W2-3 port name, W4-5 node name (000) */
+    f.b[51] = host;                  /* W6/B1-3 */
     return f;
 }
 
@@ -162,6 +168,15 @@ static struct frame acc(const struct frame *f, size_t size) {
 struct frame login_acc(const struct frame *f) {
     struct frame r = acc(f, 116);
     memcpy(r.b + 28, accept_words(), JHARTUPAL_ACCEPT);
+    return r;
+}
+
+/* "LS_RJT is 01 00 00 00, then 00, reason, explanation, 00" */
+struct frame ls_rjt(const struct frame *f, uint8_t reason, uint8_t explanation) {
+    struct frame r = acc(f, 8);
+    r.b[24] = 0x01;
+    r.b[29] = reason;
+    r.b[30] = explanation;
     return r;
 }
 

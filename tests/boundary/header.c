@@ -11,7 +11,7 @@ struct number {
 static const struct number numbers[] = {
     /* the base is 1.0, and each request of document 02 is the next minor number */
     NUMBER(VERSION_MAJOR, 1),
-    NUMBER(VERSION_MINOR, 0),
+    NUMBER(VERSION_MINOR, 1),
     /* "Numbers returned for refused calls" */
     NUMBER(SHORT_BUFFER, 1),
     NUMBER(ILL_FORMED, 2),
@@ -62,7 +62,7 @@ static const struct number numbers[] = {
     NUMBER(STACK_MAKE, 5632),
     NUMBER(STACK_FRAME, 2816),
     NUMBER(STACK_NEXT, 2560),
-    NUMBER(STACK_EVENT, 1024),
+    NUMBER(STACK_EVENT, 1280),
 };
 
 void header(void) {

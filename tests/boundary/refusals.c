@@ -106,6 +106,21 @@ static void nexts(void) {
     check(next_out(&d, hosts[0], 0x1000, block, bytes, JHARTUPAL_MOST_WINDOW, MOST_ROOM) == 24 + JHARTUPAL_LEAST_SIZE, "a window of 65,536 and a room of 4,096 are fine");
 }
 
+/* "Refusals: 2 also for the new rule" (02, request 1): in its place, after 1 and before all others. */
+static void one_name_twice(void) {
+    struct jhartupal_drive d;
+    struct frame worst = with(with(with(test_unit(hosts[0]), 8, 0x01), 7, 0x03), 3, 0xEE);
+    full(&d);
+    memcpy(d.port.logins[6].port_name, d.port.logins[1].port_name, JHARTUPAL_NAME);
+    refused("one port name twice, room of 2,135", frame_in(&d, worst.b, 20, ROOM - 1), JHARTUPAL_SHORT_BUFFER);
+    refused("one port name twice", frame_in(&d, worst.b, 20, ROOM), JHARTUPAL_ILL_FORMED);
+    refused("one port name twice, next, room of 2,135", next_out(&d, hosts[0], 0x0999, 0, identity, 0, ROOM - 1), JHARTUPAL_SHORT_BUFFER);
+    refused("one port name twice, next", next_out(&d, hosts[0], 0x0999, 0, identity, 0, ROOM), JHARTUPAL_ILL_FORMED);
+    for (int i = LOOP_RESET; i <= POWER_ON; i++) {
+        refused("one port name twice, an event", event(&d, i), JHARTUPAL_ILL_FORMED);
+    }
+}
+
 /* Memory that no drive was made in. */
 static void no_drive(void) {
     struct jhartupal_drive d;
@@ -123,5 +138,6 @@ void refusals(void) {
     setups();
     frames();
     nexts();
+    one_name_twice();
     no_drive();
 }

@@ -33,6 +33,19 @@ void paired(struct jhartupal_drive *d, uint8_t host, uint16_t size) {
     replies("attention", take(d, &h), &attention);
 }
 
+/* "keeps address, names, W18 size, W19/B1, W20/B1, proven, unpaired, attention 29h", and has no exchange */
+void logged_in(struct jhartupal_login *l, const struct frame *f) {
+    memset(l, 0, sizeof *l);
+    l->used = l->proven = 1;
+    l->attention = JHARTUPAL_RESET;
+    l->concurrent = f->b[101];
+    l->sequences = f->b[105];
+    l->size = (uint16_t)((f->b[98] << 8 | f->b[99]) & 0xFFF);
+    l->address = f->b[7];
+    memcpy(l->port_name, f->b + 44, JHARTUPAL_NAME);
+    memcpy(l->node_name, f->b + 52, JHARTUPAL_NAME);
+}
+
 /* What jhartupal_make stores, and what each request then changes. */
 static void stored(void) {
     struct jhartupal_drive d, wanted;
@@ -45,16 +58,9 @@ static void stored(void) {
     wanted.port.address = OWN;
     memcpy(wanted.port.accept, accept_words(), JHARTUPAL_ACCEPT);
     check(same(&d, &wanted), "jhartupal_make: stores its setup, and no logins");
-    take(&d, &f); /* "keeps address, names, W18 size, W19/B1, W20/B1, proven, unpaired, attention 29h" */
-    l->used = l->proven = 1;
-    l->attention = JHARTUPAL_RESET;
-    l->concurrent = 0x07;
-    l->sequences = 0x05;
-    l->size = 2048;
-    l->address = 0x01;
-    memcpy(l->port_name, f.b + 44, JHARTUPAL_NAME);
-    memcpy(l->node_name, f.b + 52, JHARTUPAL_NAME);
-    check(same(&d, &wanted), "PLOGI: keeps the login at the first place");
+    take(&d, &f);
+    logged_in(l, &f);
+    check(same(&d, &wanted) && l->concurrent == 0x07 && l->sequences == 0x05 && l->size == 2048, "PLOGI: keeps the login at the first place");
     take(&d, &g);
     l->paired = 1;
     check(same(&d, &wanted), "PRLI: marks the login paired");

@@ -1,7 +1,7 @@
 //! What is timed: a state, and a call on it.
 use crate::drive::Event;
 use crate::rule;
-use crate::scene::{logo, plogi, read, target_reset, test_unit_ready, unknown, Both, Call, HOSTS, ROOM};
+use crate::scene::{logo, plogi, plogi_as, read, target_reset, test_unit_ready, unknown, Both, Call, HOSTS, NEW, ROOM};
 use crate::side::REFUSED;
 
 pub struct Row {
@@ -72,6 +72,8 @@ fn entries() -> Vec<Row> {
     let host = HOSTS[0];
     vec![
         Row::new("PLOGI to ACC", Both::empty(), Call::frame(plogi(host, 2048)), 1, 140),
+        Row::new("PLOGI moved, one READ", reading(2048), Call::frame(plogi_as(NEW, host, 2048)), 1, 140),
+        Row::new("PLOGI moved, full drive", Both::full(2048), Call::frame(plogi_as(NEW, HOSTS[7], 2048)), 1, 140),
         Row::new("LOGO to ACC", Both::one(2048), Call::frame(logo(host)), 1, 28),
         Row::new("TEST UNIT READY", Both::one(2048), Call::frame(test_unit_ready(host)), MANY, 48),
         Row::new("READ opened", Both::one(2048), Call::frame(read(host, READ, 256)), 1, 0),

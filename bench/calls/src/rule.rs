@@ -137,6 +137,11 @@ impl Login {
             .all(|(i, e)| !e.is_open() || self.places[i + 1..].iter().all(|f| !f.is_open() || e.ox_id != f.ox_id))
     }
 
+    /// Of two that are used: not one address, and not one port name (02, request 1).
+    fn apart(&self, other: &Login) -> bool {
+        self.address != other.address && self.port_name != other.port_name
+    }
+
     fn fine(&self, capacity: u64, own: u32) -> bool {
         match self.used {
             0 => self.places.iter().all(|e| !e.is_open()),
@@ -146,8 +151,8 @@ impl Login {
     }
 }
 
-fn addresses_apart(logins: &[Login; 8]) -> bool {
-    logins.iter().enumerate().all(|(i, l)| !l.is_used() || logins[i + 1..].iter().all(|m| !m.is_used() || l.address != m.address))
+fn logins_apart(logins: &[Login; 8]) -> bool {
+    logins.iter().enumerate().all(|(i, l)| !l.is_used() || logins[i + 1..].iter().all(|m| !m.is_used() || l.apart(m)))
 }
 
 /// Whether the unit and a port are well formed.
@@ -157,5 +162,5 @@ pub fn well_formed(u: &Unit, p: &Port) -> bool {
         && valid_address(p.address)
         && accept_fits(&p.accept)
         && p.logins.iter().all(|l| l.fine(u.capacity, p.address))
-        && addresses_apart(&p.logins)
+        && logins_apart(&p.logins)
 }

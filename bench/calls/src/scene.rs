@@ -7,6 +7,8 @@ use crate::side::{Side, State, Tested};
 /// The drive's own address, and those of eight hosts.
 pub const OWN: u32 = 0xEF;
 pub const HOSTS: [u32; 8] = [0x01, 0x02, 0x04, 0x08, 0x0F, 0x10, 0x17, 0x18];
+/// An address that no host has at first.
+pub const NEW: u32 = 0x1B;
 /// The window that is lent starts at this block, and so does every READ.
 pub const BLOCK: u64 = 1000;
 const CAPACITY: u64 = 71_132_959;
@@ -43,8 +45,13 @@ fn frame(r_ctl: u8, kind: u8, from: u32, ox_id: u16, payload: &[u8]) -> Vec<u8> 
 }
 
 pub fn plogi(from: u32, size: u16) -> Vec<u8> {
+    plogi_as(from, from, size)
+}
+
+/// PLOGI with the names of the host at another address, which has moved.
+pub fn plogi_as(from: u32, host: u32, size: u16) -> Vec<u8> {
     let mut payload = vec![0x03, 0, 0, 0];
-    payload.extend(words(from as u8, size));
+    payload.extend(words(host as u8, size));
     frame(0x22, 0x01, from, 0x0100, &payload)
 }
 

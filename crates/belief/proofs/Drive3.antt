@@ -4,7 +4,7 @@ use Rattle.belief.proofs.Keep.{free-without-lapse}
 use Rattle.belief.proofs.Impostor.{kept-out}
 use Rattle.belief.proofs.Heard.{own-heard, others-unheard}
 use Rattle.belief.proofs.Instance.{others-change-nothing, demand-3}
-use Rattle.belief.proofs.Histories.{not-empty}
+use Rattle.belief.proofs.Histories.{not-empty, left-behind}
 use Rattle.belief.proofs.Marked.{marked}
 
 pub demand-three : Drive3
@@ -17,5 +17,6 @@ demand-three =
       own-heard = own-heard;
       kept-out = kept-out;
       not-empty = not-empty;
+      left-behind = left-behind;
       marked = marked;
     }

@@ -95,8 +95,8 @@ pub own-heard : (a : ℕ) (d : Drive) (w : wellFormed (d .unit) (d .port) ≡ tr
 own-heard a d w x start W l = next-heard a d w a x start W l ∙ rw (eq-eqb a a refl)
 
 -- nothing that another port's call draws is heard by the host, nor that its own frame to another port draws
-pub others-unheard : (a : ℕ) (d : Drive) → wellFormed (d .unit) (d .port) ≡ true → (x : Others a) → ToOthers d x → othersHeard d x ≡ none
-others-unheard a d w (frame f l known n) m = frame-unheard a d f l n
-others-unheard a d w (answer f l known r) m = done-unheard a d f l r
-others-unheard a d w (next b x start W l n) m = next-unheard a d w b x start W l n
-others-unheard a d w (elsewhere f l) m = elsewhere-refused a d f l m .1
+pub others-unheard : (a name : ℕ) (d : Drive) → wellFormed (d .unit) (d .port) ≡ true → (x : Others a name) → ToOthers d x → othersHeard d x ≡ none
+others-unheard a name d w (frame f l known n o) m = frame-unheard a d f l n
+others-unheard a name d w (answer f l known r) m = done-unheard a d f l r
+others-unheard a name d w (next b x start W l n) m = next-unheard a d w b x start W l n
+others-unheard a name d w (elsewhere f l) m = elsewhere-refused a d f l m .1

@@ -7,7 +7,7 @@ use mathlib.Core.Logic.{_⊎_, inl, inr}
 use Rattle.link.specs.Record.{Kept, Record, out, held, proved, paired, unpaired, doubted}
 use Rattle.belief.specs.Host.{Belief, unsure, sure, Request, plogi, pdisc, logo, adisc, prli, prlo, rrq, command, abts}
 use Rattle.belief.specs.Host.{Answer, none, acc, rjt, dlogo, other, same, think, May, MayOut, hears, afterPlogi, afterLogo, afterLink, received}
-use Rattle.belief.specs.Side.{Side, Laws, Held, Paired, OnPlogi, OnLogo, OnLink, OnCommand, Meets, Unasked}
+use Rattle.belief.specs.Side.{Side, Laws, OwnRecord, Foreign, OwnIn, Held, Paired, OnPlogi, OnLogo, OnLink, OnCommand, Meets, Unasked}
 use Rattle.belief.specs.Demand3.{Fate, lost, mute, heard, Event, send, next, pass, foreign, reset, lapse, forget, World, sees, arrives, step, run, Follows, Keeps, loss, Free, NoLapse, Agrees, Fine, some, reachesHost, start, History, Demand3}
 
 -- The invariant. d: a loss of memory may have come since the last frame that reached the host.
@@ -237,6 +237,66 @@ module _ where
   settles command a b r r′ m t h = absurd m
   settles abts a b r r′ m t h = absurd m
 
+-- a host that is sure believes a login under its own port name, or none
+module _ (Own : Kept → Type 0) where
+  abbrev Ours : Belief → Type 0
+  Ours unsure = Unit {0}
+  Ours (sure x) = OwnRecord Own x
+
+  -- a change of the record that keeps its names
+  abbrev KeepsNames : (Record → Record) → Type 0
+  KeepsNames f = OwnRecord Own (f out) × ((p v : Bool) (k : Kept) → Own k → OwnRecord Own (f (held p v k)))
+
+  thinks-ours : (f : Record → Record) → KeepsNames f → (b : Belief) → Ours b → Ours (think f b)
+  thinks-ours f k unsure o = tt
+  thinks-ours f k (sure out) o = k .0
+  thinks-ours f k (sure (held p v l)) o = k .1 p v l o
+
+  received-ours : (a : Answer) (b : Belief) → Ours b → Ours (received a b)
+  received-ours none b o = o
+  received-ours acc b o = o
+  received-ours rjt b o = o
+  received-ours dlogo b o = tt
+  received-ours other b o = o
+
+  linked-ours : (f : Record → Record) → KeepsNames f → (a : Answer) (b : Belief) → Ours b → Ours (afterLink f a b)
+  linked-ours f k none b o = tt
+  linked-ours f k acc b o = thinks-ours f k b o
+  linked-ours f k rjt b o = o
+  linked-ours f k dlogo b o = tt
+  linked-ours f k other b o = o
+
+  plogi-ours : (l : Kept) (a : Answer) (b : Belief) → Own l → Ours b → Ours (afterPlogi l a b)
+  plogi-ours l none b k o = tt
+  plogi-ours l acc b k o = k
+  plogi-ours l rjt b k o = tt
+  plogi-ours l dlogo b k o = tt
+  plogi-ours l other b k o = o
+
+  logo-ours : (a : Answer) (b : Belief) → Ours b → Ours (afterLogo a b)
+  logo-ours none b o = tt
+  logo-ours acc b o = tt
+  logo-ours rjt b o = tt
+  logo-ours dlogo b o = tt
+  logo-ours other b o = o
+
+  hears-ours : (q : Request) (a : Answer) (b : Belief) → OwnIn Own q → Ours b → Ours (hears q a b)
+  hears-ours (plogi l) a b k o = plogi-ours l a b k o
+  hears-ours (pdisc l) a b k o = linked-ours proved (tt, λ p v x e. e) a b o
+  hears-ours logo a b k o = logo-ours a b o
+  hears-ours adisc a b k o = linked-ours proved (tt, λ p v x e. e) a b o
+  hears-ours prli a b k o = linked-ours paired (tt, λ p v x e. e) a b o
+  hears-ours prlo a b k o = linked-ours unpaired (tt, λ p v x e. e) a b o
+  hears-ours rrq a b k o = linked-ours same (tt, λ p v x e. e) a b o
+  hears-ours command a b k o = received-ours a b o
+  hears-ours abts a b k o = received-ours a b o
+
+  -- so a host at whose address another's login stands is unsure, whatever becomes of that login
+  foreign-fits : (d : Bool) (b : Belief) (r r′ : Record) → Foreign Own r → Ours b → Fits d b r → Fits d b r′
+  foreign-fits d unsure r r′ n o p = tt
+  foreign-fits d (sure x) r r′ n o (inl e) = absurd (n (subst (OwnRecord Own) e o))
+  foreign-fits d (sure x) r r′ n o (inr e) = absurd (n (subst (OwnRecord Own) (sym (e .1)) tt))
+
 -- where the drive neither powers on nor its verification time runs out, no memory is lost
 pub free-without-lapse : (D : Side) (h : List (Event D)) (w : World D) → NoLapse D h → Free D w h
 free-without-lapse D [] w q = tt
@@ -252,45 +312,70 @@ module _ (D : Side) (laws : Laws D) where
   record Good (d : Bool) (w : World D) : Type 0 where
     formed : D .Wf (w .drive)
     fits : Fits d (w .belief) (D .login (w .drive))
+    ours : Ours (D .Own) (w .belief)
 
   -- d after an event
   abbrev later : World D → Bool → Event D → Bool
   later w d e = clear (reachesHost D w e) (mark (loss D w e) d)
 
   sent : (f : D .Sent) (x : Fate) (d : Bool) (w : World D) → May (w .belief) (D .asks f) → Good d w → Good (later w d (send f x)) (step D w (send f x))
-  sent f lost d w m g = record { formed = g .formed; fits = request-lost (D .asks f) d (w .belief) (D .login (w .drive)) (g .fits) }
+  sent f lost d w m g = record {
+    formed = g .formed;
+    fits = request-lost (D .asks f) d (w .belief) (D .login (w .drive)) (g .fits);
+    ours = hears-ours (D .Own) (D .asks f) none (w .belief) (laws .owns f) (g .ours);
+  }
   sent f mute d w m g = record {
     formed = laws .take-wf (w .drive) f (g .formed);
     fits = answer-lost (D .asks f) (D .answer (w .drive) f) d (w .belief) (D .login (w .drive)) (D .login (D .take (w .drive) f)) m (laws .takes (w .drive) f (g .formed)) (g .fits);
+    ours = hears-ours (D .Own) (D .asks f) none (w .belief) (laws .owns f) (g .ours);
   }
   sent f heard d w m g = record {
     formed = laws .take-wf (w .drive) f (g .formed);
     fits = both-arrive (D .asks f) (D .answer (w .drive) f) d (w .belief) (D .login (w .drive)) (D .login (D .take (w .drive) f)) m (laws .takes (w .drive) f (g .formed)) (g .fits);
+    ours = hears-ours (D .Own) (D .asks f) (D .answer (w .drive) f) (w .belief) (laws .owns f) (g .ours);
   }
+
+  -- all else: the record stays, or it is another's
+  passing : (x : D .Else) (b d : Bool) (w : World D) → Good d w → D .Wf (D .pass (w .drive) x)
+      → Unasked (D .login (w .drive)) (D .says (w .drive) x) (D .login (D .pass (w .drive) x)) ⊎ (Foreign (D .Own) (D .login (w .drive)) × (D .says (w .drive) x ≡ none)) → Good (later w d (pass x b)) (step D w (pass x b))
+  passing x b d w g k (inl u) = record {
+    formed = k;
+    fits = on-unasked b (D .says (w .drive) x) d (w .belief) (D .login (w .drive)) (D .login (D .pass (w .drive) x)) u (g .fits);
+    ours = received-ours (D .Own) (arrives b (D .says (w .drive) x)) (w .belief) (g .ours);
+  }
+  passing x b d w g k (inr (n, e)) = record {
+    formed = k;
+    fits = subst (λ (y : Answer). Fits (clear (some (arrives b y)) d) (received (arrives b y) (w .belief)) (D .login (D .pass (w .drive) x))) (sym e) (unheard b (foreign-fits (D .Own) d (w .belief) (D .login (w .drive)) (D .login (D .pass (w .drive) x)) n (g .ours) (g .fits)));
+    ours = received-ours (D .Own) (arrives b (D .says (w .drive) x)) (w .belief) (g .ours);
+  }
+    where
+      unheard : (t : Bool) → Fits d (w .belief) (D .login (D .pass (w .drive) x)) → Fits (clear (some (arrives t none)) d) (received (arrives t none) (w .belief)) (D .login (D .pass (w .drive) x))
+      unheard true p = p
+      unheard false p = p
 
   stepped : (e : Event D) (d : Bool) (w : World D) → Follows D w e → Good d w → Good (later w d e) (step D w e)
   stepped (send f x) d w m g = sent f x d w m g
   stepped (next c b) d w m g = record {
     formed = laws .call-wf (w .drive) c (g .formed);
     fits = on-unasked b (D .speaks (w .drive) c) d (w .belief) (D .login (w .drive)) (D .login (D .call (w .drive) c)) (laws .calls (w .drive) c (g .formed)) (g .fits);
+    ours = received-ours (D .Own) (arrives b (D .speaks (w .drive) c)) (w .belief) (g .ours);
   }
-  stepped (pass x b) d w m g = record {
-    formed = laws .pass-wf (w .drive) x (g .formed) m;
-    fits = on-unasked b (D .says (w .drive) x) d (w .belief) (D .login (w .drive)) (D .login (D .pass (w .drive) x)) (laws .passes (w .drive) x (g .formed) m) (g .fits);
-  }
+  stepped (pass x b) d w m g = passing x b d w g (laws .pass-wf (w .drive) x (g .formed) m) (laws .passes (w .drive) x (g .formed) m)
   stepped (foreign a) d w m g = g
   stepped reset d w m g = record {
     formed = laws .reset-wf (w .drive) (g .formed);
     fits = after-reset d (w .belief) (D .login (w .drive)) (D .login (D .reset (w .drive))) (laws .resets (w .drive) (g .formed)) (g .fits);
+    ours = thinks-ours (D .Own) doubted (tt, λ p v x e. e) (w .belief) (g .ours);
   }
   stepped (lapse x) d w m g = record {
     formed = laws .lapse-wf (w .drive) x (g .formed);
     fits = after-lapse (D .loses (w .drive) x) d (w .belief) (D .login (w .drive)) (D .login (D .lapse (w .drive) x)) (laws .lapses (w .drive) x (g .formed)) (g .fits);
+    ours = g .ours;
   }
-  stepped forget d w m g = record { formed = g .formed; fits = tt }
+  stepped forget d w m g = record { formed = g .formed; fits = tt; ours = tt }
 
   weak : (d : Bool) (w : World D) → Good d w → Good true w
-  weak d w g = record { formed = g .formed; fits = weaken d (w .belief) (D .login (w .drive)) (g .fits) }
+  weak d w g = record { formed = g .formed; fits = weaken d (w .belief) (D .login (w .drive)) (g .fits); ours = g .ours }
 
   -- over every history
   always : (h : List (Event D)) (w : World D) → Keeps D w h → Good true w → Good true (run D w h)
@@ -316,7 +401,7 @@ module _ (D : Side) (laws : Laws D) where
   cleared e d w t = ap (λ (u : Bool). clear u (mark (loss D w e) d)) t
 
   begun : (s : D .State) → D .Wf s → Good true (start D s)
-  begun s k = record { formed = k; fits = tt }
+  begun s k = record { formed = k; fits = tt; ours = tt }
 
   again : (s : D .State) (h₁ : List (Event D)) (e : Event D) (h₂ : List (Event D)) → History D s h₁ e h₂ → reachesHost D (run D (start D s) h₁) e ≡ true →
       Free D (step D (run D (start D s) h₁) e) h₂ → Fine D (run D (step D (run D (start D s) h₁) e) h₂)

@@ -5,16 +5,16 @@ use mathlib.Core.Bool.{true, false}
 use mathlib.Core.List.{[], _∷_, _++_}
 use native.Mathlib.Omega.{arith}
 use lib.ListN.{replicate}
-use Rattle.wire.specs.Bytes.{onto}
+use Rattle.wire.specs.Bytes.{nameOf, onto}
 use Rattle.frame.specs.Head.{headerOf, headerBytes}
 use Rattle.address.specs.Address.{validAddress}
 use Rattle.params.specs.Words.{paramsOf, sizeFails, zeroName, verdictOf, setupPasses}
 use Rattle.state.specs.declared.Exchange.{Exchange}
 use Rattle.state.specs.declared.Login.{Login}
 use Rattle.state.specs.Kinds.{kindRead}
-use Rattle.state.specs.Changes.{emptyExchange, emptyLogin, ownOf, loginAt, exchangeAt, withLogin, withExchange, hasAddress, freedOf, endedOf, unproven, verified, changedAll}
+use Rattle.state.specs.Changes.{emptyExchange, emptyLogin, ownOf, loginAt, exchangeAt, withLogin, withExchange, hasAddress, hasName, freedOf, endedOf, hostEnded, unproven, verified, changedAll}
 use Rattle.state.specs.Tables.{hasId, findLogin, freeLogin, findExchange, freeExchange, loginOf, lookupOf}
-use Rattle.formed.specs.Formed.{setupRules, setupOf, readFits, wantedFits, sentFits, exchangeFine, apartId, paramsFine, flagsFine, addressFine, usedFine, loginFine, apartAddress, wellFormed}
+use Rattle.formed.specs.Formed.{setupRules, setupOf, readFits, wantedFits, sentFits, exchangeFine, apartId, paramsFine, flagsFine, addressFine, usedFine, loginFine, apartLogin, wellFormed}
 use Rattle.reply.specs.Payload.{shortBytes, loginBytes, pairBytes, rejectBytes, statusBytes, codeBytes, senseBytes, logoutBytes}
 use Rattle.reply.specs.Reply.{answerHead, logoutHead, dataHead, filled, bytesOf}
 use Rattle.residual.specs.Residual.{residualOf}
@@ -33,12 +33,12 @@ use Rattle.demands.specs.Numbers.{words, made}
 use Rattle.belief.specs.Host.{Belief, unsure, sure, dlogo}
 use Rattle.belief.specs.Demand3.{Event, lost, mute, heard, send, next, pass, foreign, reset, lapse, World, step, run, Follows, Keeps, loss, reachesHost, start}
 use Rattle.belief.specs.Wire.{time-over, theDrive}
-use Rattle.belief.specs.Frames.{sentKept, logs-in, pairs, asks, verifies, reads, itsFrame, strangerAsks, strangerLogsIn, hostToStranger}
+use Rattle.belief.specs.Frames.{sentKept, hostName, logs-in, pairs, asks, verifies, reads, itsFrame, strangerAsks, strangerLogsIn, hostToStranger}
 use Rattle.belief.specs.Marked.{Day, doubtful, pairing, visited, opened, served, answered, doubted, provenAgain, late, forgotten, corrected, At, Marked}
 
 -- The moments, spelt out, so that each event is computed from them and not from the first one on.
 abbrev Moment : Type 0
-Moment = World (theDrive 0x01)
+Moment = World (theDrive 0x01 hostName)
 
 -- a login of this address with these flags, attention and first exchange
 abbrev seat : (address proven paired attention : ℕ) → Exchange → Login
@@ -117,27 +117,27 @@ m₁₁ = moment (sure out) emptyLogin emptyLogin
 
 -- a host that keeps its rules comes from one to the other
 record Leads (w : Moment) (h : Day) (v : Moment) : Type 0 where
-  keeps : Keeps (theDrive 0x01) w h
-  ends : run (theDrive 0x01) w h ≡ v
+  keeps : Keeps (theDrive 0x01 hostName) w h
+  ends : run (theDrive 0x01 hostName) w h ≡ v
 
 -- by one event
-record By (v : Moment) (e : Event (theDrive 0x01)) (u : Moment) : Type 0 where
-  follows : Follows (theDrive 0x01) v e
-  goes : step (theDrive 0x01) v e ≡ u
+record By (v : Moment) (e : Event (theDrive 0x01 hostName)) (u : Moment) : Type 0 where
+  follows : Follows (theDrive 0x01 hostName) v e
+  goes : step (theDrive 0x01 hostName) v e ≡ u
 
 -- one event after others
-after : (w v u : Moment) (h : Day) (e : Event (theDrive 0x01)) → Leads w h v → By v e u → Leads w (h ++ (e ∷ [])) u
-after w v u [] e l b = record { keeps = (subst (λ (x : Moment). Follows (theDrive 0x01) x e) (sym (l .ends)) (b .follows), tt); ends = ap (λ (x : Moment). step (theDrive 0x01) x e) (l .ends) ∙ b .goes }
+after : (w v u : Moment) (h : Day) (e : Event (theDrive 0x01 hostName)) → Leads w h v → By v e u → Leads w (h ++ (e ∷ [])) u
+after w v u [] e l b = record { keeps = (subst (λ (x : Moment). Follows (theDrive 0x01 hostName) x e) (sym (l .ends)) (b .follows), tt); ends = ap (λ (x : Moment). step (theDrive 0x01 hostName) x e) (l .ends) ∙ b .goes }
 after w v u (f ∷ h) e l b =
-    let r = after (step (theDrive 0x01) w f) v u h e record { keeps = l .keeps .1; ends = l .ends } b in
+    let r = after (step (theDrive 0x01 hostName) w f) v u h e record { keeps = l .keeps .1; ends = l .ends } b in
     record { keeps = (l .keeps .0, r .keeps); ends = r .ends }
 
-more : {w v u : Moment} {h : Day} {e : Event (theDrive 0x01)} → Leads w h v → By v e u → Leads w (h ++ (e ∷ [])) u
+more : {w v u : Moment} {h : Day} {e : Event (theDrive 0x01 hostName)} → Leads w h v → By v e u → Leads w (h ++ (e ∷ [])) u
 more {w} {v} {u} {h} {e} l b = after w v u h e l b
 
 -- what is computed: the events, each from the moment before it
 record Steps : Type 0 where
-  begins : start (theDrive 0x01) (made 100) ≡ m₀
+  begins : start (theDrive 0x01 hostName) (made 100) ≡ m₀
   e₁ : By m₀ (send logs-in lost) m₀
   e₂ : By m₀ (send logs-in mute) m₁
   e₃ : By m₁ (send logs-in heard) m₂
@@ -163,12 +163,12 @@ record Steps : Type 0 where
   doubt : recordOf (m₈ .drive .port) 0x01 ≡ doubted-held
   proof : recordOf (m₉ .drive .port) 0x01 ≡ paired-held
   gone : recordOf (m₁₀ .drive .port) 0x01 ≡ out
-  data-frame : reachesHost (theDrive 0x01) m₆ (next itsFrame true) ≡ true
-  response : reachesHost (theDrive 0x01) m₇ (next itsFrame true) ≡ true
-  lost-memory : loss (theDrive 0x01) m₈ (lapse time-over) ≡ true
+  data-frame : reachesHost (theDrive 0x01 hostName) m₆ (next itsFrame true) ≡ true
+  response : reachesHost (theDrive 0x01 hostName) m₇ (next itsFrame true) ≡ true
+  lost-memory : loss (theDrive 0x01 hostName) m₈ (lapse time-over) ≡ true
 
 steps : Steps
-unfolding frameIn frameInBuffer replyBytes headerOf headerBytes badSize badSource knownPair unknownForm spared unprovenLogin formOf validAddress madeFrom wellFormed setupRules setupOf setupPasses paramsOf sizeFails zeroName verdictOf loginFine usedFine flagsFine addressFine paramsFine exchangeFine apartId apartAddress wantedFits readFits sentFits findLogin freeLogin findExchange freeExchange loginOf hasAddress hasId loginAt exchangeAt withLogin withExchange endedOf freedOf unproven verified changedAll bytesOf filled onto answerHead logoutHead dataHead shortBytes loginBytes pairBytes rejectBytes statusBytes codeBytes senseBytes logoutBytes residualOf linkOf sizeOf plogiOf namesDiffer pdiscOf outcomeOf newLogin serviceOf prliOf pairFine pageFine cmndOf malformed taskFor taskOf otherUnit attends inquiryField capacityField range10 decodedOf beyond testedBy askedOf loggedOut refusedWith toldOf openedOf executeOf commandedAt commandOf nextFrame nextFrameBuffer lookupOf hasMore readsMore coverOf placeOf frameOf nextReply nextExchange sourceOf windowPlace ownOf askedBy openStep stepOf frameBytes movedOn nextOf nextBuffer recordOf eventAnswer afterEvent logs-in pairs asks verifies reads strangerAsks strangerLogsIn
+unfolding frameIn frameInBuffer replyBytes headerOf headerBytes badSize badSource knownPair unknownForm spared unprovenLogin formOf validAddress madeFrom wellFormed setupRules setupOf setupPasses paramsOf sizeFails zeroName verdictOf loginFine usedFine flagsFine addressFine paramsFine exchangeFine apartId apartLogin wantedFits readFits sentFits findLogin freeLogin findExchange freeExchange loginOf hasAddress hasId loginAt exchangeAt withLogin withExchange endedOf hostEnded hasName nameOf freedOf unproven verified changedAll bytesOf filled onto answerHead logoutHead dataHead shortBytes loginBytes pairBytes rejectBytes statusBytes codeBytes senseBytes logoutBytes residualOf linkOf sizeOf plogiOf namesDiffer pdiscOf outcomeOf newLogin serviceOf prliOf pairFine pageFine cmndOf malformed taskFor taskOf otherUnit attends inquiryField capacityField range10 decodedOf beyond testedBy askedOf loggedOut refusedWith toldOf openedOf executeOf commandedAt commandOf nextFrame nextFrameBuffer lookupOf hasMore readsMore coverOf placeOf frameOf nextReply nextExchange sourceOf windowPlace ownOf askedBy openStep stepOf frameBytes movedOn nextOf nextBuffer recordOf eventAnswer afterEvent logs-in pairs asks verifies reads strangerAsks strangerLogsIn
 steps =
     record {
       begins = refl;
@@ -203,7 +203,7 @@ steps =
 
 -- from the start to each marked moment
 abbrev Reach : Day → Moment → Type 0
-Reach h v = Leads (start (theDrive 0x01) (made 100)) h v
+Reach h v = Leads (start (theDrive 0x01 hostName) (made 100)) h v
 
 begun : Reach [] m₀
 begun = record { keeps = tt; ends = steps .begins }
@@ -252,12 +252,12 @@ marked =
       unsure-first = at-end to-doubtful in-held (steps .logged);
       sure-paired = at-end to-pairing paired-held (steps .paired);
       others-nothing = at-end to-visited paired-held (steps .visit);
-      data-comes = ap (λ (x : Moment). reachesHost (theDrive 0x01) x (next itsFrame true)) (to-opened .ends) ∙ steps .data-frame;
-      response-comes = ap (λ (x : Moment). reachesHost (theDrive 0x01) x (next itsFrame true)) (to-served .ends) ∙ steps .response;
+      data-comes = ap (λ (x : Moment). reachesHost (theDrive 0x01 hostName) x (next itsFrame true)) (to-opened .ends) ∙ steps .data-frame;
+      response-comes = ap (λ (x : Moment). reachesHost (theDrive 0x01 hostName) x (next itsFrame true)) (to-served .ends) ∙ steps .response;
       read-through = at-end to-answered paired-held (steps .done);
       to-verify = at-end to-doubted doubted-held (steps .doubt);
       by-pdisc = at-end to-proven paired-held (steps .proof);
-      a-loss = ap (λ (x : Moment). loss (theDrive 0x01) x (lapse time-over)) (to-late .ends) ∙ steps .lost-memory;
+      a-loss = ap (λ (x : Moment). loss (theDrive 0x01 hostName) x (lapse time-over)) (to-late .ends) ∙ steps .lost-memory;
       sure-and-wrong = at-end to-forgotten out (steps .gone);
       right-again = at-end to-corrected out (steps .gone);
     }

@@ -21,7 +21,7 @@ use Rattle.state.specs.declared.Port.{Port}
 use Rattle.state.specs.declared.Change.the-variants.{EndLogin}
 use Rattle.state.specs.Changes.{loginAt, changedAll}
 use Rattle.state.specs.Tables.{findLogin, loginIn, loginOf}
-use Rattle.formed.specs.Formed.{apartAddress, wellFormed}
+use Rattle.formed.specs.Formed.{apartLogin, wellFormed}
 use Rattle.formed.proofs.Parts.{formed-parts}
 use Rattle.reply.specs.declared.Reply.{Reply}
 use Rattle.reply.specs.declared.Reply.the-variants as reply
@@ -151,8 +151,8 @@ module _ (d : Drive) (w : wellFormed (d .unit) (d .port) ≡ true) (f l : List �
   abbrev from : ℕ
   from = headerOf f .«s_id»
 
-  apart : pairs apartAddress (d .port .logins) ≡ true
-  apart = formed-parts w .addresses
+  apart : pairs apartLogin (d .port .logins) ≡ true
+  apart = formed-parts w .distinct
 
   -- what comes back of a frame that passes, and the port after it
   passed-hears : Passes (d .unit) p h f (length l) → (heardIn from d f l ≡ sounds (decidedIn d f .reply)) × (frameIn d f (length l) .drive .port ≡ decidedIn d f .port)

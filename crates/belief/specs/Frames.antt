@@ -10,7 +10,7 @@ use lib.ListN.{length, getD, replicate, List·getD-eq-default}
 use borrow.Author.Tests.{ltb-true}
 use Rattle.tables.specs.Lists.{all}
 use Rattle.tables.proofs.Keeping.{all-at}
-use Rattle.wire.specs.Bytes.{bytes}
+use Rattle.wire.specs.Bytes.{bytes, nameOf}
 use Rattle.wire.specs.Layout.{AllBytes}
 use Rattle.frame.specs.Head.{headerOf, headerBytes}
 use Rattle.params.specs.Words.{paramsOf}
@@ -31,12 +31,16 @@ bytes-known s t j =
 abbrev pub sentKept : Kept
 sentKept = keptFrom (paramsOf (numbers.plogi 0x01 2048) 28)
 
+-- its port name
+abbrev pub hostName : ℕ
+hostName = nameOf (sentKept .«port_name»)
+
 -- what the port lends with each frame
 abbrev pub buffer : List ℕ
 buffer = replicate 2136 0x5a
 
 -- the host's PLOGI
-unfoldable pub logs-in : FromHost 0x01
+unfoldable pub logs-in : FromHost 0x01 hostName
 unfolding headerOf headerBytes
 logs-in =
     record {
@@ -45,10 +49,11 @@ logs-in =
       buffer = buffer;
       known = bytes-known (numbers.plogi 0x01 2048) refl;
       makes = (record { form = record { routing = refl; source = refl }; coded = refl; sized = refl }, refl);
+      named = refl;
     }
 
 -- its PRLI
-unfoldable pub pairs : FromHost 0x01
+unfoldable pub pairs : FromHost 0x01 hostName
 unfolding headerOf headerBytes
 pairs =
     record {
@@ -57,10 +62,11 @@ pairs =
       buffer = buffer;
       known = bytes-known (numbers.prli 0x01) refl;
       makes = record { form = record { routing = refl; source = refl }; coded = refl; sized = refl };
+      named = tt;
     }
 
 -- its TEST UNIT READY
-unfoldable pub asks : FromHost 0x01
+unfoldable pub asks : FromHost 0x01 hostName
 unfolding headerOf headerBytes
 asks =
     record {
@@ -69,13 +75,14 @@ asks =
       buffer = buffer;
       known = bytes-known (numbers.ready 0x01) refl;
       makes = record { routing = refl; source = refl };
+      named = tt;
     }
 
 -- its PDISC, with the parameters of the login
 abbrev pub pdisc : List ℕ
 pdisc = numbers.frame 0x22 0x01 0x01 5 (0x50 ∷ 0x00 ∷ 0x00 ∷ 0x00 ∷ numbers.words 0x01 2048)
 
-unfoldable pub verifies : FromHost 0x01
+unfoldable pub verifies : FromHost 0x01 hostName
 unfolding headerOf headerBytes paramsOf
 verifies =
     record {
@@ -84,10 +91,11 @@ verifies =
       buffer = buffer;
       known = bytes-known pdisc refl;
       makes = (record { form = record { routing = refl; source = refl }; coded = refl; sized = refl }, refl);
+      named = tt;
     }
 
 -- its READ of the first block
-unfoldable pub reads : FromHost 0x01
+unfoldable pub reads : FromHost 0x01 hostName
 unfolding headerOf headerBytes
 reads =
     record {
@@ -96,6 +104,7 @@ reads =
       buffer = buffer;
       known = bytes-known (numbers.read 0x01 0x0004 0 1 512) refl;
       makes = record { routing = refl; source = refl };
+      named = tt;
     }
 
 -- the READ's next frame, from a window that has the block
@@ -103,15 +112,21 @@ abbrev pub itsFrame : ForHost
 itsFrame = record { ox = 0x0004; start = 0; window = replicate 512 0xa5; buffer = buffer }
 
 -- another port sends a command without a login, and is answered with a LOGO
-unfoldable pub strangerAsks : Others 0x01
+unfoldable pub strangerAsks : Others 0x01 hostName
 unfolding headerOf headerBytes
-strangerAsks = frame (numbers.ready 0x02) buffer (bytes-known (numbers.ready 0x02) refl) (λ e. let z : _≡_ {A = ℕ} 2 1 = e in omega arith)
+strangerAsks = frame (numbers.ready 0x02) buffer (bytes-known (numbers.ready 0x02) refl) (λ e. let z : _≡_ {A = ℕ} 2 1 = e in omega arith) (λ m. let z : _≡_ {A = ℕ} 0x06 0x22 = m .0 .form .routing in omega arith)
 
 -- and logs in
-unfoldable pub strangerLogsIn : Others 0x01
-unfolding headerOf headerBytes
-strangerLogsIn = frame (numbers.plogi 0x02 2048) buffer (bytes-known (numbers.plogi 0x02 2048) refl) (λ e. let z : _≡_ {A = ℕ} 2 1 = e in omega arith)
+unfoldable pub strangerLogsIn : Others 0x01 hostName
+unfolding headerOf headerBytes paramsOf nameOf
+strangerLogsIn =
+    frame (numbers.plogi 0x02 2048) buffer (bytes-known (numbers.plogi 0x02 2048) refl) (λ e. let z : _≡_ {A = ℕ} 2 1 = e in omega arith)
+    (λ m. let z : _≡_ {A = ℕ} 0x5a5a5a5a5a5a5a02 0x5a5a5a5a5a5a5a01 = m .1 in omega arith)
+
+-- the PLOGI of an address with the names of another
+abbrev pub loginAs : ℕ → ℕ → List ℕ
+loginAs from named = numbers.frame 0x22 0x01 from 1 (0x03 ∷ 0x00 ∷ 0x00 ∷ 0x00 ∷ numbers.words named 2048)
 
 -- the host's own frame to that port
-abbrev pub hostToStranger : Others 0x01
+abbrev pub hostToStranger : Others 0x01 hostName
 hostToStranger = elsewhere (0x22 ∷ bytes 3 0x02 ++ (0x00 ∷ bytes 3 0x01) ++ replicate 16 0) buffer

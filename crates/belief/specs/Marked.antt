@@ -7,12 +7,12 @@ use Rattle.demands.specs.Numbers.{made}
 use Rattle.belief.specs.Host.{Belief, unsure, sure, dlogo}
 use Rattle.belief.specs.Demand3.{Event, lost, mute, heard, send, next, pass, foreign, reset, lapse, Keeps, loss, reachesHost, start}
 use Rattle.belief.specs.Wire.{time-over, theDrive}
-use Rattle.belief.specs.Frames.{sentKept, logs-in, pairs, asks, verifies, reads, itsFrame, strangerAsks, strangerLogsIn, hostToStranger}
+use Rattle.belief.specs.Frames.{sentKept, hostName, logs-in, pairs, asks, verifies, reads, itsFrame, strangerAsks, strangerLogsIn, hostToStranger}
 use Rattle.belief.specs.Histories.{world}
 
 -- a history of the host of address 01h
 abbrev pub Day : Type 0
-Day = List (Event (theDrive 0x01))
+Day = List (Event (theDrive 0x01 hostName))
 
 -- a request is lost, and then an answer
 abbrev pub doubtful : Day
@@ -63,20 +63,20 @@ pub record At (h : Day) (b : Belief) (r : Record) : Type 0 where
 
 pub record Marked : Type 0 where
   -- the host keeps its rules throughout
-  pub keeps : Keeps (theDrive 0x01) (start (theDrive 0x01) (made 100)) corrected
+  pub keeps : Keeps (theDrive 0x01 hostName) (start (theDrive 0x01 hostName) (made 100)) corrected
   -- unsure, though the drive has the login; then sure and right
   pub unsure-first : At doubtful unsure (held false true sentKept)
   pub sure-paired : At pairing (sure (held true true sentKept)) (held true true sentKept)
   -- other ports change nothing
   pub others-nothing : At visited (sure (held true true sentKept)) (held true true sentKept)
   -- a READ: data and response reach the host, and change nothing
-  pub data-comes : reachesHost (theDrive 0x01) (world opened) (next itsFrame true) ≡ true
-  pub response-comes : reachesHost (theDrive 0x01) (world served) (next itsFrame true) ≡ true
+  pub data-comes : reachesHost (theDrive 0x01 hostName) (world opened) (next itsFrame true) ≡ true
+  pub response-comes : reachesHost (theDrive 0x01 hostName) (world served) (next itsFrame true) ≡ true
   pub read-through : At answered (sure (held true true sentKept)) (held true true sentKept)
   -- to verify on both sides, and verified
   pub to-verify : At doubted (sure (held true false sentKept)) (held true false sentKept)
   pub by-pdisc : At provenAgain (sure (held true true sentKept)) (held true true sentKept)
   -- the time over is a loss: sure and wrong; and right again by the LOGO that answers
-  pub a-loss : loss (theDrive 0x01) (world late) (lapse time-over) ≡ true
+  pub a-loss : loss (theDrive 0x01 hostName) (world late) (lapse time-over) ≡ true
   pub sure-and-wrong : At forgotten (sure (held true false sentKept)) out
   pub right-again : At corrected (sure out) out

@@ -1,8 +1,9 @@
--- A drive as demand 3 sees it, for one host's address: an interface, so that impostors can be spoken of too, and the laws that the proof needs of it.
+-- A drive as demand 3 sees it, for one host's address and port name: an interface, so that impostors can be spoken of too, and the laws that the proof needs of it.
 -- The drive itself, over bytes, is one: `specs/Wire.antt`.
 -- Assumes nothing.
 use mathlib.Core.Path.{_≡_}
 use mathlib.Core.Bool.{Bool, true, false, cond}
+use mathlib.Core.Logic.{_⊎_}
 use Rattle.link.specs.Record.{Kept, Record, out, held, proved, paired, unpaired, doubted}
 use Rattle.belief.specs.Host.{Request, plogi, pdisc, logo, adisc, prli, prlo, rrq, command, abts, Answer, none, acc, rjt, dlogo, other, same}
 
@@ -11,6 +12,8 @@ pub record Side : Type 1 where
   pub Wf : State → Type 0
   -- the login record for the host's address
   pub login : State → Record
+  -- the names and parameters that are this host's own: those with its port name (02, 1: "no other port uses this host's port name")
+  pub Own : Kept → Type 0
   -- a frame of this host as it arrives, with the buffer that the port lends; what it asks; what the host is to hear of it; the next state
   pub Sent : Type 0
   pub asks : Sent → Request
@@ -31,6 +34,27 @@ pub record Side : Type 1 where
   pub Lapse : Type 0
   pub loses : State → Lapse → Bool
   pub lapse : State → Lapse → State
+
+-- a record under the host's own port name, or none
+abbrev pub OwnRecord : (Kept → Type 0) → Record → Type 0
+OwnRecord Own out = Unit {0}
+OwnRecord Own (held p v k) = Own k
+
+-- a login under another port name: what an earlier user of the address left
+abbrev pub Foreign : (Kept → Type 0) → Record → Type 0
+Foreign Own r = OwnRecord Own r → ⊥
+
+-- the host logs in under its own port name; of no other request is anything asked
+abbrev pub OwnIn : (Kept → Type 0) → Request → Type 0
+OwnIn Own (plogi k) = Own k
+OwnIn Own (pdisc k) = Unit {0}
+OwnIn Own logo = Unit {0}
+OwnIn Own adisc = Unit {0}
+OwnIn Own prli = Unit {0}
+OwnIn Own prlo = Unit {0}
+OwnIn Own rrq = Unit {0}
+OwnIn Own command = Unit {0}
+OwnIn Own abts = Unit {0}
 
 abbrev pub Held : Record → Type 0
 Held out = ⊥
@@ -95,11 +119,13 @@ pub record Laws (D : Side) : Type 0 where
   pub pass-wf : (s : D .State) (x : D .Else) → D .Wf s → D .Aside s x → D .Wf (D .pass s x)
   pub reset-wf : (s : D .State) → D .Wf s → D .Wf (D .reset s)
   pub lapse-wf : (s : D .State) (x : D .Lapse) → D .Wf s → D .Wf (D .lapse s x)
+  -- "keeps .. its own names"
+  pub owns : (f : D .Sent) → OwnIn (D .Own) (D .asks f)
   -- a frame of the host
   pub takes : (s : D .State) (f : D .Sent) → D .Wf s → Meets (D .login s) (D .asks f) (D .answer s f) (D .login (D .take s f))
-  -- a next frame, and all else
+  -- a next frame, and all else: a login under another port name may also end, and the host hears nothing of it
   pub calls : (s : D .State) (c : D .Call) → D .Wf s → Unasked (D .login s) (D .speaks s c) (D .login (D .call s c))
-  pub passes : (s : D .State) (x : D .Else) → D .Wf s → D .Aside s x → Unasked (D .login s) (D .says s x) (D .login (D .pass s x))
+  pub passes : (s : D .State) (x : D .Else) → D .Wf s → D .Aside s x → Unasked (D .login s) (D .says s x) (D .login (D .pass s x)) ⊎ (Foreign (D .Own) (D .login s) × (D .says s x ≡ none))
   pub resets : (s : D .State) → D .Wf s → D .login (D .reset s) ≡ doubted (D .login s)
   -- a loss of memory ends the login, and what is none leaves the record as it was
   pub lapses : (s : D .State) (x : D .Lapse) → D .Wf s → D .login (D .lapse s x) ≡ cond (D .loses s x) out (D .login s)

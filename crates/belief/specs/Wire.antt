@@ -1,16 +1,16 @@
--- The drive itself as demand 3 sees it: its entries' definitions of record over bytes, for the host of one address (document 01, "The host's rules").
+-- The drive itself as demand 3 sees it: its entries' definitions of record over bytes, for the host of one address and one port name (document 01, "The host's rules"; document 02, request 1).
 use Prim.Native.Nat.{ℕ, _+_}
 use mathlib.Core.Path.{_≡_}
 use mathlib.Core.Bool.{Bool, true, false, cond, not}
 use mathlib.Core.List.{List}
 use lib.Dec.{eqb}
 use lib.ListN.{length, getD}
-use Rattle.wire.specs.Bytes.{num}
+use Rattle.wire.specs.Bytes.{num, nameOf}
 use Rattle.wire.specs.Layout.{AllBytes}
 use Rattle.frame.specs.Head.{headerOf}
 use Rattle.params.specs.Words.{paramsOf}
 use Rattle.formed.specs.Formed.{wellFormed}
-use Rattle.link.specs.Record.{Record, out, held, keptFrom, recordOf}
+use Rattle.link.specs.Record.{Kept, Record, out, held, keptFrom, recordOf}
 use Rattle.refusal.specs.declared.Said.{Said}
 use Rattle.refusal.specs.declared.Said.the-variants.{Sent, Refused}
 use Rattle.drive.specs.declared.Drive.{Drive}
@@ -18,7 +18,7 @@ use Rattle.drive.specs.declared.Event.the-variants.{LoopReset, TimeOver, PowerO
 use Rattle.drive.specs.Drive.{eventAnswer}
 use Rattle.drive.specs.Entry.{frameIn, frameInBuffer, nextFrame, nextFrameBuffer}
 use Rattle.belief.specs.Host.{Request, plogi, pdisc, logo, adisc, prli, prlo, rrq, command, abts, Answer, none, acc, rjt, dlogo, other}
-use Rattle.belief.specs.Side.{Side}
+use Rattle.belief.specs.Side.{Side, OwnIn}
 
 -- a frame of the host of address a with this R_CTL; one whose other fields are wrong is refused, "and a frame the drive refuses counts as lost"
 pub record Framed (a : ℕ) (f : List ℕ) (rctl : ℕ) : Type 0 where
@@ -43,13 +43,22 @@ Makes a f rrq = Linked a f 0x12 44
 Makes a f command = Framed a f 0x06
 Makes a f abts = Framed a f 0x81
 
--- a frame of the host as it arrives, with the buffer that the port lends, of any size and contents
-pub record FromHost (a : ℕ) : Type 0 where
+-- "no other port uses this host's port name": names and parameters with this port name
+abbrev pub Named : ℕ → Kept → Type 0
+Named name k = nameOf (k .«port_name») ≡ name
+
+-- a PLOGI of right size with this port name, whoever sends it
+abbrev pub PlogiOf : ℕ → List ℕ → Type 0
+PlogiOf name f = Linked (headerOf f .«s_id») f 0x03 116 × Named name (keptFrom (paramsOf f 28))
+
+-- a frame of the host as it arrives, with the buffer that the port lends, of any size and contents; "its own names": its PLOGIs carry its port name
+pub record FromHost (a name : ℕ) : Type 0 where
   pub request : Request
   pub bytes : List ℕ
   pub buffer : List ℕ
   pub known : AllBytes bytes
   pub makes : Makes a bytes request
+  pub named : OwnIn (Named name) request
 
 -- what the n bytes of a reply at the front of the buffer say, by R_CTL and the first byte of the payload
 abbrev pub soundOf : ℕ → List ℕ → Answer
@@ -74,29 +83,30 @@ pub record ForHost : Type 0 where
   pub window : List ℕ
   pub buffer : List ℕ
 
--- what else happens: "other ports sending what they like" under other addresses, next frames to these, answers (23h) of any port, and frames to other ports, of this host too
-pub data Others (a : ℕ) : Type 0 where
-  frame : (f buffer : List ℕ) → AllBytes f → (headerOf f .«s_id» ≡ a → ⊥) → Others a
-  answer : (f buffer : List ℕ) → AllBytes f → headerOf f .«r_ctl» ≡ 0x23 → Others a
-  next : (b ox start : ℕ) (window buffer : List ℕ) → (b ≡ a → ⊥) → Others a
-  elsewhere : (f buffer : List ℕ) → Others a
+-- what else happens: "other ports sending what they like" under other addresses, but a PLOGI of right size with the host's port name; next frames to these, answers (23h) of any port, and frames to
+-- other ports, of this host too
+pub data Others (a name : ℕ) : Type 0 where
+  frame : (f buffer : List ℕ) → AllBytes f → (headerOf f .«s_id» ≡ a → ⊥) → (PlogiOf name f → ⊥) → Others a name
+  answer : (f buffer : List ℕ) → AllBytes f → headerOf f .«r_ctl» ≡ 0x23 → Others a name
+  next : (b ox start : ℕ) (window buffer : List ℕ) → (b ≡ a → ⊥) → Others a name
+  elsewhere : (f buffer : List ℕ) → Others a name
 
 -- a frame to another port has another D_ID than the drive's address
-abbrev pub ToOthers : {a : ℕ} → Drive → Others a → Type 0
-ToOthers d (frame f l k n) = Unit {0}
+abbrev pub ToOthers : {a name : ℕ} → Drive → Others a name → Type 0
+ToOthers d (frame f l k n m) = Unit {0}
 ToOthers d (answer f l k r) = Unit {0}
 ToOthers d (next b x start W l n) = Unit {0}
 ToOthers d (elsewhere f l) = headerOf f .«d_id» ≡ d .port .address → ⊥
 
-abbrev pub others : {a : ℕ} → Drive → Others a → Drive
-others d (frame f l k n) = frameIn d f (length l) .drive
+abbrev pub others : {a name : ℕ} → Drive → Others a name → Drive
+others d (frame f l k n m) = frameIn d f (length l) .drive
 others d (answer f l k r) = frameIn d f (length l) .drive
 others d (next b x start W l n) = nextFrame d b x start W (length l) .drive
 others d (elsewhere f l) = frameIn d f (length l) .drive
 
 -- what the host hears of it
-abbrev pub othersHeard : {a : ℕ} → Drive → Others a → Answer
-othersHeard {a} d (frame f l k n) = heardIn a d f l
+abbrev pub othersHeard : {a name : ℕ} → Drive → Others a name → Answer
+othersHeard {a} d (frame f l k n m) = heardIn a d f l
 othersHeard {a} d (answer f l k r) = heardIn a d f l
 othersHeard {a} d (next b x start W l n) = heardNext a d b x start W l
 othersHeard {a} d (elsewhere f l) = heardIn a d f l
@@ -115,21 +125,22 @@ ends x out = false
 ends power-on (held p v k) = true
 ends time-over (held p v k) = not v
 
--- the drive, for the host of address a
-abbrev pub theDrive : ℕ → Side
-theDrive a =
+-- the drive, for the host of address a and this port name
+abbrev pub theDrive : ℕ → ℕ → Side
+theDrive a name =
     record {
       State = Drive;
       Wf = λ d. wellFormed (d .unit) (d .port) ≡ true;
       login = λ d. recordOf (d .port) a;
-      Sent = FromHost a;
+      Own = Named name;
+      Sent = FromHost a name;
       asks = λ f. f .request;
       answer = λ d f. heardIn a d (f .bytes) (f .buffer);
       take = λ d f. frameIn d (f .bytes) (length (f .buffer)) .drive;
       Call = ForHost;
       speaks = λ d c. heardNext a d a (c .ox) (c .start) (c .window) (c .buffer);
       call = λ d c. nextFrame d a (c .ox) (c .start) (c .window) (length (c .buffer)) .drive;
-      Else = Others a;
+      Else = Others a name;
       Aside = ToOthers;
       says = othersHeard;
       pass = others;

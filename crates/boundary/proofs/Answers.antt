@@ -18,18 +18,19 @@ use Rattle.state.specs.declared.Login.{Login}
 use Rattle.state.specs.declared.Port.{Port}
 use Rattle.state.specs.declared.Unit.{Unit}
 use Rattle.state.specs.declared.Change.{Change}
-use Rattle.state.specs.declared.Change.the-variants.{Keep, EndAll, EndLogin, Unprove, EndUnproven, EndExchangesOf, Reset, Clear}
-use Rattle.state.specs.Changes.{isUsed, hasAddress, freedOf, endedOf, unproven, verified, abortedOf, resetOf, clearedBy, withLogins, changedOf, changedAll}
+use Rattle.state.specs.declared.Change.the-variants.{Keep, EndAll, EndLogin, EndHost, Unprove, EndUnproven, EndExchangesOf, Reset, Clear}
+use Rattle.state.specs.Changes.{isUsed, hasAddress, isHost, freedOf, endedOf, hostEnded, unproven, verified, abortedOf, resetOf, clearedBy, withLogins, changedOf, changedAll}
 use Rattle.formed.specs.declared.Key.{Key}
 use Rattle.formed.specs.Formed.{loginFine, wellFormed}
 use Rattle.formed.specs.Keys.{keyOf, loginKey, keysOf}
-use Rattle.formed.proofs.Keys.{two-more, used-free, free-used, fine-by}
+use Rattle.formed.proofs.Keys.{used-free, key-name, fine-by}
 use Rattle.formed.proofs.Parts.{formed-parts}
 use Rattle.calls.specs.declared.Sight.{Sight}
 use Rattle.calls.specs.declared.Turn.{Turn}
 use Rattle.calls.specs.declared.View.{View}
 use Rattle.calls.specs.View.{sightOf, viewOf}
 use Rattle.calls.specs.Turn.{storedAt, portAfter}
+use Rattle.calls.proofs.Seats.{key-address}
 use Rattle.calls.proofs.Views.{view-keys}
 use Rattle.calls.proofs.Decisions.{keep-is}
 use Rattle.arrival.specs.Arrival.{shortBuffer}
@@ -41,8 +42,9 @@ use Rattle.drive.specs.Entry.{frameIn, frameInBuffer, nextFrame}
 use Rattle.drive.specs.Turn.{refusalOf, passedTurn, nextOutTurn, answerTo}
 use Rattle.drive.proofs.Turns.{passed-formed, frame-turn, RefusedBy, frame-refused, next-out-turn, next-out-keeps}
 use Rattle.boundary.specs.Boundary.{codeOf, Tells}
-use Rattle.boundary.specs.Settled.{reaches, reachedBy, reachedOf, settledOf, happenedSaid}
+use Rattle.boundary.specs.Settled.{reaches, marksOf, reachedBy, reachedOf, settledOf, happenedSaid}
 use Rattle.boundary.proofs.Lent.{withPort, stored, settled, happened}
+use Rattle.boundary.proofs.Reached.{spared-last}
 
 twice : {A : Type 0} (b : Bool) (x y : A) → cond b (cond b x y) y ≡ cond b x y
 twice true x y = refl
@@ -51,14 +53,13 @@ twice false x y = refl
 module _ (u : Unit) (own : ℕ) where
   -- a login that is fine and is not reached is one that the change leaves
   reached-fine : (c : Change) (l : Login) (b : Bool) → loginFine u own l ≡ true → isUsed l ≡ b → cond (reaches c (loginKey u own l)) (changedOf c l) l ≡ changedOf c l
-  unfolding loginKey keyOf hasAddress freedOf endedOf unproven verified abortedOf resetOf clearedBy
+  unfolding loginKey keyOf freedOf endedOf hostEnded unproven verified abortedOf resetOf clearedBy
   reached-fine Keep l b f e = refl
   reached-fine EndAll l true f e = rw (f, e, used-free (l .address))
   reached-fine EndAll l false f e = rw (f, e)
-  reached-fine (EndLogin a) l true f e = rw (f, e, two-more (l .address) a) (twice (eqb (l .address) a) _ l)
-  reached-fine (EndLogin a) l false f e = rw (f, e, free-used a)
-  reached-fine (EndExchangesOf a) l true f e = rw (f, e, two-more (l .address) a) (twice (eqb (l .address) a) _ l)
-  reached-fine (EndExchangesOf a) l false f e = rw (f, e, free-used a)
+  reached-fine (EndLogin a) l b f e = rw (key-address u own a l f) (twice (hasAddress a l) _ l)
+  reached-fine (EndHost a n) l b f e = rw (key-address u own a l f, key-name u own n l f) (twice (isHost a n l) _ l)
+  reached-fine (EndExchangesOf a) l b f e = rw (key-address u own a l f) (twice (hasAddress a l) _ l)
   reached-fine Unprove l true f e = rw (f, e, used-free (l .address))
   reached-fine Unprove l false f e = rw (f, e)
   reached-fine EndUnproven l true f e = rw (f, e, used-free (l .address))
@@ -68,22 +69,22 @@ module _ (u : Unit) (own : ℕ) where
   reached-fine (Clear a) l true f e = rw (f, e, used-free (l .address))
   reached-fine (Clear a) l false f e = rw (f, e)
 
-  reached-all : (c : Change) (ls : List Login) → all (loginFine u own) ls ≡ true → reachedBy c (map (loginKey u own) ls) ls ≡ map (changedOf c) ls
+  reached-all : (c : Change) (ls : List Login) → all (loginFine u own) ls ≡ true → reachedBy c (marksOf c (map (loginKey u own) ls)) ls ≡ map (changedOf c) ls
   reached-all c [] e = refl
   reached-all c (l ∷ ls) e =
       let f = and-left (loginFine u own l) (all (loginFine u own) ls) e in
       let r = reached-all c ls (and-right (loginFine u own l) (all (loginFine u own) ls) e) in
-      ap (λ (m : Login). m ∷ reachedBy c (map (loginKey u own) ls) ls) (reached-fine c l (isUsed l) f refl) ∙ ap (λ (ms : List Login). changedOf c l ∷ ms) r
+      ap (λ (m : Login). m ∷ reachedBy c (marksOf c (map (loginKey u own) ls)) ls) (reached-fine c l (isUsed l) f refl) ∙ ap (λ (ms : List Login). changedOf c l ∷ ms) r
 
 -- so what is reached by the keys of a port that is well formed is the change of all, and the port settled by them is the port after the turn
 module _ (u : Unit) (p : Port) (w : wellFormed u p ≡ true) where
-  reached-changed : (c : Change) → reachedOf p (keysOf u p) c ≡ changedAll c p
+  reached-changed : (c : Change) → reachedOf p (marksOf c (keysOf u p)) c ≡ changedAll c p
   unfolding reachedOf changedAll keysOf
   reached-changed c = ap (withLogins p) (reached-all u (p .address) c (p .logins) (formed-parts w .logins))
 
   settled-answer : (t : Turn) → settledOf p (keysOf u p) t ≡ portAfter p t
   unfolding settledOf
-  settled-answer t = ap (storedAt (t .at) (t .login)) (reached-changed (t .change))
+  settled-answer t = spared-last p (marksOf (t .change) (keysOf u p)) (t .change) (t .login) (t .at) ∙ ap (storedAt (t .at) (t .login)) (reached-changed (t .change))
 
 -- what a refusal tells, the drive as it was
 pub refusal-told : {d : Drive} {a : Answer} {x : Refusal} → a ≡ refused x d → Tells a (codeOf (Refused x)) d
@@ -148,7 +149,7 @@ module _ (d : Drive) (e : Event) where
   sight = sightOf (d .unit) (d .port)
 
   abbrev reached : Port
-  reached = reachedOf (d .port) (sight .keys) (changeOf e)
+  reached = reachedOf (d .port) (marksOf (changeOf e) (sight .keys)) (changeOf e)
 
   happens : (fine : Bool) → wellFormed (d .unit) (d .port) ≡ fine → Tells (cond fine (nothingSent (afterEvent e d)) (refused IllFormed d)) (codeOf (happenedSaid fine)) (withPort d (cond fine reached (d .port)))
   unfolding afterEvent

@@ -11,14 +11,10 @@ use denote.Shadow.{shadow}
 use denote.Array.{each, arrayVal, Array, array-vals}
 use denote.Steps.{only}
 use denote.Struct.Laws as LL
-use Rattle.tables.specs.declared.Found.{Found}
-use Rattle.tables.specs.declared.Found.the-variants.{At, Nothing}
 use Rattle.formed.specs.declared.Key.{Key}
 use Rattle.formed.proofs.Key as Ke
 use Rattle.formed.proofs.Key.Laws as Ke′
 use Rattle.formed.proofs.Keys.{noKey}
-use Rattle.boundary.specs.Settled.{freeKey, sparedKeys}
-use Rattle.boundary.proofs.Elements.{array-set}
 
 -- the machine value of a key, the type of eight, and their machine value
 abbrev pub keyVal : Key → Val
@@ -41,18 +37,10 @@ abbrev pub blank : List Key
 blank = replicate 8 noKey
 
 pub is-none : Is Ke.the-row noKey (keyVal noKey ∷ [])
-is-none = LL.owes Ke.the-type Ke′.the-laws noKey ((refl, lit< tt), tt)
+is-none = LL.owes Ke.the-type Ke′.the-laws noKey ((refl, lit< tt), ((refl, lit< tt), tt))
 
 pub blank-are : Is K8 blank (kvals blank)
 blank-are = (map keyVal blank, ((refl, refl), (is-none, (is-none, (is-none, (is-none, (is-none, (is-none, (is-none, (is-none, tt))))))))))
-
--- the keys without that of a place
-is-free : Is Ke.the-row freeKey (keyVal freeKey ∷ [])
-is-free = LL.owes Ke.the-type Ke′.the-laws freeKey ((refl, lit< tt), tt)
-
-pub are-spared : (ks : List Key) (f : Found) → Is K8 ks (kvals ks) → Is K8 (sparedKeys ks f) (kvals (sparedKeys ks f))
-are-spared ks (At i) is = array-set Ke.the-row keyVal (LL.tells Ke.the-type Ke′.the-laws) 8 ks _ is i freeKey is-free
-are-spared ks Nothing is = is
 
 -- a key's fields, their machine value, and the machine value of keys in a field
 abbrev Fields : Type 0

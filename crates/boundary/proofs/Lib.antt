@@ -5,6 +5,7 @@ mod Keyed
 mod Lending
 mod Lent
 mod Logins
+mod Marked
 mod Onward
 mod Reached
 mod Reaching

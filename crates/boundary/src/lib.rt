@@ -12,6 +12,7 @@ use drive::change_of;
 use drive::passed_turn;
 use drive::refusal_number;
 use formed::Key;
+use formed::key_named;
 use formed::login_key;
 use frame::Header;
 use frame::read_header;
@@ -29,13 +30,14 @@ ghost use mathlib.Core.Path.{_≡_};
 ghost use Prim.Native.Nat.{_<_, _≤_};
 ghost use lib.ListN.{length};
 ghost use Rattle.tables.specs.Lists.{onFound};
+ghost use Rattle.state.specs.declared.Change.the-variants.{EndHost};
 ghost use Rattle.drive.specs.declared.Event.the-variants.{LoopReset, TimeOver, PowerOn};
 ghost use Rattle.calls.specs.View.{sightOf, viewOf};
 ghost use Rattle.calls.specs.Turn.{storedAt, AtBelow};
 ghost use Rattle.drive.specs.Drive.{changeOf, eventAnswer};
 ghost use Rattle.drive.specs.Entry.{frameIn, frameInBuffer, nextFrame, nextFrameBuffer};
 ghost use Rattle.boundary.specs.Boundary.{codeOf, Tells, makeAnswer};
-ghost use Rattle.boundary.specs.Settled.{reaches, NextReached, sparedKeys, reachedOf, settledOf, happenedSaid, happenedOf};
+ghost use Rattle.boundary.specs.Settled.{reaches, marksOf, sparedMarks, NextMarked, reachedOf, settledOf, happenedSaid, happenedOf};
 
 // Makes a drive in the lent state, from a setup.
 #[no_mangle]
@@ -124,7 +126,7 @@ pub extern "C" fn jhartupal_power_on(d: &mut Drive) -> u64
 fn sight(p: &mut Port, u: Unit) -> Sight
     ensures { λ r. ⌜ (r ≡ sightOf u (now (p .entry))) × (now (p .exit) ≡ now (p .entry)) ⌝ }
 {
-    let mut k = [Key { id: 0 }; 8];
+    let mut k = [Key { id: 0, name: 0 }; 8];
     let mut i: usize = 0;
     while i < Port::LOGINS {
         let n = login_key(u, p.address, p.logins[i]);
@@ -164,20 +166,20 @@ fn view(p: &mut Port, u: Unit, address: u32) -> View
 fn settle(p: &mut Port, keys: [Key; 8], t: Turn) -> u64
     ensures { λ r. ⌜ (r ≡ codeOf (t .said)) × (now (p .exit) ≡ settledOf (now (p .entry)) keys t) ⌝ }
 {
-    let k = spare(keys, t.at);
-    reach(p, k, t.change);
+    let m = spare(marks(keys, t.change), t.at);
+    reach(p, m, t.change);
     store(p, t)
 }
 
-// Changes the logins that a change reaches, each where it stands.
-fn reach(p: &mut Port, keys: [Key; 8], c: Change)
-    ensures { λ _. ⌜ now (p .exit) ≡ reachedOf (now (p .entry)) keys c ⌝ }
+// Changes the logins that are marked, each where it stands.
+fn reach(p: &mut Port, m: [bool; 8], c: Change)
+    ensures { λ _. ⌜ now (p .exit) ≡ reachedOf (now (p .entry)) m c ⌝ }
 {
-    let mut i = next_reached(keys, c, 0);
+    let mut i = next_marked(m, 0);
     while i < Port::LOGINS {
         let l = changed(p.logins[i], c);
         p.logins[i] = l;
-        i = next_reached(keys, c, i + 1);
+        i = next_marked(m, i + 1);
     }
 }
 
@@ -199,7 +201,7 @@ fn happen(p: &mut Port, s: Sight, c: Change) -> u64
     ensures { λ r. ⌜ (r ≡ codeOf (happenedSaid (s .fine))) × (now (p .exit) ≡ happenedOf (now (p .entry)) s c) ⌝ }
 {
     if s.fine {
-        reach(p, s.keys, c);
+        reach(p, marks(s.keys, c), c);
         return code(Said::Sent(0));
     } else {
         return code(Said::Refused(Refusal::IllFormed));
@@ -227,27 +229,40 @@ fn place_or_none(f: Found) -> usize
     }
 }
 
-// The keys with a free place's at a place.
-fn spare(keys: [Key; 8], at: Found) -> [Key; 8]
-    ensures { λ r. ⌜ r ≡ sparedKeys keys at ⌝ }
+// The places whose logins a change reaches, by their keys.
+fn marks(keys: [Key; 8], c: Change) -> [bool; 8]
+    ensures { λ r. ⌜ r ≡ marksOf c keys ⌝ }
 {
-    let mut k = keys;
-    let i = place_or_none(at);
-    if i < Port::LOGINS {
-        k[i] = Key { id: 1 };
+    let mut m = [false; 8];
+    let mut i: usize = 0;
+    while i < Port::LOGINS {
+        let k = keys[i];
+        m[i] = is_reached(k, c);
+        i += 1;
     }
-    k
+    m
 }
 
-// The next place from a place on whose login a change reaches, or 8.
-fn next_reached(keys: [Key; 8], c: Change, from: usize) -> usize
+// The same but for a place.
+fn spare(marks: [bool; 8], at: Found) -> [bool; 8]
+    ensures { λ r. ⌜ r ≡ sparedMarks marks at ⌝ }
+{
+    let mut m = marks;
+    let i = place_or_none(at);
+    if i < Port::LOGINS {
+        m[i] = false;
+    }
+    m
+}
+
+// The next place from a place on that is marked, or 8.
+fn next_marked(m: [bool; 8], from: usize) -> usize
     requires { ⌜ from ≤ 8 ⌝ }
-    ensures { λ r. ⌜ NextReached keys c from r ⌝ }
+    ensures { λ r. ⌜ NextMarked m from r ⌝ }
 {
     let mut i = from;
     while i < Port::LOGINS {
-        let k = keys[i];
-        if is_reached(k, c) {
+        if m[i] {
             return i;
         }
         i += 1;
@@ -263,11 +278,23 @@ fn is_reached(k: Key, c: Change) -> bool
         Change::Keep => false,
         Change::EndAll => k.id != 1,
         Change::EndLogin(address) => k.id == 2 + address as u64,
+        Change::EndHost(address, name) => of_host(k, address, name),
         Change::Unprove => k.id != 1,
         Change::EndUnproven => k.id != 1,
         Change::EndExchangesOf(address) => k.id == 2 + address as u64,
         Change::Reset => k.id != 1,
         Change::Clear(_) => k.id != 1,
+    }
+}
+
+// Whether a key is of a login of this address or this port name.
+fn of_host(k: Key, address: u32, name: u64) -> bool
+    ensures { λ r. ⌜ r ≡ reaches (EndHost address name) k ⌝ }
+{
+    if k.id == 2 + address as u64 {
+        true
+    } else {
+        key_named(k, name)
     }
 }
 

@@ -13,13 +13,13 @@ use Rattle.formed.specs.Formed.{wellFormed}
 use Rattle.formed.proofs.Parts.{Used, fine-used, used-fine}
 use Rattle.formed.proofs.Keeping.{update-kept, end-kept}
 
--- none, or one of the same address that is fine where the old one was
+-- none, or one of the same address and port name that is fine where the old one was
 pub data Keeps (u : Unit) (own : ℕ) (l : Login) : Login → Type 0 where
   gone : Keeps u own l emptyLogin
-  stays : {m : Login} → isUsed m ≡ isUsed l → m .address ≡ l .address → (Used u own l → Used u own m) → Keeps u own l m
+  stays : {m : Login} → isUsed m ≡ isUsed l → m .address ≡ l .address → m .«port_name» ≡ l .«port_name» → (Used u own l → Used u own m) → Keeps u own l m
 
 -- such a login may stand where the sender's stood
 pub stored-kept : (u : Unit) (p : Port) → wellFormed u p ≡ true → (from i : ℕ) (m : Login) → findLogin p from ≡ At i → Keeps u (p .address) (loginAt p i) m → wellFormed u (withLogin p i m) ≡ true
 stored-kept u p w from i m e gone = end-kept u p w i
-stored-kept u p w from i m e (stays used address fine) =
-    update-kept u p w i m used address (λ f. used-fine {l = m} (used ∙ found-used p from i e) (fine (fine-used (found-used p from i e) f)))
+stored-kept u p w from i m e (stays used address name fine) =
+    update-kept u p w i m used address name (λ f. used-fine {l = m} (used ∙ found-used p from i e) (fine (fine-used (found-used p from i e) f)))

@@ -16,11 +16,11 @@ use Rattle.tables.proofs.Searches.{found-passes}
 use Rattle.state.specs.declared.Login.{Login}
 use Rattle.state.specs.declared.Port.{Port}
 use Rattle.state.specs.declared.Change.{Change}
-use Rattle.state.specs.declared.Change.the-variants.{Keep, EndAll, EndLogin, Unprove, EndUnproven, EndExchangesOf, Reset, Clear}
-use Rattle.state.specs.Changes.{emptyLogin, isUsed, hasAddress, loginAt, withLogin, freedOf, endedOf, unproven, verified, abortedOf, resetOf, clearedBy, changedOf, changedAll}
+use Rattle.state.specs.declared.Change.the-variants.{Keep, EndAll, EndLogin, EndHost, Unprove, EndUnproven, EndExchangesOf, Reset, Clear}
+use Rattle.state.specs.Changes.{emptyLogin, isUsed, hasAddress, hasName, loginAt, withLogin, freedOf, endedOf, hostEnded, unproven, verified, abortedOf, resetOf, clearedBy, changedOf, changedAll}
 use Rattle.state.specs.Tables.{isFree, findLogin, freeLogin, loginOf}
 use Rattle.state.proofs.Places.{found-has}
-use Rattle.formed.specs.Formed.{apartAddress}
+use Rattle.formed.specs.Formed.{apartLogin}
 use Rattle.formed.proofs.Keeping.{Like, same, gone, like}
 use Rattle.calls.specs.declared.Turn.{Turn}
 use Rattle.calls.specs.Turn.{storedAt, portAfter}
@@ -76,28 +76,29 @@ unfolding hasAddress
 same-has a l m u d = rw (u, d)
 
 like-has : (a : ℕ) {l m : Login} → Like l m → hasAddress a l ≡ false → hasAddress a m ≡ false
-like-has a {l} {m} (same u d) h = same-has a l m u d ∙ h
+like-has a {l} {m} (same u d n) h = same-has a l m u d ∙ h
 like-has a gone h = empty-has a
 
 -- of two logins that are apart one at most has an address
-pub apart-has : (a : ℕ) (l m : Login) → apartAddress l m ≡ true → hasAddress a l ≡ true → (b : Bool) → hasAddress a m ≡ b → b ≡ false
-unfolding apartAddress
+pub apart-has : (a : ℕ) (l m : Login) → apartLogin l m ≡ true → hasAddress a l ≡ true → (b : Bool) → hasAddress a m ≡ b → b ≡ false
+unfolding apartLogin
 apart-has a l m d h true k = apart d (rw (has-used a l h, has-used a m k, eq-eqb (l .address) (m .address) (has-its a l h ∙ sym (has-its a m k))))
 apart-has a l m d h false k = refl
 
 -- no login behind one of this address has it
-alone : (a : ℕ) (l : Login) (ls : List Login) → hasAddress a l ≡ true → all (apartAddress l) ls ≡ true → seen a ls ≡ emptyLogin
+alone : (a : ℕ) (l : Login) (ls : List Login) → hasAddress a l ≡ true → all (apartLogin l) ls ≡ true → seen a ls ≡ emptyLogin
 alone a l [] h d = refl
 alone a l (m ∷ ls) h d =
-    rw (apart-has a l m (and-left (apartAddress l m) (all (apartAddress l) ls) d) h (hasAddress a m) refl)
-    (alone a l ls h (and-right (apartAddress l m) (all (apartAddress l) ls) d))
+    rw (apart-has a l m (and-left (apartLogin l m) (all (apartLogin l) ls) d) h (hasAddress a m) refl)
+    (alone a l ls h (and-right (apartLogin l m) (all (apartLogin l) ls) d))
 
 -- no change makes a login of a free place
 pub empty-changed : (c : Change) → changedOf c emptyLogin ≡ emptyLogin
-unfolding freedOf endedOf unproven verified abortedOf resetOf clearedBy hasAddress
+unfolding freedOf endedOf hostEnded unproven verified abortedOf resetOf clearedBy hasAddress hasName
 empty-changed Keep = refl
 empty-changed EndAll = refl
 empty-changed (EndLogin a) = refl
+empty-changed (EndHost a n) = refl
 empty-changed Unprove = refl
 empty-changed EndUnproven = refl
 empty-changed (EndExchangesOf a) = refl
@@ -106,17 +107,17 @@ empty-changed (Clear a) = refl
 
 changed-step : (c : Change) (a : ℕ) (l m rest next : Login) (b : Bool) → Like l m → m ≡ changedOf c l → hasAddress a l ≡ b → next ≡ changedOf c rest → (b ≡ true → rest ≡ emptyLogin)
     → cond (hasAddress a m) m next ≡ changedOf c (cond b l rest)
-changed-step c a l m rest next true (same u d) e h n o = rw (same-has a l m u d ∙ h) e
+changed-step c a l m rest next true (same u d k) e h n o = rw (same-has a l m u d ∙ h) e
 changed-step c a l m rest next true gone e h n o = rw (empty-has a) (n ∙ ap (changedOf c) (o refl) ∙ empty-changed c ∙ e)
-changed-step c a l m rest next false (same u d) e h n o = rw (same-has a l m u d ∙ h) n
+changed-step c a l m rest next false (same u d k) e h n o = rw (same-has a l m u d ∙ h) n
 changed-step c a l m rest next false gone e h n o = rw (empty-has a) n
 
-changed-seen : (c : Change) (a : ℕ) (ls : List Login) → pairs apartAddress ls ≡ true → seen a (map (changedOf c) ls) ≡ changedOf c (seen a ls)
+changed-seen : (c : Change) (a : ℕ) (ls : List Login) → pairs apartLogin ls ≡ true → seen a (map (changedOf c) ls) ≡ changedOf c (seen a ls)
 changed-seen c a [] d = sym (empty-changed c)
 changed-seen c a (l ∷ ls) d =
     changed-step c a l (changedOf c l) (seen a ls) (seen a (map (changedOf c) ls)) (hasAddress a l) (like c l) refl refl
-    (changed-seen c a ls (and-right (all (apartAddress l) ls) (pairs apartAddress ls) d))
-    (λ h. alone a l ls h (and-left (all (apartAddress l) ls) (pairs apartAddress ls) d))
+    (changed-seen c a ls (and-right (all (apartLogin l) ls) (pairs apartLogin ls) d))
+    (λ h. alone a l ls h (and-left (all (apartLogin l) ls) (pairs apartLogin ls) d))
 
 set-seen : (a : ℕ) (ls : List Login) (i : ℕ) (l : Login) → hasAddress a (getD ls i emptyLogin) ≡ false → hasAddress a l ≡ false → seen a (set ls i l) ≡ seen a ls
 set-seen a [] i l o n = refl
@@ -124,7 +125,7 @@ set-seen a (m ∷ ls) zero l o n = rw (n, o)
 set-seen a (m ∷ ls) (suc i) l o n = ap (cond (hasAddress a m) m) (set-seen a ls i l o n)
 
 -- a change of every login: the login of an address is what the change makes of it
-pub changed-sees : (p : Port) → pairs apartAddress (p .logins) ≡ true → (c : Change) (a : ℕ) → loginOf (changedAll c p) a ≡ changedOf c (loginOf p a)
+pub changed-sees : (p : Port) → pairs apartLogin (p .logins) ≡ true → (c : Change) (a : ℕ) → loginOf (changedAll c p) a ≡ changedOf c (loginOf p a)
 unfolding changedAll
 changed-sees p d c a = is-seen (changedAll c p) a ∙ changed-seen c a (p .logins) d ∙ ap (changedOf c) (sym (is-seen p a))
 
@@ -139,35 +140,15 @@ pub at-changed : (p : Port) (k : ℕ) (c : Change) → loginAt (changedAll c p) 
 unfolding loginAt changedAll
 at-changed p k c = ap (getD (map (changedOf c) (p .logins)) k) (sym (empty-changed c)) ∙ List·getD-map (changedOf c) (p .logins) k emptyLogin
 
--- the same of what is stored once every login was changed
-another-changed : (p : Port) (c : Change) (a : ℕ) (at : Found) (l : Login) → Another p a at l → Another (changedAll c p) a at l
-another-changed p c a (At i) l o = (ap (hasAddress a) (at-changed p i c) ∙ like-has a (like c (loginAt p i)) (o .0), o .1)
-another-changed p c a Nothing l o = tt
+-- after any turn that stores nothing of an address once its change was made, its login is what that change makes of what it was, and so are its exchanges
+pub others-see : (p : Port) → pairs apartLogin (p .logins) ≡ true → (t : Turn) (a : ℕ) → Another (changedAll (t .change) p) a (t .at) (t .login) → loginOf (portAfter p t) a ≡ changedOf (t .change) (loginOf p a)
+others-see p d t a o = stored-sees (changedAll (t .change) p) a (t .at) (t .login) o ∙ changed-sees p d (t .change) a
 
--- after any turn that stores nothing of an address its login is what the turn's change makes of what it was, and so are its exchanges
-pub others-see : (p : Port) → pairs apartAddress (p .logins) ≡ true → (t : Turn) (a : ℕ) → Another p a (t .at) (t .login) → loginOf (portAfter p t) a ≡ changedOf (t .change) (loginOf p a)
-others-see p d t a o =
-    stored-sees (changedAll (t .change) p) a (t .at) (t .login) (another-changed p (t .change) a (t .at) (t .login) o)
-    ∙ changed-sees p d (t .change) a
+-- the places where a sender's login is stored: its seat, which is not another's, whatever is changed
+pub seat-another : (p : Port) (a b i : ℕ) (c : Change) → (a ≡ b → ⊥) → findLogin p b ≡ At i → hasAddress a (loginAt (changedAll c p) i) ≡ false
+seat-another p a b i c n e = ap (hasAddress a) (at-changed p i c) ∙ like-has a (like c (loginAt p i)) (other-has a b (loginAt p i) n (found-has p b i e))
 
--- a place that is free once the login of b has ended was free or b's
-ended-free : (a b : ℕ) (l : Login) → (a ≡ b → ⊥) → isUsed (endedOf b l) ≡ false → hasAddress a l ≡ false
-unfolding endedOf
-ended-free a b l n h = by (hasAddress b l) refl h
-  where
-    by : (x : Bool) → hasAddress b l ≡ x → isUsed (cond x emptyLogin l) ≡ false → hasAddress a l ≡ false
-    by true k g = other-has a b l n k
-    by false k g = free-has a l g
-
--- the places where a sender's login is stored: its seat, and the lowest that is free once its login has ended; neither is another's
-module _ (p : Port) (a b i : ℕ) (n : a ≡ b → ⊥) where
-  pub seat-another : findLogin p b ≡ At i → hasAddress a (loginAt p i) ≡ false
-  seat-another e = other-has a b (loginAt p i) n (found-has p b i e)
-
-  pub place-another : freeLogin (changedAll (EndLogin b) p) ≡ At i → hasAddress a (loginAt p i) ≡ false
-  unfolding freeLogin changedAll loginAt
-  place-another e =
-      let z = endedOf b emptyLogin in
-      let l = getD (map (endedOf b) (p .logins)) i z in
-      ended-free a b (getD (p .logins) i emptyLogin) n
-      (ap isUsed (sym (List·getD-map (endedOf b) (p .logins) i emptyLogin)) ∙ not-true (isUsed l) (found-passes z isFree (map (endedOf b) (p .logins)) e))
+-- and the lowest that is free, which is nobody's
+pub place-another : (p : Port) (a i : ℕ) → freeLogin p ≡ At i → hasAddress a (loginAt p i) ≡ false
+unfolding freeLogin loginAt
+place-another p a i e = free-has a (getD (p .logins) i emptyLogin) (not-true (isUsed (getD (p .logins) i emptyLogin)) (found-passes emptyLogin isFree (p .logins) e))

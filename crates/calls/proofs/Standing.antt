@@ -15,7 +15,7 @@ use Rattle.state.specs.declared.Unit.{Unit}
 use Rattle.state.specs.Standing.{Open}
 use Rattle.state.specs.Changes.{emptyExchange, emptyLogin, isUsed, isClosed, hasAddress, loginAt, exchangeAt}
 use Rattle.state.specs.Tables.{hasId, findLogin, findExchange, loginOf, lookupOf}
-use Rattle.formed.specs.Formed.{apartId, apartAddress, loginFine, wellFormed}
+use Rattle.formed.specs.Formed.{apartId, apartLogin, loginFine, wellFormed}
 use Rattle.formed.proofs.Parts.{fine-used, formed-parts}
 use Rattle.calls.proofs.Others.{empty-has, apart-has}
 
@@ -34,14 +34,15 @@ empty-id : (x : ℕ) → hasId x emptyExchange ≡ false
 unfolding hasId
 empty-id x = refl
 
-module _ (u : Unit) (p : Port) (w : wellFormed u p ≡ true) (a x i j : ℕ) (has : hasAddress a (loginAt p i) ≡ true) (id : hasId x (exchangeAt (loginAt p i) j) ≡ true) where
-  seat-found : findLogin p a ≡ At i
-  unfolding findLogin loginAt
-  seat-found = only-found emptyLogin (hasAddress a) apartAddress (empty-has a) (apart-has a) (p .logins) i (formed-parts w .addresses) has
+-- the login of an address stands where a login has it
+pub seat-found : (u : Unit) (p : Port) → wellFormed u p ≡ true → (a i : ℕ) → hasAddress a (loginAt p i) ≡ true → findLogin p a ≡ At i
+unfolding findLogin loginAt
+seat-found u p w a i has = only-found emptyLogin (hasAddress a) apartLogin (empty-has a) (apart-has a) (p .logins) i (formed-parts w .distinct) has
 
+module _ (u : Unit) (p : Port) (w : wellFormed u p ≡ true) (a x i j : ℕ) (has : hasAddress a (loginAt p i) ≡ true) (id : hasId x (exchangeAt (loginAt p i) j) ≡ true) where
   login-in : i < length (p .logins)
   unfolding loginAt
-  login-in = inside emptyLogin (hasAddress a) apartAddress (empty-has a) (apart-has a) (p .logins) i has
+  login-in = inside emptyLogin (hasAddress a) apartLogin (empty-has a) (apart-has a) (p .logins) i has
 
   login-used : isUsed (loginAt p i) ≡ true
   unfolding hasAddress
@@ -57,4 +58,4 @@ module _ (u : Unit) (p : Port) (w : wellFormed u p ≡ true) (a x i j : ℕ) (ha
 
   pub stands-there : lookupOf p a x ≡ Open i j
   unfolding lookupOf loginOf
-  stands-there = rw (seat-found, place-found)
+  stands-there = rw (seat-found u p w a i has, place-found)

@@ -7,7 +7,7 @@ use Rattle.tables.specs.declared.Found.the-variants.{At, Nothing}
 use Rattle.tables.specs.Lists.{all, onFound}
 use Rattle.state.specs.declared.Port.{Port}
 use Rattle.state.specs.declared.Unit.{Unit}
-use Rattle.state.specs.declared.Change.the-variants.{EndLogin}
+use Rattle.state.specs.declared.Change.the-variants.{EndHost}
 use Rattle.state.specs.Standing.{Open, NoExchange}
 use Rattle.state.specs.Changes.{emptyLogin, ownOf, loginAt, changedAll}
 use Rattle.state.specs.Tables.{hasId, findLogin, freeLogin, findExchange, loginIn, loginOf, standingIn, lookupOf, placeIn, soughtIn}
@@ -73,10 +73,10 @@ module _ (u : Unit) (p : Port) (a : ℕ) where
     unfolding loginOf
     view-login i e = view-is ∙ ap (loginIn p) e
 
-    -- the lowest place for a new login of the caller is the lowest that is free once its old one has ended
-    pub view-place : placeFor (viewOf u p a .keys) a ≡ freeLogin (changedAll (EndLogin a) p)
+    -- the lowest place for a new login of the caller is the lowest that is free once its old one has ended, and that of its port name
+    pub view-place : (n : ℕ) → placeFor (viewOf u p a .keys) a n ≡ freeLogin (changedAll (EndHost a n) p)
     unfolding viewOf viewFrom keysOf freeLogin changedAll
-    view-place = place-is u (p .address) (p .logins) fine a
+    view-place n = place-is u (p .address) (p .logins) fine a n
 
     -- the standing of an exchange is told by the seat and by what is found at the login that is seen
     pub lookup-seen : (x : ℕ) → lookupOf p a x ≡ standingIn (viewOf u p a .seat) (findExchange (viewOf u p a .login) x)

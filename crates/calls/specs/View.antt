@@ -1,4 +1,4 @@
--- What a call sees of a unit and a port. Places are found by the keys of the logins: 1 is a free place's, 2 and the address on a login's (`formed/specs/Keys.antt`).
+-- What a call sees of a unit and a port. Places are found by the keys of the logins: 1 is a free place's, 2 and the address on a login's, with its port name (`formed/specs/Keys.antt`).
 use Prim.Native.Nat.{ℕ, _+_}
 use mathlib.Core.Bool.{Bool, _||_}
 use mathlib.Core.List.{List}
@@ -12,24 +12,24 @@ use Rattle.state.specs.declared.Unit.{Unit}
 use Rattle.state.specs.Changes.{emptyLogin, ownOf}
 use Rattle.state.specs.Tables.{loginIn}
 use Rattle.formed.specs.declared.Key.{Key}
-use Rattle.formed.specs.Keys.{keysOf, fineBy}
+use Rattle.formed.specs.Keys.{keyNamed, keysOf, fineBy}
 use Rattle.calls.specs.declared.Sight.{Sight}
 use Rattle.calls.specs.declared.View.{View}
 
-abbrev pub isEither : ℕ → ℕ → Key → Bool
-isEither a b k = eqb (k .id) a || eqb (k .id) b
+abbrev pub isAny : ℕ → ℕ → ℕ → Key → Bool
+isAny a b name k = eqb (k .id) a || eqb (k .id) b || keyNamed name k
 
--- the lowest place whose key is a or b
-unfoldable pub findEither : List Key → ℕ → ℕ → Found
-findEither keys a b = first (isEither a b) keys
+-- the lowest place whose key is a or b, or has the name
+unfoldable pub findAny : List Key → ℕ → ℕ → ℕ → Found
+findAny keys a b name = first (isAny a b name) keys
 
 -- the place of the login of an address
 unfoldable pub seatOf : List Key → ℕ → Found
-seatOf keys address = findEither keys (2 + address) (2 + address)
+seatOf keys address = findAny keys (2 + address) (2 + address) 0
 
--- the lowest place that is free once the login of an address has ended
-unfoldable pub placeFor : List Key → ℕ → Found
-placeFor keys address = findEither keys 1 (2 + address)
+-- the lowest place that is free once the logins of an address and of a port name have ended
+unfoldable pub placeFor : List Key → ℕ → ℕ → Found
+placeFor keys address name = findAny keys 1 (2 + address) name
 
 -- what every call sees of logins with these keys, and of a unit and a port
 abbrev pub sightFrom : Unit → Own → List Key → Sight

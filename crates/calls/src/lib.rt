@@ -1,6 +1,7 @@
 // What a call sees of the drive, and what it does, told by what changes: every service decides on the one and answers the other.
 use formed::Key;
 use formed::all_fine;
+use formed::key_named;
 use formed::login_keys;
 use refusal::Refusal;
 use refusal::Said;
@@ -19,7 +20,7 @@ use tables::Found;
 ghost use mathlib.Core.Path.{_≡_};
 ghost use Rattle.tables.specs.Lists.{Within};
 ghost use Rattle.state.specs.Tables.{loginIn};
-ghost use Rattle.calls.specs.View.{isEither, findEither, seatOf, placeFor, sightFrom, sightOf, viewFrom, viewOf};
+ghost use Rattle.calls.specs.View.{isAny, findAny, seatOf, placeFor, sightFrom, sightOf, viewFrom, viewOf};
 ghost use Rattle.calls.specs.Turn.{answersOnly, stores, changes, servedAs, servedIn, refusedTurn, sentTurn, portAfter};
 
 // What every call sees of a port's logins: their keys, and whether the state is well formed.
@@ -61,20 +62,26 @@ pub struct Turn {
     pub login: Login,
 }
 
-fn is_either(k: Key, a: u64, b: u64) -> bool
-    ensures { λ r. ⌜ r ≡ isEither a b k ⌝ }
+fn is_any(k: Key, a: u64, b: u64, name: u64) -> bool
+    ensures { λ r. ⌜ r ≡ isAny a b name k ⌝ }
 {
-    if k.id == a { true } else { k.id == b }
+    if k.id == a {
+        return true;
+    }
+    if k.id == b {
+        return true;
+    }
+    key_named(k, name)
 }
 
-// The lowest place whose key is one of two.
-fn find_either(keys: [Key; 8], a: u64, b: u64) -> Found
-    ensures { λ r. ⌜ Within (findEither keys a b) 8 r ⌝ }
+// The lowest place whose key is one of two, or has a name.
+fn find_any(keys: [Key; 8], a: u64, b: u64, name: u64) -> Found
+    ensures { λ r. ⌜ Within (findAny keys a b name) 8 r ⌝ }
 {
     let mut i: usize = 0;
     while i < Port::LOGINS {
         let k = keys[i];
-        if is_either(k, a, b) {
+        if is_any(k, a, b, name) {
             return Found::At(i);
         }
         i += 1;
@@ -87,15 +94,15 @@ pub fn seat_of(keys: [Key; 8], address: u32) -> Found
     ensures { λ r. ⌜ Within (seatOf keys address) 8 r ⌝ }
 {
     let k = 2 + address as u64;
-    find_either(keys, k, k)
+    find_any(keys, k, k, 0)
 }
 
-// The lowest place that is free once the login of an address has ended.
-pub fn place_for(keys: [Key; 8], address: u32) -> Found
-    ensures { λ r. ⌜ Within (placeFor keys address) 8 r ⌝ }
+// The lowest place that is free once the logins of an address and of a port name have ended.
+pub fn place_for(keys: [Key; 8], address: u32, name: u64) -> Found
+    ensures { λ r. ⌜ Within (placeFor keys address name) 8 r ⌝ }
 {
     let k = 2 + address as u64;
-    find_either(keys, 1, k)
+    find_any(keys, 1, k, name)
 }
 
 // What every call sees of logins with these keys.

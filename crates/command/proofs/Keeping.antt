@@ -47,14 +47,14 @@ module _ (u : Unit) (own : ℕ) (l : Login) (pair : eqb (l .paired) 1 ≡ true) 
 
     opened : (b : Bool) (j : ℕ) → Keeps u own l (withExchange (cond b (withAttention l 0) l) j e)
     unfolding withExchange findExchange
-    opened true j = stays refl refl (λ h. open-used {l = withAttention l 0} (attention-used h 0 refl) j e (fine h) (rw (new .id) none))
-    opened false j = stays refl refl (λ h. open-used h j e (fine h) (rw (new .id) none))
+    opened true j = stays refl refl refl (λ h. open-used {l = withAttention l 0} (attention-used h 0 refl) j e (fine h) (rw (new .id) none))
+    opened false j = stays refl refl refl (λ h. open-used h j e (fine h) (rw (new .id) none))
 
   moves-fine : (place : Found) → place ≡ findExchange l ox → (m : Login) → Moves u l place ox c m → Keeps u own l m
   unfolding withExchange
-  moves-fine place at m same = stays refl refl (λ h. h)
-  moves-fine place at m (ends j) = stays refl refl (λ h. end-used h j)
-  moves-fine place at m tells = stays refl refl (λ h. attention-used h 0 refl)
+  moves-fine place at m same = stays refl refl refl (λ h. h)
+  moves-fine place at m (ends j) = stays refl refl refl (λ h. end-used h j)
+  moves-fine place at m tells = stays refl refl refl (λ h. attention-used h 0 refl)
   moves-fine place at m (opens b j e p n none) =
       opened e (rw (p .is) (exchange-new (operationOf c) (l .attention) ox (c .lun) (c .expected))) (could n) (sym at ∙ none) b j
     where

@@ -16,11 +16,11 @@ use Rattle.state.specs.declared.Exchange.{Exchange}
 use Rattle.state.specs.declared.Login.{Login}
 use Rattle.state.specs.declared.Port.{Port}
 use Rattle.state.specs.declared.Unit.{Unit}
-use Rattle.state.specs.declared.Change.the-variants.{EndExchangesOf, Reset, Clear}
-use Rattle.state.specs.Changes.{emptyLogin, isUsed, hasAddress, loginAt, withState, withLogin, withExchange, withoutExchanges, abortedOf, resetOf, losesTo, clearedBy}
+use Rattle.state.specs.declared.Change.the-variants.{Keep, EndExchangesOf, Reset, Clear}
+use Rattle.state.specs.Changes.{emptyLogin, isUsed, hasAddress, loginAt, withState, withLogin, withExchange, withoutExchanges, abortedOf, resetOf, losesTo, clearedBy, changedAll}
 use Rattle.state.specs.Tables.{findLogin, findExchange, freeExchange, loginIn, loginOf, soughtIn}
-use Rattle.state.proofs.Places.{stored-at, login-other}
-use Rattle.formed.specs.Formed.{total, loginFine, apartAddress}
+use Rattle.state.proofs.Places.{found-has, stored-at, login-other}
+use Rattle.formed.specs.Formed.{total, loginFine, apartLogin}
 use Rattle.reply.specs.declared.Reply.{Reply}
 use Rattle.reply.specs.declared.Reply.the-variants as reply
 use Rattle.reply.specs.declared.Response.{Response}
@@ -28,10 +28,10 @@ use Rattle.calls.specs.declared.View.{View}
 use Rattle.calls.specs.declared.Served.{Served}
 use Rattle.calls.specs.View.{viewOf}
 use Rattle.calls.specs.Turn.{Decided, servedAt, servedIn}
-use Rattle.calls.specs.Others.{Elsewhere}
+use Rattle.calls.specs.Others.{Elsewhere, LeavesLogin}
 use Rattle.calls.proofs.Views.{view-seat, view-login}
 use Rattle.calls.proofs.Decisions.{on-cond, on-found}
-use Rattle.calls.proofs.Others.{changed-sees, seat-another}
+use Rattle.calls.proofs.Others.{other-has, changed-sees, seat-another}
 use Rattle.command.specs.declared.Cmnd.{Cmnd}
 use Rattle.command.specs.declared.Task.{Task}
 use Rattle.command.specs.declared.Task.the-variants as task
@@ -171,7 +171,7 @@ module _ (u : Unit) (p : Port) (h : Header) (f : List ℕ) where
       step (At i) r = rw r
       step Nothing r = refl
 
-  module _ (d : pairs apartAddress (p .logins) ≡ true) where
+  module _ (d : pairs apartLogin (p .logins) ≡ true) where
     -- the login of every address is alike
     abbrev Same : Decided → Type 0
     Same x = (b : ℕ) → Alike (loginOf p b) (loginOf (x .port) b)
@@ -199,17 +199,17 @@ module _ (u : Unit) (p : Port) (h : Header) (f : List ℕ) where
     abbrev v : View
     v = viewOf u p from
 
-    task-another : (b : ℕ) {t : Task} → Mild from t → (i : ℕ) (s : Served) → hasAddress b (loginAt p i) ≡ false → hasAddress b (s .login) ≡ false → Elsewhere p b (taskTurn t (servedIn i s))
-    task-another b (code n) i s x y = (tt, tt)
-    task-another b abort i s x y = (tt, tt)
-    task-another b reset i s x y = (tt, tt)
-    task-another b clear i s x y = (tt, tt)
-    task-another b execute i s x y = ((x, y), tt)
+    task-another : (b : ℕ) {t : Task} → Mild from t → (i : ℕ) (s : Served) → hasAddress b (loginAt (changedAll Keep p) i) ≡ false → hasAddress b (s .login) ≡ false → Elsewhere p b (taskTurn t (servedIn i s))
+    task-another b (code n) i s x y = tt
+    task-another b abort i s x y = tt
+    task-another b reset i s x y = tt
+    task-another b clear i s x y = tt
+    task-another b execute i s x y = (x, y)
 
-    -- it stores nothing of another address, and ends no login of it
+    -- it stores nothing of another address
     pub command-another : (b : ℕ) → (b ≡ from → ⊥) → Elsewhere p b (commandTurn v h f)
     unfolding commandTurn commandedTurn
-    command-another b n = on-found (Elsewhere p b) (v .seat) _ _ (λ i e. on-cond (Elsewhere p b) (eqb (v .login .paired) 1) (at i e) (tt, n)) (λ _. (tt, n))
+    command-another b n = on-found (Elsewhere p b) (v .seat) _ _ (λ i e. on-cond (Elsewhere p b) (eqb (v .login .paired) 1) (at i e) tt) (λ _. tt)
       where
         place : Found
         place = findExchange (v .login) (h .«ox_id»)
@@ -217,6 +217,19 @@ module _ (u : Unit) (p : Port) (h : Header) (f : List ℕ) where
         at : (i : ℕ) → v .seat ≡ At i → Elsewhere p b (taskTurn (taskOf (cmndOf f) (length f) from) (servedIn i (executeOf (v .unit) (v .login) place (h .«ox_id») (cmndOf f))))
         at i e =
             let seat = sym (view-seat u p from fine) ∙ e in
-            let none = seat-another p b from i n seat in
-            task-another b (task-mild (cmndOf f) (length f) from) i _ none
-            (alike-has (moves-alike (v .unit) (v .login) place (h .«ox_id») (cmndOf f) (execute-moves (v .unit) (v .login) place (h .«ox_id») (cmndOf f))) b ∙ ap (hasAddress b) (view-login u p from fine i seat) ∙ none)
+            task-another b (task-mild (cmndOf f) (length f) from) i _ (seat-another p b from i Keep n seat)
+            (alike-has (moves-alike (v .unit) (v .login) place (h .«ox_id») (cmndOf f) (execute-moves (v .unit) (v .login) place (h .«ox_id») (cmndOf f))) b
+            ∙ ap (hasAddress b) (view-login u p from fine i seat) ∙ other-has b from (loginAt p i) n (found-has p from i seat))
+
+    task-leaves : (b : ℕ) {t : Task} → Mild from t → (i : ℕ) (s : Served) → LeavesLogin p b (taskTurn t (servedIn i s))
+    task-leaves b (code n) i s = tt
+    task-leaves b abort i s = tt
+    task-leaves b reset i s = tt
+    task-leaves b clear i s = tt
+    task-leaves b execute i s = tt
+
+    -- and ends no login of it
+    pub command-leaves : (b : ℕ) → (b ≡ from → ⊥) → LeavesLogin p b (commandTurn v h f)
+    unfolding commandTurn commandedTurn
+    command-leaves b n =
+        on-found (LeavesLogin p b) (v .seat) _ _ (λ i e. on-cond (LeavesLogin p b) (eqb (v .login .paired) 1) (task-leaves b (task-mild (cmndOf f) (length f) from) i _) n) (λ _. n)

@@ -13,7 +13,7 @@ use Rattle.tables.specs.declared.Found.{Found}
 use Rattle.tables.specs.declared.Found.the-variants.{At, Nothing}
 use Rattle.tables.proofs.Bools.{and-left, and-right, or-left, apart}
 use Rattle.tables.proofs.Searches.{found-passes}
-use Rattle.wire.specs.Bytes.{num}
+use Rattle.wire.specs.Bytes.{num, nameOf}
 use Rattle.wire.specs.Layout.{AllBytes}
 use Rattle.frame.specs.declared.Header.{Header}
 use Rattle.frame.specs.Head.{headerOf}
@@ -29,9 +29,9 @@ use Rattle.state.specs.declared.Login.{Login}
 use Rattle.state.specs.declared.Port.{Port}
 use Rattle.state.specs.declared.Unit.{Unit}
 use Rattle.state.specs.declared.Change.{Change}
-use Rattle.state.specs.declared.Change.the-variants.{Keep, EndLogin, Unprove, EndUnproven, EndExchangesOf, Reset, Clear}
+use Rattle.state.specs.declared.Change.the-variants.{Keep, EndLogin, EndHost, Unprove, EndUnproven, EndExchangesOf, Reset, Clear}
 use Rattle.state.specs.Standing.{Standing, Open, NoExchange, NoLogin}
-use Rattle.state.specs.Changes.{emptyExchange, emptyLogin, isUsed, isClosed, hasAddress, loginAt, exchangeAt, withLogin, withState, withPlaces, withExchange, endedAt, endedOf, unproven, verified, abortedOf, changedOf, changedAll}
+use Rattle.state.specs.Changes.{emptyExchange, emptyLogin, isUsed, isClosed, hasAddress, hasName, loginAt, exchangeAt, withLogin, withState, withPlaces, withExchange, endedAt, endedOf, hostEnded, unproven, verified, abortedOf, changedOf, changedAll}
 use Rattle.state.specs.Tables.{isFree, hasId, findLogin, freeLogin, findExchange, freeExchange, loginIn, loginOf, lookupOf, soughtIn}
 use Rattle.state.proofs.Places.{found-has, found-used, open-place, open-exchange, open-has, open-open, login-stored, login-other, exchange-other}
 use Rattle.formed.specs.Formed.{total, wellFormed}
@@ -41,7 +41,9 @@ use Rattle.calls.proofs.Decisions.{by-cond, on-cond, on-found}
 use Rattle.calls.proofs.Others.{at-changed, other-has}
 use Rattle.calls.proofs.Standing.{stands-there}
 use Rattle.calls.proofs.Views.{sought-is}
-use Rattle.link.specs.Link.{newLogin, outcomeAfter, outcomePort, outcomeOf, plogiOf, logoOf, pdiscOf, adiscOf, prliOf, prloOf, rrqOf, serviceOf, sizeOf, linkOf, abortedAt, abtsOf, provenBy, pairFine, pageFine}
+use Rattle.link.specs.Login.{namedIn, Moves}
+use Rattle.link.proofs.Others.{unmoved}
+use Rattle.link.specs.Link.{newLogin, outcomeAfter, outcomePort, endsFor, endsBy, outcomeOf, plogiOf, logoOf, pdiscOf, adiscOf, prliOf, prloOf, rrqOf, serviceOf, sizeOf, linkOf, abortedAt, abtsOf, provenBy, pairFine, pageFine}
 use Rattle.command.specs.declared.Cmnd.{Cmnd}
 use Rattle.command.specs.declared.Task.{Task}
 use Rattle.command.specs.declared.Task.the-variants as task
@@ -59,6 +61,7 @@ use Rattle.serve.proofs.Moving.{next-stays, next-only}
 use Rattle.arrival.specs.declared.Form.{Form}
 use Rattle.arrival.specs.declared.Form.the-variants.{Link, Done, Abort, Command}
 use Rattle.arrival.specs.Arrival.{shortBuffer, knownPair, unknownForm, formOf}
+use Rattle.arrival.proofs.Passes.{link-form}
 use Rattle.drive.specs.declared.Drive.{Drive}
 use Rattle.drive.specs.declared.Answer.{Answer}
 use Rattle.drive.specs.declared.Event.{Event}
@@ -72,7 +75,7 @@ use Rattle.drive.proofs.Ways.{frame-cases}
 use Rattle.demands.specs.Between.{Call, frame, next, event, answerOf, after, EndsAll, Own, Service, pdiscNames, adiscNames, Left, LeavesOpen, refused, next-other, loop-reset, time-over, other, done, abts-other, abts-rejected, coded, command-other, unsized, prli, rrq, logo-rejected, prlo-rejected, pdisc, adisc}
 
 -- the login of an address, where it was found
-login-found : (p : Port) (b k : ℕ) → findLogin p b ≡ At k → loginOf p b ≡ loginAt p k
+pub login-found : (p : Port) (b k : ℕ) → findLogin p b ≡ At k → loginOf p b ≡ loginAt p k
 unfolding loginOf
 login-found p b k e = rw e
 
@@ -100,14 +103,16 @@ placed l m j k e t n = record { used = t .used; address = t .address; size = t .
 data Spares (a : ℕ) (l : Login) : Change → Type 0 where
   keeps : Spares a l Keep
   ends-login : (b : ℕ) → (b ≡ a → ⊥) → Spares a l (EndLogin b)
+  ends-host : (b n : ℕ) → (b ≡ a → ⊥) → hasName n l ≡ false → Spares a l (EndHost b n)
   unproves : Spares a l Unprove
   verifies : l .proven ≡ 1 → Spares a l EndUnproven
   ends-exchanges : (b : ℕ) → (b ≡ a → ⊥) → Spares a l (EndExchangesOf b)
 
 spared : (a : ℕ) (l : Login) (j : ℕ) (c : Change) → hasAddress a l ≡ true → Spares a l c → Kept l (changedOf c l) j
-unfolding endedOf unproven verified abortedOf
+unfolding endedOf hostEnded unproven verified abortedOf
 spared a l j c h keeps = itself l j
 spared a l j c h (ends-login b n) = rw (other-has b a l n h) (itself l j)
+spared a l j c h (ends-host b m n k) = rw (other-has b a l n h, k) (itself l j)
 spared a l j c h unproves = on-cond (λ (m : Login). Kept l m j) (isUsed l) (flagged l j 0 (l .paired) (l .attention)) (itself l j)
 spared a l j c h (verifies s) = rw (eq-eqb (l .proven) 1 s) (on-cond (λ (m : Login). Kept l m j) (isUsed l) (itself l j) (itself l j))
 spared a l j c h (ends-exchanges b n) = rw (other-has b a l n h) (itself l j)
@@ -162,35 +167,47 @@ module _ (u : Unit) (p : Port) (a x i j : ℕ) (w : wellFormed u p ≡ true) (o 
     ended-stays : Stays ended
     ended-stays = changed (EndLogin b) (ends-login b n)
 
-    -- a new login takes a place that is free once the sender's login has ended
-    free-there : (k : ℕ) → freeLogin ended ≡ At k → isUsed (loginAt ended k) ≡ false
+    -- a new login takes a place that is free once what it ends has ended, this login not among it
+    free-there : (q : Port) (k : ℕ) → freeLogin q ≡ At k → isUsed (loginAt q k) ≡ false
     unfolding freeLogin loginAt
-    free-there k e = not-true (isUsed (getD (ended .logins) k emptyLogin)) (found-passes emptyLogin isFree (ended .logins) e)
+    free-there q k e = not-true (isUsed (getD (q .logins) k emptyLogin)) (found-passes emptyLogin isFree (q .logins) e)
 
-    not-free : (k : ℕ) → freeLogin ended ≡ At k → i ≡ k → ⊥
-    not-free k e is =
-        let used : isUsed (loginAt ended i) ≡ true = ap (λ (m : ℕ). eqb m 1) (ended-stays .login .used) ∙ found-used p a i (open-place p a x i j o) in
-        apart used (ap (λ (m : ℕ). isUsed (loginAt ended m)) is ∙ free-there k e)
+    not-free : (q : Port) → Stays q → (k : ℕ) → freeLogin q ≡ At k → i ≡ k → ⊥
+    not-free q t k e is =
+        let used : isUsed (loginAt q i) ≡ true = ap (λ (m : ℕ). eqb m 1) (t .login .used) ∙ found-used p a i (open-place p a x i j o) in
+        apart used (ap (λ (m : ℕ). isUsed (loginAt q m)) is ∙ free-there q k e)
 
-    plogi-other : (q : Params) → Says (plogiOf p b q)
+    plogi-other : (q : Params) → (verdictOf q ≡ verdict.Accept → hasName (nameOf (q .«port_name»)) (loginAt p i) ≡ false) → Says (plogiOf p b q)
     unfolding plogiOf outcomeOf
-    plogi-other q = by (verdictOf q) (freeLogin ended) refl
+    plogi-other q unnamed = by (verdictOf q) (freeLogin (changedAll (endsBy b q) p)) refl unnamed
       where
-        by : (v : Verdict) (g : Found) → freeLogin ended ≡ g → Stays (outcomePort (outcomeAfter v g) ended (newLogin b q))
-        by verdict.Accept (At k) e = elsewhere ended ended-stays k (newLogin b q) (not-free k e)
-        by verdict.Accept Nothing e = ended-stays
-        by (verdict.Reject t) g e = ended-stays
+        name : ℕ
+        name = nameOf (q .«port_name»)
 
-    link-others : (h : Header) (f : List ℕ) → h .«s_id» ≡ b → Says (linkOf p h f)
-    unfolding linkOf logoOf
-    link-others h f is =
+        by : (v : Verdict) (g : Found) → freeLogin (changedAll (endsFor v b name) p) ≡ g → (v ≡ verdict.Accept → hasName name (loginAt p i) ≡ false)
+            → Stays (outcomePort (outcomeAfter v g) (changedAll (endsFor v b name) p) (newLogin b q))
+        by verdict.Accept (At k) e m =
+            let gone = changed (EndHost b name) (ends-host b name n (m refl)) in
+            elsewhere (changedAll (EndHost b name) p) gone k (newLogin b q) (not-free (changedAll (EndHost b name) p) gone k e)
+        by verdict.Accept Nothing e m = changed (EndHost b name) (ends-host b name n (m refl))
+        by (verdict.Reject t) g e m = ended-stays
+
+    link-others : (h : Header) (f : List ℕ) → h .«s_id» ≡ b → h .«r_ctl» ≡ 0x22 → (Moves p a h f → ⊥) → Says (linkOf p h f)
+    unfolding linkOf logoOf sizeOf
+    link-others h f is link still =
         let code = getD f 24 0 in
         rw is
         (on-cond Says (eqb (sizeOf code) 0) unchanged
-        (on-cond Says (not (eqb (length f) (24 + sizeOf code))) unchanged
-        (on-cond Says (eqb code 0x03) (plogi-other (paramsOf f 28))
-        (on-cond Says (eqb code 0x05) (on-cond Says (eqb (num 3 f 29) b) ended-stays unchanged)
+        (by-cond Says (not (eqb (length f) (24 + sizeOf code))) (λ _. unchanged)
+        (λ s. by-cond Says (eqb code 0x03) (λ c. plogi-other (paramsOf f 28) (renamed (eqb-true code 3 c) s))
+        (λ _. on-cond Says (eqb code 0x05) (on-cond Says (eqb (num 3 f 29) b) ended-stays unchanged)
         (on-found Says (findLogin p b) _ _ (λ k e. elsewhere p unchanged k _ (not-here b k n e)) (λ _. unchanged))))))
+      where
+        -- where its PLOGI passes, it has another port name
+        renamed : getD f 24 0 ≡ 3 → not (eqb (length f) (24 + sizeOf (getD f 24 0))) ≡ false → verdictOf (paramsOf f 28) ≡ verdict.Accept → hasName (namedIn f) (loginAt p i) ≡ false
+        renamed c s v =
+            let size : length f ≡ 140 = eqb-true (length f) 140 (not-false (eqb (length f) 140) (rw c at s)) in
+            ap (hasName (namedIn f)) (sym (login-found p a i (open-place p a x i j o))) ∙ unmoved p h a f link still c size v
 
     abts-others : (ox rx : ℕ) → Says (abtsOf p b ox rx)
     unfolding abtsOf
@@ -412,11 +429,12 @@ module _ (d : Drive) (a x i j : ℕ) (w : wellFormed (d .unit) (d .port) ≡ tru
       own-left f room known 0x22 (s .own) (service-keeps u p a x i j w o (headerOf f) f (s .own .from) code (s .code-is) no-plogi no-logo t)
 
   -- a frame of another sender
-  other-here : (f : List ℕ) → (headerOf f .«s_id» ≡ a → ⊥) → (EndsAll p f → ⊥) → (k : Form) → (k ≡ Command → headerOf f .«r_ctl» ≡ 0x06) → Here (decidedOf u p (headerOf f) k f .port)
-  other-here f n spares Link form = link-others u p a x i j w o (headerOf f .«s_id») n (headerOf f) f refl
-  other-here f n spares Done form = unchanged u p a x i j w o
-  other-here f n spares Abort form = abts-others u p a x i j w o (headerOf f .«s_id») n (headerOf f .«ox_id») (headerOf f .«rx_id»)
-  other-here f n spares Command form =
+  other-here : (f : List ℕ) → (headerOf f .«s_id» ≡ a → ⊥) → (EndsAll p f → ⊥) → (Moves p a (headerOf f) f → ⊥)
+      → (k : Form) → (k ≡ Link → headerOf f .«r_ctl» ≡ 0x22) → (k ≡ Command → headerOf f .«r_ctl» ≡ 0x06) → Here (decidedOf u p (headerOf f) k f .port)
+  other-here f n spares still Link link form = link-others u p a x i j w o (headerOf f .«s_id») n (headerOf f) f refl (link refl) still
+  other-here f n spares still Done link form = unchanged u p a x i j w o
+  other-here f n spares still Abort link form = abts-others u p a x i j w o (headerOf f .«s_id») n (headerOf f .«ox_id») (headerOf f .«rx_id»)
+  other-here f n spares still Command link form =
       command-others u p a x i j w o (headerOf f .«s_id») n (headerOf f) f refl (λ pair e. spares record { command = form refl; paired = pair; flags = inl e }) (λ pair e. spares record { command = form refl; paired = pair; flags = inr e })
 
   -- a refused call
@@ -463,7 +481,8 @@ module _ (d : Drive) (a x i j : ℕ) (w : wellFormed (d .unit) (d .port) ≡ tru
   leaves-open c (next-other b y start W room n) = let r = next-fine b y start W room n in left-by (nextFrame d b y start W room .drive) (next-frame-kept d b y start W room w) (r .0) (r .1)
   leaves-open c loop-reset = event-left LoopReset unproves
   leaves-open c (time-over proven) = event-left TimeOver (verifies (ap (λ (m : Login). m .proven) (sym (login-there u p a x i j w o)) ∙ proven))
-  leaves-open c (other f room known n spares) = frame-left f room known (λ k. other-here f n spares (formOf (headerOf f .«r_ctl»)) (command-form (headerOf f) (length f) k))
+  leaves-open c (other f room known n spares still) =
+      frame-left f room known (λ k. other-here f n spares still (formOf (headerOf f .«r_ctl»)) (link-form (headerOf f .«r_ctl»)) (command-form (headerOf f) (length f) k))
   leaves-open c (done f room known its) = own-left f room known 0x23 its (unchanged u p a x i j w o)
   leaves-open c (abts-other f room known its n) =
       own-left f room known 0x81 its (subst (λ (b : ℕ). Here (abtsOf p b (headerOf f .«ox_id») (headerOf f .«rx_id») .port)) (sym (its .from)) (abts-own u p a x i j w o (headerOf f .«ox_id») (headerOf f .«rx_id») (inl n)))

@@ -1,11 +1,12 @@
 -- Demands 1 and 2 hold. Assumes nothing.
-use mathlib.Core.Path.{_≡_}
+use mathlib.Core.Path.{_≡_, sym, _∙_}
 use mathlib.Core.List.{List}
 use Prim.Native.Nat.{ℕ, _≤_, _<_}
 use native.Mathlib.Omega.{arith}
 use lib.ListN.{length}
 use borrow.Author.Tests.{not-true}
 use Rattle.tables.proofs.Bools.{apart}
+use Rattle.wire.proofs.Digits.{name-same}
 use Rattle.frame.proofs.Trips.{write-read, read-write}
 use Rattle.formed.specs.Formed.{wellFormed}
 use Rattle.refusal.specs.declared.Refusal.the-variants.{IllFormed}
@@ -19,7 +20,7 @@ use Rattle.demands.proofs.Contracts.{one-reply}
 use Rattle.demands.proofs.Reach.{driven-fine}
 use Rattle.demands.proofs.Refusals.{frame-first, frame-refuses, next-first, next-refuses, next-unchanged}
 use Rattle.demands.proofs.Lengths.{frame-long, next-long}
-use Rattle.demands.proofs.Login.{login-is}
+use Rattle.demands.proofs.Login.{login-is, moved-is}
 use Rattle.demands.proofs.Judges.{judges-is}
 use Rattle.demands.proofs.Between.{leaves-open}
 use Rattle.demands.proofs.Ending.{ends-open, no-third-call}
@@ -64,6 +65,8 @@ demand-2 =
       header-bytes = write-read;
       header-fields = read-write;
       port-login = login-is;
+      host-moved = λ d f l p words b n. moved-is d f l p words b n;
+      name-same = λ x y bx by ex ey e. name-same x y bx by (ex ∙ sym ey) e;
       whole-read = reads-read;
       whole-made = reads-made;
       stays-open = leaves-open;

@@ -1,7 +1,7 @@
 -- The calls that end an open exchange do, where they are not refused, and every call but the exchange's own next frame leaves it open or ends it. Assumes nothing.
 use Prim.Native.Nat.{ℕ, zero, suc, _+_, _%_, _<_}
 use mathlib.Core.Path.{_≡_, refl, sym, ap, _∙_, subst}
-use mathlib.Core.Bool.{Bool, true, false, cond, not, _&&_, _||_}
+use mathlib.Core.Bool.{Bool, true, false, cond, not, _&&_, _||_, or-true}
 use mathlib.Core.Logic.{_⊎_, inl, inr, ⊎-elim}
 use mathlib.Core.List.{List}
 use native.Mathlib.Decide.{ℕ-discrete}
@@ -15,7 +15,7 @@ use Rattle.tables.specs.declared.Found.the-variants.{At, Nothing}
 use Rattle.tables.specs.Lists.{onFound}
 use Rattle.tables.proofs.Bools.{or-right, apart}
 use Rattle.tables.proofs.Searches.{found-below}
-use Rattle.wire.specs.Bytes.{num, part}
+use Rattle.wire.specs.Bytes.{num, part, nameOf}
 use Rattle.wire.specs.Layout.{AllBytes}
 use Rattle.frame.specs.declared.Header.{Header}
 use Rattle.frame.specs.Head.{headerOf}
@@ -23,15 +23,16 @@ use Rattle.params.specs.declared.Params.{Params}
 use Rattle.params.specs.declared.Verdict.{Verdict}
 use Rattle.params.specs.declared.Verdict.the-variants as verdict
 use Rattle.params.specs.Words.{paramsOf, verdictOf}
+use Rattle.params.proofs.Exactly.{accepted, accepts-then}
 use Rattle.refusal.specs.declared.Refusal.{Refusal}
 use Rattle.refusal.specs.declared.Said.the-variants.{Sent, Refused}
 use Rattle.state.specs.declared.Login.{Login}
 use Rattle.state.specs.declared.Port.{Port}
 use Rattle.state.specs.declared.Unit.{Unit}
 use Rattle.state.specs.declared.Change.{Change}
-use Rattle.state.specs.declared.Change.the-variants.{EndAll, EndLogin, EndUnproven, EndExchangesOf, Reset, Clear}
+use Rattle.state.specs.declared.Change.the-variants.{EndAll, EndLogin, EndHost, EndUnproven, EndExchangesOf, Reset, Clear}
 use Rattle.state.specs.Standing.{Open}
-use Rattle.state.specs.Changes.{emptyExchange, emptyLogin, isUsed, hasAddress, loginAt, exchangeAt, withLogin, withExchange, withoutExchanges, endedAt, freedOf, endedOf, verified, abortedOf, resetOf, losesTo, clearedBy, changedOf, changedAll}
+use Rattle.state.specs.Changes.{emptyExchange, emptyLogin, isUsed, hasAddress, hasName, isHost, loginAt, exchangeAt, withLogin, withExchange, withoutExchanges, endedAt, freedOf, endedOf, hostEnded, verified, abortedOf, resetOf, losesTo, clearedBy, changedOf, changedAll}
 use Rattle.state.specs.Tables.{isFree, hasId, findLogin, freeLogin, loginIn, loginOf, lookupOf, soughtIn}
 use Rattle.state.proofs.Places.{found-has, open-place, open-exchange, open-has, login-inside, exchange-inside, stored-at, login-other, exchange-other}
 use Rattle.formed.specs.Formed.{wellFormed}
@@ -39,8 +40,9 @@ use Rattle.calls.specs.declared.Served.{Served}
 use Rattle.calls.specs.Turn.{Decided, servedAt}
 use Rattle.calls.proofs.Decisions.{by-cond, on-cond}
 use Rattle.calls.proofs.Others.{at-changed, free-has, empty-has}
-use Rattle.calls.proofs.Standing.{stands-there}
-use Rattle.link.specs.Link.{newLogin, outcomeAfter, outcomePort, outcomeOf, plogiOf, logoOf, pdiscOf, adiscOf, prloOf, serviceOf, sizeOf, linkOf, abtsOf, namesDiffer, pageFine}
+use Rattle.calls.proofs.Standing.{seat-found, stands-there}
+use Rattle.link.specs.Login.{namedIn, Moves}
+use Rattle.link.specs.Link.{newLogin, outcomeAfter, outcomePort, endsFor, endsBy, outcomeOf, plogiOf, logoOf, pdiscOf, adiscOf, prloOf, serviceOf, sizeOf, linkOf, abtsOf, namesDiffer, pageFine}
 use Rattle.command.specs.declared.Task.{Task}
 use Rattle.command.specs.declared.Task.the-variants as task
 use Rattle.command.specs.Cmnd.{cmndOf, taskOf}
@@ -58,7 +60,7 @@ use Rattle.drive.proofs.Made.{event-answered}
 use Rattle.drive.proofs.Ways.{frame-cases}
 use Rattle.demands.specs.Between.{Call, frame, next, event, after, asked, EndsAll, Own, Service, pdiscNames, adiscNames, LeavesOpen, EndsOpen, Serves, Taken}
 use Rattle.demands.specs.Between as call
-use Rattle.demands.proofs.Between.{seat, sought-there, is-paired, own-command, login-there, command-form}
+use Rattle.demands.proofs.Between.{login-found, seat, sought-there, is-paired, own-command, login-there, command-form}
 
 -- reading a list of free places gives a free one, past its end too
 all-empty : (n m : ℕ) → getD (replicate n emptyExchange) m emptyExchange ≡ emptyExchange
@@ -99,6 +101,7 @@ module _ (a x : ℕ) where
   data Ends (l : Login) : Change → Type 0 where
     ends-all : Ends l EndAll
     ends-login : Ends l (EndLogin a)
+    ends-host : (b n : ℕ) → (hasAddress a l ≡ true → isHost b n l ≡ true) → Ends l (EndHost b n)
     ends-unproven : (eqb (l .proven) 1 ≡ true → Lacks l) → Ends l EndUnproven
     ends-exchanges : Ends l (EndExchangesOf a)
     resets : Ends l Reset
@@ -106,9 +109,10 @@ module _ (a x : ℕ) where
 
   -- each of them does
   lacks-then : (l : Login) (c : Change) → Ends l c → Lacks (changedOf c l)
-  unfolding freedOf endedOf verified abortedOf resetOf clearedBy withoutExchanges
+  unfolding freedOf endedOf hostEnded verified abortedOf resetOf clearedBy withoutExchanges
   lacks-then l c ends-all = by-cond Lacks (isUsed l) (λ _. empty) (unused l)
   lacks-then l c ends-login = by-cond Lacks (hasAddress a l) (λ _. empty) (strange l)
+  lacks-then l c (ends-host b n s) = by-cond Lacks (isHost b n l) (λ _. empty) (λ other h. apart (s h) other)
   lacks-then l c (ends-unproven s) = by-cond Lacks (isUsed l) (λ _. by-cond Lacks (eqb (l .proven) 1) s (λ _. empty)) (unused l)
   lacks-then l c ends-exchanges = by-cond Lacks (hasAddress a l) (λ _. bare _ refl) (strange l)
   lacks-then l c resets = by-cond Lacks (isUsed l) (λ _. bare _ refl) (unused l)
@@ -205,25 +209,48 @@ module _ (u : Unit) (p : Port) (a x i j : ℕ) (w : wellFormed u p ≡ true) (o 
   ended-gone : Gone a x (changedAll (EndLogin a) p)
   ended-gone = changed-gone a x p (EndLogin a) (λ _. ends-login)
 
-  -- and a new one has no exchange
-  new-gone : (q : Params) (k : ℕ) → freeLogin (changedAll (EndLogin a) p) ≡ At k → Gone a x (withLogin (changedAll (EndLogin a) p) k (newLogin a q))
+  -- a new login has no exchange
+  new-gone : (q : Params) (b k : ℕ) (ended : Port) → Gone a x ended → freeLogin ended ≡ At k → Gone a x (withLogin ended k (newLogin b q))
   unfolding newLogin freeLogin
-  new-gone q k e =
-      let ended = changedAll (EndLogin a) p in
-      stored-gone a x ended k (newLogin a q) (found-below emptyLogin isFree (ended .logins) e) (bare a x (newLogin a q) refl) (λ n _. ended-gone n)
+  new-gone q b k ended g e = stored-gone a x ended k (newLogin b q) (found-below emptyLogin isFree (ended .logins) e) (bare a x (newLogin b q) refl) (λ n _. g n)
 
-  -- PLOGI, accepted or not
-  plogi-gone : (q : Params) → Over (plogiOf p a q)
+  -- a PLOGI that ends its login, accepted or not
+  ends-gone : (b : ℕ) (q : Params) → ((v : Verdict) → verdictOf q ≡ v → Gone a x (changedAll (endsFor v b (nameOf (q .«port_name»))) p)) → Over (plogiOf p b q)
   unfolding plogiOf outcomeOf
-  plogi-gone q = by (verdictOf q) (freeLogin ended) refl
+  ends-gone b q gone = by (verdictOf q) (freeLogin (changedAll (endsBy b q) p)) refl (gone (verdictOf q) refl)
     where
-      ended : Port
-      ended = changedAll (EndLogin a) p
+      name : ℕ
+      name = nameOf (q .«port_name»)
 
-      by : (v : Verdict) (g : Found) → freeLogin ended ≡ g → Gone a x (outcomePort (outcomeAfter v g) ended (newLogin a q))
-      by verdict.Accept (At k) e = new-gone q k e
-      by verdict.Accept Nothing e = ended-gone
-      by (verdict.Reject t) g e = ended-gone
+      by : (v : Verdict) (g : Found) → freeLogin (changedAll (endsFor v b name) p) ≡ g → Gone a x (changedAll (endsFor v b name) p)
+          → Gone a x (outcomePort (outcomeAfter v g) (changedAll (endsFor v b name) p) (newLogin b q))
+      by verdict.Accept (At k) e over = new-gone q b k (changedAll (EndHost b name) p) over e
+      by verdict.Accept Nothing e over = over
+      by (verdict.Reject t) g e over = over
+
+  -- its own
+  plogi-gone : (q : Params) → Over (plogiOf p a q)
+  plogi-gone q = ends-gone a q (λ v _. by v)
+    where
+      by : (v : Verdict) → Gone a x (changedAll (endsFor v a (nameOf (q .«port_name»))) p)
+      by verdict.Accept = changed-gone a x p (EndHost a (nameOf (q .«port_name»))) (λ _. ends-host a (nameOf (q .«port_name»)) (λ h. rw h))
+      by (verdict.Reject t) = ended-gone
+
+  -- one by which its host has moved
+  moved-gone : (h : Header) (f : List ℕ) → Moves p a h f → Over (linkOf p h f)
+  unfolding linkOf sizeOf
+  moved-gone h f m = rw (m .plogi, m .size) (ends-gone b (paramsOf f 28) (λ v e. subst (λ (t : Verdict). Gone a x (changedAll (endsFor t b (namedIn f)) p)) (sym (accepts-then (paramsOf f 28) (m .tests)) ∙ e) gone))
+    where
+      b : ℕ
+      b = h .«s_id»
+
+      named : (k : ℕ) → hasAddress a (loginAt p k) ≡ true → isHost b (namedIn f) (loginAt p k) ≡ true
+      named k has =
+          let name : hasName (namedIn f) (loginAt p k) ≡ true = ap (hasName (namedIn f)) (sym (login-found p a k (seat-found u p w a k has))) ∙ m .name in
+          rw (name, or-true (hasAddress b (loginAt p k)))
+
+      gone : Gone a x (changedAll (EndHost b (namedIn f)) p)
+      gone = changed-gone a x p (EndHost b (namedIn f)) (λ k. ends-host b (namedIn f) (named k))
 
   -- its own link requests of right size
   module _ (f : List ℕ) where
@@ -307,6 +334,25 @@ all-or-not p f =
       ]
     ]
 
+-- whether a frame is one by which the host of a has moved
+pub moved-or-not : (p : Port) (a : ℕ) (h : Header) (f : List ℕ) → Dec (Moves p a h f)
+moved-or-not p a h f =
+    elim (ℕ-discrete (h .«r_ctl») 0x22) [
+      | no n ↦ no (λ m. n (m .link))
+      | yes link ↦ elim (ℕ-discrete (getD f 24 0) 3) [
+        | no n ↦ no (λ m. n (m .plogi))
+        | yes code ↦ elim (ℕ-discrete (length f) 140) [
+          | no n ↦ no (λ m. n (m .size))
+          | yes size ↦ by link code size (verdictOf (paramsOf f 28)) (hasName (namedIn f) (loginOf p a)) refl refl
+        ]
+      ]
+    ]
+  where
+    by : h .«r_ctl» ≡ 0x22 → getD f 24 0 ≡ 3 → length f ≡ 140 → (v : Verdict) (b : Bool) → verdictOf (paramsOf f 28) ≡ v → hasName (namedIn f) (loginOf p a) ≡ b → Dec (Moves p a h f)
+    by link code size verdict.Accept true e k = yes record { link = link; plogi = code; size = size; tests = accepted (paramsOf f 28) e; name = k }
+    by link code size verdict.Accept false e k = no (λ m. apart (m .name) k)
+    by link code size (verdict.Reject t) b e k = no (λ m. let c = sym (accepts-then (paramsOf f 28) (m .tests)) ∙ e in let z : _≡_ {A = ℕ} 0 1 = cc in absurd (omega arith))
+
 -- a link request that passes has a payload
 has-payload : (h : Header) (n : ℕ) → unknownForm h n ≡ false → h .«r_ctl» ≡ 0x22 → 24 < n
 unfolding unknownForm
@@ -340,6 +386,7 @@ module _ (d : Drive) (a x i j : ℕ) (w : wellFormed (d .unit) (d .port) ≡ tru
   over c t call.power-on = event-over PowerOn (changed-gone a x p EndAll (λ _. ends-all))
   over c t (call.time-out n) = event-over TimeOver (out-of-time u p a x i j w o (λ e. n (ap (λ (m : Login). m .proven) (login-there u p a x i j w o) ∙ e)))
   over c t (call.all-end f room known e) = own-over f room known 0x06 t (e .command) (all-gone u p a x i j w o (headerOf f) f (e .paired) (e .flags))
+  over c t (call.moved f room known n m) = own-over f room known 0x22 t (m .link) (moved-gone u p a x i j w o (headerOf f) f m)
   over c t (call.aborts-set f room known its asks) = own-over f room known 0x06 t (its .form) (aborted-gone u p a x i j w o (headerOf f) f (its .from) asks)
   over c t (call.again f room known its asks same) = own-over f room known 0x06 t (its .form) (again-gone u p a x i j w o (headerOf f) f (its .from) asks same)
   over c t (call.abts f room known its same whole) =
@@ -373,7 +420,10 @@ module _ (d : Drive) (a x i j : ℕ) (w : wellFormed (d .unit) (d .port) ≡ tru
     other-sorted n =
         elim (all-or-not p f) [
           | yes all ↦ inr (t, call.all-end f room known all)
-          | no spares ↦ inl (call.other f room known n spares)
+          | no spares ↦ elim (moved-or-not p a (headerOf f) f) [
+            | yes moves ↦ inr (t, call.moved f room known n moves)
+            | no still ↦ inl (call.other f room known n spares still)
+          ]
         ]
 
     -- ABTS

@@ -12,6 +12,7 @@ use Rattle.tables.specs.declared.Found.the-variants.{At}
 use Rattle.tables.specs.Firsts.{firstOf, NoneOf}
 use Rattle.tables.proofs.Firsts.{none-then}
 use Rattle.refusal.specs.Refusal.{frameOrder}
+use Rattle.wire.specs.Bytes.{nameOf}
 use Rattle.frame.specs.declared.Header.{Header}
 use Rattle.frame.specs.Head.{Fits, headerOf, headerBytes}
 use Rattle.frame.proofs.Trips.{read-write}
@@ -22,12 +23,11 @@ use Rattle.params.specs.declared.Verdict.{Verdict}
 use Rattle.params.specs.declared.Verdict.the-variants as verdict
 use Rattle.params.specs.Words.{paramsOf, verdictOf, setupPasses}
 use Rattle.state.specs.declared.Setup.{Setup}
-use Rattle.state.specs.declared.Change.the-variants.{EndLogin}
-use Rattle.state.specs.Changes.{hasAddress, endedOf, changedAll}
+use Rattle.state.specs.Changes.{hasAddress, hasName, endedOf, hostEnded, changedAll}
 use Rattle.state.specs.Tables.{freeLogin}
 use Rattle.formed.specs.Formed.{setupRules}
 use Rattle.calls.specs.Turn.{Decided}
-use Rattle.link.specs.Link.{sizeOf, outcomeAfter, outcomeOf, outcomeReply, plogiOf, linkOf}
+use Rattle.link.specs.Link.{sizeOf, outcomeAfter, endsFor, outcomeOf, outcomeReply, plogiOf, linkOf}
 use Rattle.arrival.specs.Arrival.{badSize, badSource, knownPair, unknownForm, spared, formOf, appliesIn}
 use Rattle.arrival.proofs.Passes.{passes}
 use Rattle.judging.specs.Judgement.{judged, judgementOf}
@@ -73,9 +73,10 @@ module _ (t : Setup) (rules : setupRules t ≡ true) (from ox : ℕ) (other : ba
   same-words = refl
 
   -- an empty table has its lowest place free
-  first-free : freeLogin (changedAll (EndLogin from) (d .port)) ≡ At 0
-  unfolding madeFrom changedAll endedOf hasAddress freeLogin
-  first-free = refl
+  first-free : (v : Verdict) (name : ℕ) → freeLogin (changedAll (endsFor v from name) (d .port)) ≡ At 0
+  unfolding madeFrom changedAll endedOf hostEnded hasAddress hasName freeLogin
+  first-free verdict.Accept name = refl
+  first-free (verdict.Reject t) name = refl
 
   judged-is : judgementOf s ≡ judged (verdictOf (paramsOf s 4))
   unfolding judgementOf
@@ -88,7 +89,7 @@ module _ (t : Setup) (rules : setupRules t ≡ true) (from ox : ℕ) (other : ba
   reply-is : linkOf (d .port) h f .reply ≡ replyFor (judgementOf s)
   unfolding plogiOf outcomeOf
   reply-is =
-      ap (λ (r : Decided). r .reply) linked ∙ rw (first-free, same-words) (same-reply (verdictOf (paramsOf s 4)) ∙ ap replyFor (sym judged-is))
+      ap (λ (r : Decided). r .reply) linked ∙ rw (first-free (verdictOf (paramsOf f 28)) (nameOf (paramsOf f 28 .«port_name»)), same-words) (same-reply (verdictOf (paramsOf s 4)) ∙ ap replyFor (sym judged-is))
 
   own-small : t .address < 256
   unfolding setupRules

@@ -1,19 +1,30 @@
--- A port login that is not refused is accepted or rejected at the entry exactly as document 01 says, with the stated reason, and the bytes in the lent buffer tell which. Assumes nothing.
+-- A port login that is not refused is accepted or rejected at the entry exactly as document 01 says, with the stated reason, and the bytes in the lent buffer tell which;
+-- and it ends no login of another address but that of its port name. Assumes nothing.
 use mathlib.Core.Path.{_≡_, refl, sym, ap, _∙_, subst}
 use mathlib.Core.Logic.{_⊎_, inl, inr}
+use mathlib.Core.Bool.{true, false}
 use mathlib.Core.List.{List, append-nil}
 use Prim.Native.Nat.{ℕ, _≤_, _<_}
 use native.Mathlib.Omega.{arith}
 use lib.ListN.{length, drop, getD}
 use lib.Seq.{take-append-seam, drop-at, getD-take}
-use borrow.Author.Tests.{eqb-true, ltb-false}
+use borrow.Author.Tests.{eqb-true, eq-eqb, ltb-false}
+use Rattle.tables.specs.declared.Found.the-variants.{Nothing}
+use Rattle.tables.specs.Lists.{pairs}
+use Rattle.tables.proofs.Bools.{apart}
 use Rattle.wire.specs.Bytes.{onto}
 use Rattle.wire.proofs.Fronts.{onto-fits}
 use Rattle.frame.specs.declared.Header.{Header}
 use Rattle.frame.specs.Head.{headerOf, headerBytes}
-use Rattle.params.specs.Words.{paramsOf}
+use Rattle.params.specs.declared.Fault.{Fault}
+use Rattle.params.specs.declared.Fault.the-variants.{BufferSize, PortName, NodeName, ClassThree, DataSize, ConcurrentSequences, OpenSequences}
+use Rattle.params.specs.Words.{paramsOf, fails, reasonOf}
+use Rattle.params.proofs.Exactly.{accepts-then}
 use Rattle.state.specs.declared.Port.{Port}
 use Rattle.state.specs.Changes.{ownOf, withLogin}
+use Rattle.state.specs.Tables.{freeLogin}
+use Rattle.formed.specs.Formed.{apartLogin}
+use Rattle.formed.proofs.Parts.{formed-parts}
 use Rattle.refusal.specs.declared.Said.the-variants.{Sent}
 use Rattle.reply.specs.declared.Reply.the-variants as reply
 use Rattle.reply.specs.declared.Accepted.the-variants as accepted
@@ -21,13 +32,17 @@ use Rattle.reply.specs.Payload.{shortBytes, loginBytes, rejectBytes}
 use Rattle.reply.specs.Reply.{answerHead, filled, bytesOf}
 use Rattle.calls.specs.Turn.{Decided, decidedAs}
 use Rattle.link.specs.Link.{newLogin, linkOf}
-use Rattle.link.specs.Login.{ended, leftBy, Accepts, Rejects}
+use Rattle.link.specs.Login.{namedIn, hostGone, leftBy, Accepts, Rejects, wrong-size, test-fails, no-place}
+use Rattle.link.specs.Record.{recordOf}
 use Rattle.link.proofs.Exactly.{accepts, rejects, no-third}
+use Rattle.link.proofs.Room.{full-unnamed}
+use Rattle.link.proofs.Moved as link
 use Rattle.arrival.specs.Arrival.{formOf}
 use Rattle.arrival.proofs.Passes.{Passes, passed}
 use Rattle.drive.specs.declared.Drive.{Drive}
+use Rattle.drive.specs.declared.Answer.{Answer}
 use Rattle.drive.specs.Entry.{answered, decidedIn, replyBytes, frameIn, frameInBuffer}
-use Rattle.demands.specs.Login.{LoginIn, Begins, loginHeader, accBytes, rjtBytes, PortLogin}
+use Rattle.demands.specs.Login.{LoginIn, Begins, loginHeader, accBytes, rjtBytes, PortLogin, HostMoved}
 use Rattle.demands.proofs.Refusals.{frame-answers}
 
 -- a list has the bytes that it begins with
@@ -90,7 +105,7 @@ module _ (d : Drive) (f l : List ℕ) (p : LoginIn d f l) (words : length (d .po
   unfolding headerBytes
   rjt-long r x = refl
 
-  login-accepts : (a : Accepts port head f) → Answers (accBytes d f) 140 (withLogin (ended port head) (a .place) (newLogin (head .«s_id») (paramsOf f 28)))
+  login-accepts : (a : Accepts port head f) → Answers (accBytes d f) 140 (withLogin (hostGone port head f) (a .place) (newLogin (head .«s_id») (paramsOf f 28)))
   login-accepts a = login-answers (accBytes d f) 140 _ (omega arith) acc-long (acc-is _) (accepts port head f (p .plogi) a)
 
   login-rejects : (r x : ℕ) → Rejects port head f r x → Answers (rjtBytes d f r x) 32 (leftBy port head f)
@@ -137,3 +152,44 @@ module _ (d : Drive) (f l : List ℕ) (p : LoginIn d f l) (words : length (d .po
         rejects-only = login-rejects-only;
         no-third = no-third port head f (p .plogi);
       }
+
+  -- what a PLOGI that finds no place has
+  record Full : Type 0 where
+    size : length f ≡ 140
+    tests : (t : Fault) → fails (paramsOf f 28) t ≡ false
+    none : freeLogin (hostGone port head f) ≡ Nothing
+
+  is-full : (r x : ℕ) → Rejects port head f r x → r ≡ 0x09 → Full
+  is-full r x (wrong-size n) e = absurd (omega arith)
+  is-full r x (test-fails n t i) e = absurd (never t e)
+    where
+      never : (v : Fault) → reasonOf v .reason ≡ 0x09 → ⊥
+      never BufferSize z = omega arith
+      never PortName z = omega arith
+      never NodeName z = omega arith
+      never ClassThree z = omega arith
+      never DataSize z = omega arith
+      never ConcurrentSequences z = omega arith
+      never OpenSequences z = omega arith
+  is-full r x (no-place n t g) e = record { size = n; tests = t; none = g }
+
+  -- nothing changed then
+  full-left : Full → leftBy port head f ≡ port
+  full-left g = rw (eq-eqb (length f) 140 (g .size), accepts-then (paramsOf f 28) (g .tests))
+
+  distinct : pairs apartLogin (port .logins) ≡ true
+  distinct = formed-parts {u = d .unit} {p = port} (passes .fine) .distinct
+
+  pub moved-is : (b : ℕ) → (b ≡ head .«s_id» → ⊥) → HostMoved d f l b
+  moved-is b n =
+      record {
+        moved-in = λ a. rw (port-accepted a) (link.moved-in port distinct head f a);
+        moved-out = λ a k. rw (port-accepted a) (link.moved-login port distinct head f a b n k, link.moved-out port distinct head f a b n k);
+        others-stay = λ a k. rw (port-accepted a) (link.others-stay port distinct head f a b n k);
+        moved-room = λ k r. apart k (full-unnamed port (head .«s_id») (namedIn f) (is-full 0x09 0x29 r refl .none) b);
+        full-nothing = λ r. ap (λ (x : Answer). x .drive) (login-rejects 0x09 0x29 r .2) ∙ ap (λ (q : Port). record { unit = d .unit; port = q }) (full-left (is-full 0x09 0x29 r refl));
+        rejected-alone = λ r x j. rw (ap (λ (y : Answer). y .drive .port) (login-rejects r x j .2)) (link.rejected-alone port distinct head f b n);
+      }
+    where
+      port-accepted : (a : Accepts port head f) → frameIn d f (length l) .drive .port ≡ withLogin (hostGone port head f) (a .place) (newLogin (head .«s_id») (paramsOf f 28))
+      port-accepted a = ap (λ (x : Answer). x .drive .port) (login-accepts a .2)

@@ -1,4 +1,4 @@
--- Calls that come between the frames of an open exchange: those that leave it open, and those that end it (document 01, "Link services", "Commands", "Events").
+-- Calls that come between the frames of an open exchange: those that leave it open, and those that end it (document 01, "Link services", "Commands", "Events"; document 02, request 1).
 use mathlib.Core.Path.{_≡_}
 use mathlib.Core.Bool.{true, false}
 use mathlib.Core.Logic.{_⊎_}
@@ -16,6 +16,7 @@ use Rattle.state.specs.declared.Port.{Port}
 use Rattle.state.specs.declared.Change.the-variants.{EndExchangesOf, Reset, Clear}
 use Rattle.state.specs.Tables.{loginOf}
 use Rattle.link.specs.Link.{sizeOf, namesDiffer, pageFine}
+use Rattle.link.specs.Login.{Moves}
 use Rattle.command.specs.declared.Task.{Task}
 use Rattle.command.specs.declared.Task.the-variants as task
 use Rattle.command.specs.Cmnd.{cmndOf, taskOf}
@@ -82,8 +83,8 @@ pub data LeavesOpen (d : Drive) (a x : ℕ) : Call → Type 0 where
   loop-reset : LeavesOpen d a x (event LoopReset)
   -- "verification time over ends the unproven ones", and this one is proven
   time-over : loginOf (d .port) a .proven ≡ 1 → LeavesOpen d a x (event TimeOver)
-  -- any frame of another sender but one that ends all exchanges
-  other : (f : List ℕ) (room : ℕ) (known : AllBytes f) → (headerOf f .«s_id» ≡ a → ⊥) → (EndsAll (d .port) f → ⊥) → LeavesOpen d a x (frame f room known)
+  -- any frame of another sender but one that ends all exchanges, and a PLOGI with the port name of this login
+  other : (f : List ℕ) (room : ℕ) (known : AllBytes f) → (headerOf f .«s_id» ≡ a → ⊥) → (EndsAll (d .port) f → ⊥) → (Moves (d .port) a (headerOf f) f → ⊥) → LeavesOpen d a x (frame f room known)
   -- "A 23h frame that passes .. changes nothing"
   done : (f : List ℕ) (room : ℕ) (known : AllBytes f) → Own a 0x23 f → LeavesOpen d a x (frame f room known)
   -- ABTS of another OX_ID; "RX_ID not FFFFh, BA_RJT"
@@ -111,6 +112,8 @@ pub data EndsOpen (d : Drive) (a x : ℕ) : Call → Type 0 where
   time-out : (loginOf (d .port) a .proven ≡ 1 → ⊥) → EndsOpen d a x (event TimeOver)
   -- "20h target reset ends all exchanges", "04h clear task set ends all", of whatever sender
   all-end : (f : List ℕ) (room : ℕ) (known : AllBytes f) → EndsAll (d .port) f → EndsOpen d a x (frame f room known)
+  -- "A PLOGI whose parameters pass, with a port name logged in at another address, ends that login and its exchanges" (02, 1)
+  moved : (f : List ℕ) (room : ℕ) (known : AllBytes f) → (headerOf f .«s_id» ≡ a → ⊥) → Moves (d .port) a (headerOf f) f → EndsOpen d a x (frame f room known)
   -- "02h abort task set the sender's"
   aborts-set : (f : List ℕ) (room : ℕ) (known : AllBytes f) → Own a 0x06 f → asked f ≡ task.Apply (EndExchangesOf a) → EndsOpen d a x (frame f room known)
   -- "(1) OX_ID open at this login: that exchange ends"

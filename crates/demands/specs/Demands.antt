@@ -14,6 +14,7 @@ use prog.Wp.{Heap}
 use ghost.Atoms.{Atoms}
 use contract.Monad.{Fun}
 use Rattle.tables.specs.Firsts.{IsFirst}
+use Rattle.wire.specs.Bytes.{nameOf}
 use Rattle.wire.specs.Layout.{AllBytes}
 use Rattle.frame.specs.declared.Header.{Header}
 use Rattle.frame.specs.Head.{Fits, headerOf, headerBytes}
@@ -41,7 +42,7 @@ use Rattle.drive.specs.Entry.{answered, frameIn, frameInBuffer, nextFrame, next
 use Rattle.demands.specs.Contracts.{OneReply}
 use Rattle.demands.specs.Driven.{Driven}
 use Rattle.demands.specs.Refusals.{appliesOut}
-use Rattle.demands.specs.Login.{LoginIn, PortLogin}
+use Rattle.demands.specs.Login.{LoginIn, PortLogin, HostMoved}
 use Rattle.demands.specs.Between.{Call, after, LeavesOpen, EndsOpen, Serves, Taken, Left}
 use Rattle.demands.specs.Reading.{Sends, Shown, Reads, Fresh, CommandIn, readOf, Opens, read, Opened, Delivered, readFrom, Frees, Comes}
 use Rattle.demands.specs.Numbers.{KnownNumbers}
@@ -84,9 +85,14 @@ pub record Demand2 : Type 0 where
   pub header-bytes : (f : List ℕ) → AllBytes f → 24 ≤ length f → headerBytes (headerOf f) ≡ take 24 f
   pub header-fields : (h : Header) (rest : List ℕ) → Fits h → headerOf (headerBytes h ++ rest) ≡ h
   -- A port login that is not refused, over the bytes of the lent buffer and both ways: ACC stands there, byte for byte, exactly where the size is right, every word test passes and a place is free once the
-  -- sender's login has ended, and the new login is stored at that place; LS_RJT with a reason exactly where the reason is the first that applies, and of right size the sender's login has ended all the same,
-  -- of wrong size the drive is as it was. Later bytes are unchanged, the length is told, and there is no third answer. The accept words are 112 bytes, as above.
+  -- sender's login has ended and that of its port name, and the new login is stored at that place, the lowest; LS_RJT with a reason exactly where the reason is the first that applies, and where a word test
+  -- fails the sender's login has ended all the same and no other, else the drive is as it was. Later bytes are unchanged, the length is told, and there is no third answer. The accept words are 112 bytes.
   pub port-login : (d : Drive) (f l : List ℕ) → LoginIn d f l → length (d .port .accept) ≡ 112 → PortLogin d f l
+  -- The host that moved (02, 1): after an accepted PLOGI the record of its port name at another address is out, and at its own held; every other login, exchanges too, is as it was; where the name is found
+  -- the room test cannot fail; after a 09,29 nothing changed, and after no rejection another's login.
+  pub host-moved : (d : Drive) (f l : List ℕ) → LoginIn d f l → length (d .port .accept) ≡ 112 → (b : ℕ) → (b ≡ headerOf f .«s_id» → ⊥) → HostMoved d f l b
+  -- Port names are compared by their numbers: names of eight bytes whose numbers are equal are equal byte by byte.
+  pub name-same : (x y : List ℕ) → AllBytes x → AllBytes y → length x ≡ 8 → length y ≡ 8 → nameOf x ≡ nameOf y → x ≡ y
   -- A whole READ, read off the lent buffers: the unit's bytes from its first block on, to the smaller of wanted and FCP_DL, each once and in order, each frame at its OFFSET
   -- with its number modulo 65,536 as SEQ_CNT, full but for the last, then FCP_RSP with status 00h and the residual, every byte of each as the table of headers has it, and the place freed.
   -- Whatever windows are cut from the unit, whatever the buffers hold, and whatever calls come between that leave the exchange open; where none does, nothing else of the drive has changed.

@@ -1,5 +1,7 @@
--- A port login that reaches the link services: the bytes of its two answers, and when each of them stands in the lent buffer (document 01, "Header and reply headers" and "Link services").
+-- A port login that reaches the link services: the bytes of its two answers, and when each of them stands in the lent buffer (document 01, "Header and reply headers" and "Link services"),
+-- and what it does to the logins of other addresses (document 02, request 1).
 use mathlib.Core.Path.{_≡_}
+use mathlib.Core.Bool.{true, false}
 use mathlib.Core.Logic.{_⊎_}
 use mathlib.Core.List.{List, [], _∷_, _++_}
 use Prim.Native.Nat.{ℕ}
@@ -8,11 +10,13 @@ use Rattle.tables.specs.Firsts.{NoneOf}
 use Rattle.frame.specs.declared.Header.{Header}
 use Rattle.frame.specs.Head.{headerOf, headerBytes}
 use Rattle.params.specs.Words.{paramsOf}
-use Rattle.state.specs.Changes.{withLogin}
+use Rattle.state.specs.Changes.{emptyLogin, hasName, withLogin}
+use Rattle.state.specs.Tables.{loginOf}
 use Rattle.refusal.specs.declared.Said.the-variants.{Sent}
 use Rattle.refusal.specs.Refusal.{frameOrder}
 use Rattle.link.specs.Link.{newLogin}
-use Rattle.link.specs.Login.{ended, leftBy, Accepts, Rejects}
+use Rattle.link.specs.Login.{namedIn, hostGone, leftBy, Accepts, Rejects}
+use Rattle.link.specs.Record.{out, held, keptFrom, recordOf}
 use Rattle.arrival.specs.Arrival.{appliesIn}
 use Rattle.drive.specs.declared.Drive.{Drive}
 use Rattle.drive.specs.Entry.{frameIn, frameInBuffer}
@@ -55,14 +59,15 @@ rjtBytes d f r x = headerBytes (loginHeader d f) ++ (0x01 ∷ 0x00 ∷ 0x00 ∷ 
 
 -- what becomes of the PLOGI f at the drive d, where the buffer l is lent; "its length .. in the answer, later bytes unchanged"
 pub record PortLogin (d : Drive) (f l : List ℕ) : Type 0 where
-  -- "Accepted: the lowest free place keeps address, names, W18 size, W19/B1, W20/B1, proven, unpaired, attention 29h", once the sender's login has ended; ACC is sent, of 140 bytes
+  -- "Accepted: the lowest free place keeps address, names, W18 size, W19/B1, W20/B1, proven, unpaired, attention 29h", once the sender's login has ended and that of its port name; ACC is sent, of 140 bytes
   pub accepts : (a : Accepts (d .port) (headerOf f) f)
       → Begins (accBytes d f) (frameInBuffer d f l)
       × (drop 140 (frameInBuffer d f l) ≡ drop 140 l)
-      × (frameIn d f (length l) ≡ record { said = Sent 140; drive = record { unit = d .unit; port = withLogin (ended (d .port) (headerOf f)) (a .place) (newLogin (headerOf f .«s_id») (paramsOf f 28)) } })
+      × (frameIn d f (length l) ≡ record { said = Sent 140; drive = record { unit = d .unit; port = withLogin (hostGone (d .port) (headerOf f) f) (a .place) (newLogin (headerOf f .«s_id») (paramsOf f 28)) } })
   -- "(demand 2's exactly-when)": ACC stands in the buffer only so
   pub accepts-only : Begins (accBytes d f) (frameInBuffer d f l) → Accepts (d .port) (headerOf f) f
-  -- "Of right size, it ends the sender's login and exchanges first, accepted or not"; LS_RJT with this reason and explanation is sent, of 32 bytes
+  -- "Of right size, it ends the sender's login and exchanges first, accepted or not": where a word test fails, and no other's; of wrong size, and where no place is free, nothing changes (`leftBy`);
+  -- LS_RJT with this reason and explanation is sent, of 32 bytes
   pub rejects : (r x : ℕ) → Rejects (d .port) (headerOf f) f r x
       → Begins (rjtBytes d f r x) (frameInBuffer d f l)
       × (drop 32 (frameInBuffer d f l) ≡ drop 32 l)
@@ -71,3 +76,19 @@ pub record PortLogin (d : Drive) (f l : List ℕ) : Type 0 where
   pub rejects-only : (r x : ℕ) → Begins (rjtBytes d f r x) (frameInBuffer d f l) → Rejects (d .port) (headerOf f) f r x
   -- "accepted or not": always one of the two
   pub no-third : Accepts (d .port) (headerOf f) f ⊎ ((r : ℕ) × (x : ℕ) × Rejects (d .port) (headerOf f) f r x)
+
+-- what becomes of the logins of other addresses, b, by the PLOGI f at the drive d, where the buffer l is lent
+pub record HostMoved (d : Drive) (f l : List ℕ) (b : ℕ) : Type 0 where
+  -- accepted, the sender's record is held, in the parameters sent
+  pub moved-in : Accepts (d .port) (headerOf f) f → recordOf (frameIn d f (length l) .drive .port) (headerOf f .«s_id») ≡ held false true (keptFrom (paramsOf f 28))
+  -- and where b's login has its port name, it "ends .. and its exchanges": no login of b is left, and b's record is out
+  pub moved-out : Accepts (d .port) (headerOf f) f → hasName (namedIn f) (loginOf (d .port) b) ≡ true
+      → (loginOf (frameIn d f (length l) .drive .port) b ≡ emptyLogin) × (recordOf (frameIn d f (length l) .drive .port) b ≡ out)
+  -- where it has another, it stays as it was, exchanges and attention too
+  pub others-stay : Accepts (d .port) (headerOf f) f → hasName (namedIn f) (loginOf (d .port) b) ≡ false → loginOf (frameIn d f (length l) .drive .port) b ≡ loginOf (d .port) b
+  -- where b's login has its port name, the room test cannot fail: there is no 09,29
+  pub moved-room : hasName (namedIn f) (loginOf (d .port) b) ≡ true → Rejects (d .port) (headerOf f) f 0x09 0x29 → ⊥
+  -- after a 09,29 nothing of the drive changed
+  pub full-nothing : Rejects (d .port) (headerOf f) f 0x09 0x29 → frameIn d f (length l) .drive ≡ d
+  -- rejected for whatever reason, b's login stays as it was
+  pub rejected-alone : (r x : ℕ) → Rejects (d .port) (headerOf f) f r x → loginOf (frameIn d f (length l) .drive .port) b ≡ loginOf (d .port) b

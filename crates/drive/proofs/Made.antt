@@ -22,7 +22,7 @@ fine d = wellFormed (d .unit) (d .port)
 -- a drive made from a setup that keeps its rules is well formed
 pub made-formed : (s : Setup) → setupRules s ≡ true → wellFormed (madeFrom s .unit) (madeFrom s .port) ≡ true
 unfolding madeFrom setupOf ownOf
-made-formed s e = formed-whole record { setup = e; logins = rw (empty-fine (madeFrom s .unit) (s .address)); addresses = empties-apart }
+made-formed s e = formed-whole record { setup = e; logins = rw (empty-fine (madeFrom s .unit) (s .address)); distinct = empties-apart }
 
 -- making a drive is refused, with 8, exactly when a setup rule fails
 pub new-refused : (s : Setup) → setupRules s ≡ false → newAnswer s ≡ refused BadSetup noDrive

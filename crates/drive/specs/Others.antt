@@ -11,6 +11,7 @@ use Rattle.calls.specs.declared.Turn.{Turn}
 use Rattle.calls.specs.View.{viewOf}
 use Rattle.calls.specs.Turn.{refusedTurn}
 use Rattle.arrival.specs.Arrival.{shortBuffer, appliesIn}
+use Rattle.link.specs.Login.{Moves}
 use Rattle.drive.specs.declared.Drive.{Drive}
 use Rattle.drive.specs.declared.Answer.{Answer}
 use Rattle.drive.specs.Entry.{frameIn, nextFrame}
@@ -21,6 +22,12 @@ pub data OfOthers (a : ℕ) : Type 0 where
   frame : (f : List ℕ) (room : ℕ) → (a ≡ headerOf f .«s_id» → ⊥) → OfOthers a
   done : (f : List ℕ) (room : ℕ) → headerOf f .«r_ctl» ≡ 0x23 → OfOthers a
   next : (b x start : ℕ) (W : List ℕ) (room : ℕ) → (a ≡ b → ⊥) → OfOthers a
+
+-- such a call is none by which the host of a has moved: no PLOGI "whose parameters pass" with the port name of a's login (02, 1)
+abbrev pub Unmoved : {a : ℕ} → Drive → OfOthers a → Type 0
+Unmoved {a} d (frame f room n) = Moves (d .port) a (headerOf f) f → ⊥
+Unmoved d (done f room r) = Unit {0}
+Unmoved d (next b x start W room n) = Unit {0}
 
 -- what a frame in and a next frame come to, by the refusals in their order
 unfoldable pub turnIn : Drive → List ℕ → ℕ → Turn

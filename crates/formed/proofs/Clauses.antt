@@ -5,6 +5,7 @@ use mathlib.Core.Path.{_≡_, refl}
 use mathlib.Core.Bool.{Bool, true, false}
 use mathlib.Core.List.{List, [], _∷_, _++_}
 use lib.ListN.{replicate}
+use Rattle.wire.specs.Bytes.{nameOf}
 use Rattle.address.specs.Address.{validAddress}
 use Rattle.params.specs.Words.{paramsOf, sizeFails, zeroName, verdictOf, setupPasses}
 use Rattle.state.specs.declared.Exchange.{Exchange}
@@ -12,7 +13,7 @@ use Rattle.state.specs.declared.Login.{Login}
 use Rattle.state.specs.declared.Port.{Port}
 use Rattle.state.specs.declared.Unit.{Unit}
 use Rattle.state.specs.Changes.{emptyExchange, emptyLogin, ownOf}
-use Rattle.formed.specs.Formed.{setupRules, setupOf, readFits, madeFits, wantedFits, sentFits, exchangeFine, apartId, paramsFine, flagsFine, addressFine, usedFine, loginFine, apartAddress, wellFormed}
+use Rattle.formed.specs.Formed.{setupRules, setupOf, readFits, madeFits, wantedFits, sentFits, exchangeFine, apartId, paramsFine, flagsFine, addressFine, usedFine, loginFine, apartLogin, wellFormed}
 
 -- a unit of this capacity
 abbrev pub unitOf : ℕ → Unit
@@ -109,6 +110,10 @@ stored port node size concurrent sequences es = login 1 1 1 0 0x01 port node siz
 abbrev pub at : (address last : ℕ) → Login
 at address last = login 1 1 1 0 address (named last) name 256 1 1 busy
 
+-- its place once it is free, without exchanges
+abbrev pub freed : Login → Login
+freed l = login 0 0 0 0 (l .address) (l .«port_name») (l .«node_name») 256 1 1 idle
+
 -- a free place with numbers left over in every field, all of which a login would fail for
 abbrev pub stale : Login
 stale = login 0 2 2 1 0xef zeros zeros 252 0 0 (replicate 8 (exchange 0 0x1234 200 0 7 0 9 3))
@@ -147,7 +152,7 @@ pub setup-clauses :
     × (setup 100 0xef 255 1 busy ≡ true)  -- W19/B1 may be any other
     × (setup 100 0xef 1 0 busy ≡ false)  -- "W20/B1 not 0"
     × (setup 100 0xef 1 2 busy ≡ false)  -- "with W20/B1 = 01h"
-unfolding wellFormed setupRules setupOf ownOf validAddress setupPasses paramsOf verdictOf sizeFails zeroName loginFine usedFine flagsFine addressFine paramsFine exchangeFine wantedFits readFits madeFits sentFits apartId apartAddress
+unfolding wellFormed setupRules setupOf ownOf validAddress setupPasses paramsOf verdictOf sizeFails zeroName loginFine usedFine flagsFine addressFine paramsFine exchangeFine wantedFits readFits madeFits sentFits apartId apartLogin nameOf
 setup-clauses = (refl, refl, refl, refl, refl, refl, refl, refl, refl, refl, refl, refl)
 
 -- the flags and the attention of a login, and its address
@@ -169,11 +174,15 @@ pub login-clauses :
     × (one (at 0xef 0x02) ≡ false)  -- "not ours"
     × (both (at 0x01 0x01) (at 0x02 0x02) ≡ true)  -- two logins with the same OX_IDs
     × (both (at 0x01 0x01) (at 0x01 0x02) ≡ false)  -- "distinct", whatever their port names
+    × (both (at 0x01 0x01) (at 0x02 0x01) ≡ false)  -- "Login port names are then distinct" (02, 1), whatever their addresses; the node names may be the same
+    × (both (at 0x01 0x01) (freed (at 0x02 0x01)) ≡ true)  -- a free place may keep an old port name
+    × (both (freed (at 0x02 0x01)) (at 0x01 0x01) ≡ true)  -- before the login too
+    × (both (stored (named 0x01) (named 0x02) 256 1 1 busy) (at 0x02 0x02) ≡ true)  -- nor is a node name compared with a port name
     × (both stale stale ≡ true)  -- of free places nothing is asked
     × (both stale (at 0x01 0x01) ≡ true)  -- nor of them beside a login
     × (one (flagged 0 1 1 0 busy) ≡ false)  -- but that they hold no open exchange
-unfolding wellFormed setupRules setupOf ownOf validAddress setupPasses paramsOf verdictOf sizeFails zeroName loginFine usedFine flagsFine addressFine paramsFine exchangeFine wantedFits readFits madeFits sentFits apartId apartAddress
-login-clauses = (refl, refl, refl, refl, refl, refl, refl, refl, refl, refl, refl, refl, refl, refl, refl, refl, refl, refl, refl, refl)
+unfolding wellFormed setupRules setupOf ownOf validAddress setupPasses paramsOf verdictOf sizeFails zeroName loginFine usedFine flagsFine addressFine paramsFine exchangeFine wantedFits readFits madeFits sentFits apartId apartLogin nameOf
+login-clauses = (refl, refl, refl, refl, refl, refl, refl, refl, refl, refl, refl, refl, refl, refl, refl, refl, refl, refl, refl, refl, refl, refl, refl, refl)
 
 -- "stored parameters pass the PLOGI rules"; idle where another size would break what is asked of the bytes sent
 pub parameter-clauses :
@@ -190,7 +199,7 @@ pub parameter-clauses :
     × (one (stored name name 256 0 1 busy) ≡ false)  -- "W19/B1 not 0"
     × (one (stored name name 256 1 0 busy) ≡ false)  -- "W20/B1 not 0"
     × (one (stored name name 256 255 255 busy) ≡ true)  -- W20/B1 = 01h is asked of the setup alone
-unfolding wellFormed setupRules setupOf ownOf validAddress setupPasses paramsOf verdictOf sizeFails zeroName loginFine usedFine flagsFine addressFine paramsFine exchangeFine wantedFits readFits madeFits sentFits apartId apartAddress
+unfolding wellFormed setupRules setupOf ownOf validAddress setupPasses paramsOf verdictOf sizeFails zeroName loginFine usedFine flagsFine addressFine paramsFine exchangeFine wantedFits readFits madeFits sentFits apartId apartLogin nameOf
 parameter-clauses = (refl, refl, refl, refl, refl, refl, refl, refl, refl, refl, refl, refl, refl)
 
 -- where exchanges stand, and "each exchange is one an accepted command could open"
@@ -227,7 +236,7 @@ pub exchange-clauses :
     × (opened halfway (other 8 1 36 0 0) ≡ true)  -- with 05/25/00, the least
     × (opened halfway (other 8 19 36 0 0) ≡ false)  -- with 05/25/00, one more than 18
     × (opened halfway (other 8 0 36 0 0) ≡ false)  -- and not nothing
-unfolding wellFormed setupRules setupOf ownOf validAddress setupPasses paramsOf verdictOf sizeFails zeroName loginFine usedFine flagsFine addressFine paramsFine exchangeFine wantedFits readFits madeFits sentFits apartId apartAddress
+unfolding wellFormed setupRules setupOf ownOf validAddress setupPasses paramsOf verdictOf sizeFails zeroName loginFine usedFine flagsFine addressFine paramsFine exchangeFine wantedFits readFits madeFits sentFits apartId apartLogin nameOf
 exchange-clauses = (refl, refl, refl, refl, refl, refl, refl, refl, refl, refl, refl, refl, refl, refl, refl, refl, refl, refl, refl, refl, refl, refl, refl, refl, refl, refl, refl, refl, refl, refl, refl, refl)
 
 -- "each exchange is one an accepted command could open": only READ(10) names blocks, and every other kind has start and blocks 0
@@ -253,7 +262,7 @@ pub made-clauses :
     × (opened halfway (placed 8 0 0 18) ≡ true)  -- with 05/25/00
     × (opened halfway (placed 8 1 0 18) ≡ false)  -- a start
     × (opened halfway (placed 8 0 1 18) ≡ false)  -- a block
-unfolding wellFormed setupRules setupOf ownOf validAddress setupPasses paramsOf verdictOf sizeFails zeroName loginFine usedFine flagsFine addressFine paramsFine exchangeFine wantedFits readFits madeFits sentFits apartId apartAddress
+unfolding wellFormed setupRules setupOf ownOf validAddress setupPasses paramsOf verdictOf sizeFails zeroName loginFine usedFine flagsFine addressFine paramsFine exchangeFine wantedFits readFits madeFits sentFits apartId apartLogin nameOf
 made-clauses = (refl, refl, refl, refl, refl, refl, refl, refl, refl, refl, refl, refl, refl, refl, refl, refl, refl, refl, refl, refl, refl)
 
 -- "with bytes sent at most its total and, short of it, a whole number of full frames", and the count of the data frames sent
@@ -272,5 +281,5 @@ pub sent-clauses :
     × (large 65535 33553920 16777216 0 ≡ true)  -- "going round at 65,536": 65,536 frames sent
     × (large 65535 33553920 33553920 65534 ≡ true)  -- and 131,070
     × (large 65535 33553920 33553920 65535 ≡ false)  -- one more
-unfolding wellFormed setupRules setupOf ownOf validAddress setupPasses paramsOf verdictOf sizeFails zeroName loginFine usedFine flagsFine addressFine paramsFine exchangeFine wantedFits readFits madeFits sentFits apartId apartAddress
+unfolding wellFormed setupRules setupOf ownOf validAddress setupPasses paramsOf verdictOf sizeFails zeroName loginFine usedFine flagsFine addressFine paramsFine exchangeFine wantedFits readFits madeFits sentFits apartId apartLogin nameOf
 sent-clauses = (refl, refl, refl, refl, refl, refl, refl, refl, refl, refl, refl, refl, refl, refl)

@@ -8,18 +8,19 @@ use lib.ListN.{set, replicate}
 use borrow.Author.Tests.{eqb-false, ne-eqb, not-true}
 use Rattle.tables.specs.declared.Found.the-variants.{Nothing}
 use Rattle.tables.specs.Lists.{all, pairs}
-use Rattle.tables.proofs.Bools.{and-left, and-right, apart}
+use Rattle.tables.proofs.Bools.{and-left, and-right, or-left, or-right, apart}
 use Rattle.tables.proofs.Searches.{missed}
+use Rattle.wire.specs.Bytes.{nameOf}
 use Rattle.tables.proofs.Keeping.{all-always, all-map, all-than, all-set, all-update, pairs-map, pairs-set, pairs-update}
 use Rattle.state.specs.declared.Exchange.{Exchange}
 use Rattle.state.specs.declared.Login.{Login}
 use Rattle.state.specs.declared.Port.{Port}
 use Rattle.state.specs.declared.Unit.{Unit}
 use Rattle.state.specs.declared.Change.{Change}
-use Rattle.state.specs.declared.Change.the-variants.{Keep, EndAll, EndLogin, Unprove, EndUnproven, EndExchangesOf, Reset, Clear}
-use Rattle.state.specs.Changes.{emptyExchange, emptyLogin, isUsed, loginAt, exchangeAt, withLogin, withState, withProven, withPaired, withAttention, withPlaces, withExchange, withoutExchanges, hasAddress, freedOf, endedOf, unproven, verified, abortedOf, resetOf, losesTo, clearedBy, changedOf, changedAll, isClosed, ownOf}
+use Rattle.state.specs.declared.Change.the-variants.{Keep, EndAll, EndLogin, EndHost, Unprove, EndUnproven, EndExchangesOf, Reset, Clear}
+use Rattle.state.specs.Changes.{emptyExchange, emptyLogin, isUsed, loginAt, exchangeAt, withLogin, withState, withProven, withPaired, withAttention, withPlaces, withExchange, withoutExchanges, hasAddress, hasName, isHost, freedOf, endedOf, hostEnded, unproven, verified, abortedOf, resetOf, losesTo, clearedBy, changedOf, changedAll, isClosed, ownOf}
 use Rattle.state.specs.Tables.{isFree, hasId, findExchange}
-use Rattle.formed.specs.Formed.{fullFrame, openable, sentFits, exchangeFine, apartId, paramsFine, flagsFine, addressFine, loginFine, apartAddress, wellFormed}
+use Rattle.formed.specs.Formed.{fullFrame, openable, sentFits, exchangeFine, apartId, paramsFine, flagsFine, addressFine, loginFine, apartLogin, wellFormed}
 use Rattle.formed.proofs.Parts.{Used, fine-used, used-fine, Formed, formed-parts, formed-whole}
 
 module _ {u : Unit} {own : ℕ} where
@@ -105,30 +106,55 @@ id-after : (e f : Exchange) → not (hasId (e .«ox_id») f) ≡ true → apartI
 unfolding hasId apartId
 id-after e f h = after-step (isClosed e) (isClosed f) (e .«ox_id») (f .«ox_id») h
 
--- the same of addresses, where a used place is one that is not free
+-- the same of addresses and of port names, where a used place is one that is not free
 not-free : (b c : Bool) → not (b && c) ≡ true → not (not (not b) && c) ≡ true
 not-free true c e = e
 not-free false c e = refl
 
-address-before : (l m : Login) → not (hasAddress (l .address) m) ≡ true → apartAddress l m ≡ true
-unfolding hasAddress apartAddress
-address-before l m h = before-step (isFree l) (isFree m) (l .address) (m .address) (not-free (isUsed m) (eqb (m .address) (l .address)) h)
+both-differ : (a c x y : Bool) → (a || c || x) ≡ true → (a || c || y) ≡ true → (a || c || (x && y)) ≡ true
+both-differ true c x y p q = refl
+both-differ false true x y p q = refl
+both-differ false false x y p q = rw (p, q)
 
-address-after : (l m : Login) → not (hasAddress (l .address) m) ≡ true → apartAddress m l ≡ true
-unfolding hasAddress apartAddress
-address-after l m h = after-step (isFree l) (isFree m) (l .address) (m .address) (not-free (isUsed m) (eqb (m .address) (l .address)) h)
+-- a login is apart from those that have neither its address nor its port name
+abbrev pub others : Login → Login → Bool
+others l m = not (isHost (l .address) (nameOf (l .«port_name»)) m)
+
+module _ (l m : Login) (h : others l m ≡ true) where
+  neither : isHost (l .address) (nameOf (l .«port_name»)) m ≡ false
+  neither = not-true (isHost (l .address) (nameOf (l .«port_name»)) m) h
+
+  address-not : not (isUsed m && eqb (m .address) (l .address)) ≡ true
+  unfolding hasAddress
+  address-not = ap not (or-left (hasAddress (l .address) m) (hasName (nameOf (l .«port_name»)) m) neither)
+
+  name-not : not (isUsed m && eqb (nameOf (m .«port_name»)) (nameOf (l .«port_name»))) ≡ true
+  unfolding hasName
+  name-not = ap not (or-right (hasAddress (l .address) m) (hasName (nameOf (l .«port_name»)) m) neither)
+
+  login-before : apartLogin l m ≡ true
+  unfolding apartLogin
+  login-before =
+      both-differ (isFree l) (isFree m) _ _ (before-step (isFree l) (isFree m) (l .address) (m .address) (not-free (isUsed m) (eqb (m .address) (l .address)) address-not))
+      (before-step (isFree l) (isFree m) (nameOf (l .«port_name»)) (nameOf (m .«port_name»)) (not-free (isUsed m) (eqb (nameOf (m .«port_name»)) (nameOf (l .«port_name»))) name-not))
+
+  login-after : apartLogin m l ≡ true
+  unfolding apartLogin
+  login-after =
+      both-differ (isFree m) (isFree l) _ _ (after-step (isFree l) (isFree m) (l .address) (m .address) (not-free (isUsed m) (eqb (m .address) (l .address)) address-not))
+      (after-step (isFree l) (isFree m) (nameOf (l .«port_name»)) (nameOf (m .«port_name»)) (not-free (isUsed m) (eqb (nameOf (m .«port_name»)) (nameOf (l .«port_name»))) name-not))
 
 -- an empty login is apart from every other, and empty logins are apart
-empty-before : (m : Login) → apartAddress emptyLogin m ≡ true
-unfolding apartAddress
+empty-before : (m : Login) → apartLogin emptyLogin m ≡ true
+unfolding apartLogin
 empty-before m = refl
 
-empty-after : (m : Login) → apartAddress m emptyLogin ≡ true
-unfolding apartAddress
+empty-after : (m : Login) → apartLogin m emptyLogin ≡ true
+unfolding apartLogin
 empty-after m = rw (or-true (isFree m))
 
-pub empties-apart : pairs apartAddress (replicate 8 emptyLogin) ≡ true
-unfolding apartAddress
+pub empties-apart : pairs apartLogin (replicate 8 emptyLogin) ≡ true
+unfolding apartLogin
 empties-apart = refl
 
 -- a free place stays fine without exchanges
@@ -199,9 +225,9 @@ module _ {u : Unit} {own : ℕ} {l : Login} (used : Used u own l) where
       (all-set (exchangeFine u (fullFrame (l .size)) (l .paired)) (l .places) j emptyExchange (closed-fine u (fullFrame (l .size)) (l .paired)) (used .exchanges))
       (pairs-set apartId (l .places) j emptyExchange (all-always (apartId emptyExchange) closed-before (l .places)) (all-always (λ f. apartId f emptyExchange) closed-after (l .places)) (used .ids))
 
--- a login after a change: of the same address, or gone
+-- a login after a change: of the same address and port name, or gone
 pub data Like (l : Login) : Login → Type 0 where
-  same : {m : Login} → isUsed m ≡ isUsed l → m .address ≡ l .address → Like l m
+  same : {m : Login} → isUsed m ≡ isUsed l → m .address ≡ l .address → m .«port_name» ≡ l .«port_name» → Like l m
   gone : Like l emptyLogin
 
 module _ {l : Login} where
@@ -210,23 +236,24 @@ module _ {l : Login} where
   like-cond false p q = q
 
   itself : Like l l
-  itself = same refl refl
+  itself = same refl refl refl
 
 pub like : (c : Change) (l : Login) → Like l (changedOf c l)
-unfolding freedOf endedOf unproven verified abortedOf resetOf clearedBy withoutExchanges
+unfolding freedOf endedOf hostEnded unproven verified abortedOf resetOf clearedBy withoutExchanges
 like Keep l = itself
 like EndAll l = like-cond (isUsed l) gone itself
 like (EndLogin a) l = like-cond (hasAddress a l) gone itself
-like Unprove l = like-cond (isUsed l) (same refl refl) itself
+like (EndHost a n) l = like-cond (isHost a n l) gone itself
+like Unprove l = like-cond (isUsed l) (same refl refl refl) itself
 like EndUnproven l = like-cond (isUsed l) (like-cond (eqb (l .proven) 1) itself gone) itself
-like (EndExchangesOf a) l = like-cond (hasAddress a l) (same refl refl) itself
-like Reset l = like-cond (isUsed l) (same refl refl) itself
-like (Clear a) l = like-cond (isUsed l) (like-cond (losesTo a l) (same refl refl) (same refl refl)) itself
+like (EndExchangesOf a) l = like-cond (hasAddress a l) (same refl refl refl) itself
+like Reset l = like-cond (isUsed l) (same refl refl refl) itself
+like (Clear a) l = like-cond (isUsed l) (like-cond (losesTo a l) (same refl refl refl) (same refl refl refl)) itself
 
-like-apart : {l k m n : Login} → Like l k → Like m n → apartAddress l m ≡ true → apartAddress k n ≡ true
-unfolding apartAddress
-like-apart (same p q) (same r s) e = rw (p, q, r, s) e
-like-apart {k = k} (same p q) gone e = rw (or-true (isFree k))
+like-apart : {l k m n : Login} → Like l k → Like m n → apartLogin l m ≡ true → apartLogin k n ≡ true
+unfolding apartLogin
+like-apart (same p q n) (same r s o) e = rw (p, q, n, r, s, o) e
+like-apart {k = k} (same p q n) gone e = rw (or-true (isFree k))
 like-apart gone y e = refl
 
 module _ (u : Unit) (own : ℕ) where
@@ -245,10 +272,11 @@ module _ (u : Unit) (own : ℕ) where
   told-fine l a n h e = used-fine {l = withAttention (withoutExchanges l) a} h (attention-used (without-used (fine-used h e)) a n)
 
   change-fine : (c : Change) (l : Login) → loginFine u own l ≡ true → loginFine u own (changedOf c l) ≡ true
-  unfolding freedOf endedOf unproven verified abortedOf resetOf clearedBy
+  unfolding freedOf endedOf hostEnded unproven verified abortedOf resetOf clearedBy
   change-fine Keep l e = e
   change-fine EndAll l e = fine-cond (isUsed l) emptyLogin l (λ _. empty-fine u own) e
   change-fine (EndLogin a) l e = fine-cond (hasAddress a l) emptyLogin l (λ _. empty-fine u own) e
+  change-fine (EndHost a n) l e = fine-cond (isHost a n l) emptyLogin l (λ _. empty-fine u own) e
   change-fine Unprove l e = fine-cond (isUsed l) (withProven l 0) l (λ h. used-fine {l = withProven l 0} h (proven-used (fine-used h e) 0 refl)) e
   change-fine EndUnproven l e = fine-cond (isUsed l) (cond (eqb (l .proven) 1) l emptyLogin) l (λ _. fine-cond (eqb (l .proven) 1) l emptyLogin (λ _. e) (empty-fine u own)) e
   change-fine (EndExchangesOf a) l e = fine-cond (hasAddress a l) (withoutExchanges l) l (λ _. without-step l (isUsed l) refl e) e
@@ -268,29 +296,29 @@ module _ (u : Unit) (p : Port) (w : wellFormed u p ≡ true) where
       formed-whole record {
         setup = parts .setup;
         logins = all-map (loginFine u (p .address)) (loginFine u (p .address)) (changedOf c) (change-fine u (p .address) c) (p .logins) (parts .logins);
-        addresses = pairs-map apartAddress (changedOf c) (λ l m. like-apart (like c l) (like c m)) (p .logins) (parts .addresses);
+        distinct = pairs-map apartLogin (changedOf c) (λ l m. like-apart (like c l) (like c m)) (p .logins) (parts .distinct);
       }
 
-  -- a login that is fine, and whose address no other has, may be stored at any place
-  pub store-kept : (i : ℕ) (l : Login) → loginFine u (p .address) l ≡ true → all (λ m. not (hasAddress (l .address) m)) (p .logins) ≡ true → wellFormed u (withLogin p i l) ≡ true
+  -- a login that is fine, and whose address and port name no other has, may be stored at any place
+  pub store-kept : (i : ℕ) (l : Login) → loginFine u (p .address) l ≡ true → all (others l) (p .logins) ≡ true → wellFormed u (withLogin p i l) ≡ true
   unfolding withLogin ownOf
   store-kept i l fine absent =
       formed-whole record {
         setup = parts .setup;
         logins = all-set (loginFine u (p .address)) (p .logins) i l fine (parts .logins);
-        addresses = pairs-set apartAddress (p .logins) i l (all-than (λ m. not (hasAddress (l .address) m)) (apartAddress l) (address-before l) (p .logins) absent)
-            (all-than (λ m. not (hasAddress (l .address) m)) (λ m. apartAddress m l) (address-after l) (p .logins) absent) (parts .addresses);
+        distinct = pairs-set apartLogin (p .logins) i l (all-than (others l) (apartLogin l) (login-before l) (p .logins) absent)
+            (all-than (others l) (λ m. apartLogin m l) (login-after l) (p .logins) absent) (parts .distinct);
       }
 
-  -- the login at a place may change to one that is fine, of the same address, used as it was
-  pub update-kept : (i : ℕ) (l : Login) → isUsed l ≡ isUsed (loginAt p i) → l .address ≡ loginAt p i .address
+  -- the login at a place may change to one that is fine, of the same address and port name, used as it was
+  pub update-kept : (i : ℕ) (l : Login) → isUsed l ≡ isUsed (loginAt p i) → l .address ≡ loginAt p i .address → l .«port_name» ≡ loginAt p i .«port_name»
       → (loginFine u (p .address) (loginAt p i) ≡ true → loginFine u (p .address) l ≡ true) → wellFormed u (withLogin p i l) ≡ true
-  unfolding withLogin ownOf loginAt apartAddress
-  update-kept i l used address fine =
+  unfolding withLogin ownOf loginAt apartLogin
+  update-kept i l used address name fine =
       formed-whole record {
         setup = parts .setup;
         logins = all-update (loginFine u (p .address)) emptyLogin (p .logins) i l fine (parts .logins);
-        addresses = pairs-update apartAddress emptyLogin (p .logins) i l (λ m q. rw (used, address) q) (λ m q. rw (used, address) q) (parts .addresses);
+        distinct = pairs-update apartLogin emptyLogin (p .logins) i l (λ m q. rw (used, address, name) q) (λ m q. rw (used, address, name) q) (parts .distinct);
       }
 
   -- the login at a place may end
@@ -300,5 +328,5 @@ module _ (u : Unit) (p : Port) (w : wellFormed u p ≡ true) where
       formed-whole record {
         setup = parts .setup;
         logins = all-set (loginFine u (p .address)) (p .logins) i emptyLogin (empty-fine u (p .address)) (parts .logins);
-        addresses = pairs-set apartAddress (p .logins) i emptyLogin (all-always (apartAddress emptyLogin) empty-before (p .logins)) (all-always (λ m. apartAddress m emptyLogin) empty-after (p .logins)) (parts .addresses);
+        distinct = pairs-set apartLogin (p .logins) i emptyLogin (all-always (apartLogin emptyLogin) empty-before (p .logins)) (all-always (λ m. apartLogin m emptyLogin) empty-after (p .logins)) (parts .distinct);
       }

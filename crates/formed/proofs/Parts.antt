@@ -8,7 +8,7 @@ use Rattle.state.specs.declared.Login.{Login}
 use Rattle.state.specs.declared.Port.{Port}
 use Rattle.state.specs.declared.Unit.{Unit}
 use Rattle.state.specs.Changes.{isUsed, ownOf}
-use Rattle.formed.specs.Formed.{setupRules, setupOf, fullFrame, exchangeFine, apartId, paramsFine, flagsFine, addressFine, usedFine, loginFine, apartAddress, wellFormed}
+use Rattle.formed.specs.Formed.{setupRules, setupOf, fullFrame, exchangeFine, apartId, paramsFine, flagsFine, addressFine, usedFine, loginFine, apartLogin, wellFormed}
 
 -- what is asked of a login that is used
 pub record Used (u : Unit) (own : ℕ) (l : Login) : Type 0 where
@@ -55,7 +55,7 @@ module _ {u : Unit} {own : ℕ} {l : Login} where
 pub record Formed (u : Unit) (p : Port) : Type 0 where
   pub setup : setupRules (setupOf u (ownOf p)) ≡ true
   pub logins : all (loginFine u (p .address)) (p .logins) ≡ true
-  pub addresses : pairs apartAddress (p .logins) ≡ true
+  pub distinct : pairs apartLogin (p .logins) ≡ true
 
 module _ {u : Unit} {p : Port} where
   pub formed-parts : wellFormed u p ≡ true → Formed u p
@@ -63,10 +63,10 @@ module _ {u : Unit} {p : Port} where
   formed-parts e =
       let s = setupRules (setupOf u (ownOf p)) in
       let l = all (loginFine u (p .address)) (p .logins) in
-      let a = pairs apartAddress (p .logins) in
+      let a = pairs apartLogin (p .logins) in
       let e₂ = and-left (s && l) a e in
-      record { setup = and-left s l e₂; logins = and-right s l e₂; addresses = and-right (s && l) a e }
+      record { setup = and-left s l e₂; logins = and-right s l e₂; distinct = and-right (s && l) a e }
 
   pub formed-whole : Formed u p → wellFormed u p ≡ true
   unfolding wellFormed
-  formed-whole f = rw (f .setup, f .logins, f .addresses)
+  formed-whole f = rw (f .setup, f .logins, f .distinct)

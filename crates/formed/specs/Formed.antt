@@ -1,8 +1,9 @@
--- When a state is well formed (document 01, "Setup" and "Well formed").
+-- When a state is well formed (document 01, "Setup" and "Well formed"; document 02, request 1).
 use Prim.Native.Nat.{ℕ, _+_, _-_, _*_, _/_, _%_, min}
 use mathlib.Core.Bool.{Bool, cond, not, _&&_, _||_}
 use lib.Dec.{eqb, leb, ltb}
 use Rattle.tables.specs.Lists.{all, pairs}
+use Rattle.wire.specs.Bytes.{nameOf}
 use Rattle.address.specs.Address.{validAddress}
 use Rattle.params.specs.Words.{paramsOf, sizeFails, zeroName, setupPasses}
 use Rattle.state.specs.declared.Exchange.{Exchange}
@@ -98,11 +99,11 @@ usedFine u own l =
 unfoldable pub loginFine : Unit → ℕ → Login → Bool
 loginFine u own l = cond (isUsed l) (usedFine u own l) (eqb (l .used) 0 && all isClosed (l .places))
 
--- "login addresses .. distinct"
-unfoldable pub apartAddress : Login → Login → Bool
-apartAddress l m = isFree l || isFree m || not (eqb (l .address) (m .address))
+-- "login addresses .. distinct"; "Login port names are then distinct" (02, 1), among places in use
+unfoldable pub apartLogin : Login → Login → Bool
+apartLogin l m = isFree l || isFree m || (not (eqb (l .address) (m .address)) && not (eqb (nameOf (l .«port_name»)) (nameOf (m .«port_name»))))
 
 -- "Well formed: setup rules hold; ..": the unit and a port
 unfoldable pub wellFormed : Unit → Port → Bool
 wellFormed u p =
-    setupRules (setupOf u (ownOf p)) && all (loginFine u (p .address)) (p .logins) && pairs apartAddress (p .logins)
+    setupRules (setupOf u (ownOf p)) && all (loginFine u (p .address)) (p .logins) && pairs apartLogin (p .logins)

@@ -1,9 +1,10 @@
--- A table's test by the keys of its places: each place fine, and no two that are in use known by the same number.
+-- A table's test by the keys of its places: each place fine, and no two that are in use known by the same number or the same name.
 use Prim.Native.Nat.{ℕ, _+_}
 use mathlib.Core.Bool.{Bool, cond, not, _&&_, _||_}
 use mathlib.Core.List.{List, map}
 use lib.Dec.{eqb}
 use Rattle.tables.specs.Lists.{every, all}
+use Rattle.wire.specs.Bytes.{nameOf}
 use Rattle.state.specs.declared.Exchange.{Exchange}
 use Rattle.state.specs.declared.Login.{Login}
 use Rattle.state.specs.declared.Own.{Own}
@@ -14,28 +15,32 @@ use Rattle.state.specs.Tables.{isFree}
 use Rattle.formed.specs.declared.Key.{Key}
 use Rattle.formed.specs.Formed.{setupRules, setupOf, exchangeFine, loginFine}
 
--- the key of a place: 0 where it is not fine, 1 where it is free, and from 2 on the number that it is known by
-unfoldable pub keyOf : Bool → Bool → ℕ → Key
-keyOf fine free n = record { id = cond fine (cond free 1 (2 + n)) 0 }
+-- the key of a place: 0 where it is not fine, 1 where it is free, and from 2 on the number that it is known by; the name of one that is fine and in use, else 0
+unfoldable pub keyOf : Bool → Bool → ℕ → ℕ → Key
+keyOf fine free n name = record { id = cond fine (cond free 1 (2 + n)) 0; name = cond fine (cond free 0 name) 0 }
 
--- a key is that of a free place, or another than the key n
+-- a key has this name, and 0 is the number of none
+unfoldable pub keyNamed : ℕ → Key → Bool
+keyNamed n k = not (eqb n 0) && eqb (k .name) n
+
+-- a key is another than the key n, with another name
 unfoldable pub apartKey : Key → Key → Bool
-apartKey k n = eqb (k .id) 1 || not (eqb (k .id) (n .id))
+apartKey k n = not (eqb (k .id) (n .id)) && not (eqb (k .name) (n .name))
 
--- a key of a place that is fine and apart from those that stand behind it
+-- a key of a place that is fine, and free or apart from those that stand behind it
 unfoldable pub keyFine : Key → List Key → Bool
-keyFine k rest = not (eqb (k .id) 0) && all (apartKey k) rest
+keyFine k rest = not (eqb (k .id) 0) && (eqb (k .id) 1 || all (apartKey k) rest)
 
 abbrev pub keysFine : List Key → Bool
 keysFine ks = every keyFine ks
 
--- an exchange is known by its OX_ID
+-- an exchange is known by its OX_ID alone, which stands for a name too; 0 is the name of a free place
 unfoldable pub exchangeKey : Unit → ℕ → ℕ → Exchange → Key
-exchangeKey u full paired e = keyOf (exchangeFine u full paired e) (isClosed e) (e .«ox_id»)
+exchangeKey u full paired e = keyOf (exchangeFine u full paired e) (isClosed e) (e .«ox_id») (1 + e .«ox_id»)
 
--- a login is known by its address
+-- a login is known by its address and its port name
 unfoldable pub loginKey : Unit → ℕ → Login → Key
-loginKey u own l = keyOf (loginFine u own l) (isFree l) (l .address)
+loginKey u own l = keyOf (loginFine u own l) (isFree l) (l .address) (nameOf (l .«port_name»))
 
 -- the keys of a port's logins
 unfoldable pub keysOf : Unit → Port → List Key

@@ -141,14 +141,14 @@ fn exchange_key(u: Unit, full: u32, paired: u8, e: Exchange) -> Key
 {
     let fine = exchange_fine(u, full, paired, e);
     let free = is_closed(e);
-    key_of(fine, free, e.ox_id as u32)
+    key_of(fine, free, e.ox_id as u32, 1 + e.ox_id as u64)
 }
 
 pub(crate) fn exchange_keys(t: [Exchange; 8], u: Unit, full: u32, paired: u8) -> [Key; 8]
     requires { ⌜ (0 < full) × (full ≤ 2048) ⌝ }
     ensures { λ r. ⌜ r ≡ map (exchangeKey u full paired) t ⌝ }
 {
-    let mut k = [Key { id: 0 }; 8];
+    let mut k = [Key { id: 0, name: 0 }; 8];
     let mut i: usize = 0;
     while i < Login::PLACES {
         let e = t[i];

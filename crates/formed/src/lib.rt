@@ -13,17 +13,19 @@ use state::Port;
 use state::Setup;
 use state::Unit;
 use state::is_free;
+use wire::name_number;
 ghost use mathlib.Core.Path.{_≡_};
 ghost use Prim.Native.Nat.{_<_};
 ghost use lib.ListN.{drop};
 ghost use Rattle.tables.specs.Lists.{all};
 ghost use Rattle.formed.specs.Formed.{setupRules, setupOf};
-ghost use Rattle.formed.specs.Keys.{keyOf, apartKey, keyFine, keysFine, loginKey, keysOf, fineBy};
+ghost use Rattle.formed.specs.Keys.{keyOf, keyNamed, apartKey, keyFine, keysFine, loginKey, keysOf, fineBy};
 
-// What a place of a table is known by: `id` is 0 where the place is not fine, 1 where it is free, and from 2 on the number of what stands there.
-// A table is read once, for its keys, and the test of each two places is made on these.
+// What a place of a table is known by: `id` is 0 where the place is not fine, 1 where it is free, and from 2 on the number of what stands there;
+// `name` is the number of a login's port name, of an exchange once more its own, and 0 where the place is free. A table is read once, for its keys, and the test of each two places is made on these.
 pub struct Key {
     pub id: u64,
+    pub name: u64,
 }
 
 // Whether a setup keeps its rules.
@@ -74,7 +76,7 @@ pub fn login_keys(u: Unit, p: Port) -> [Key; 8]
     ensures { λ r. ⌜ r ≡ keysOf u p ⌝ }
 {
     let t = p.logins;
-    let mut k = [Key { id: 0 }; 8];
+    let mut k = [Key { id: 0, name: 0 }; 8];
     let mut i: usize = 0;
     while i < Port::LOGINS {
         let l = t[i];
@@ -85,24 +87,38 @@ pub fn login_keys(u: Unit, p: Port) -> [Key; 8]
     k
 }
 
-fn key_of(fine: bool, free: bool, id: u32) -> Key
-    ensures { λ r. ⌜ r ≡ keyOf fine free id ⌝ }
+fn key_of(fine: bool, free: bool, id: u32, name: u64) -> Key
+    ensures { λ r. ⌜ r ≡ keyOf fine free id name ⌝ }
 {
     if fine {
         if free {
-            Key { id: 1 }
+            Key { id: 1, name: 0 }
         } else {
-            Key { id: 2 + id as u64 }
+            Key {
+                id: 2 + id as u64,
+                name: name,
+            }
         }
     } else {
-        Key { id: 0 }
+        Key { id: 0, name: 0 }
     }
+}
+
+// Whether a key has this name; 0 is the number of none.
+pub fn key_named(k: Key, name: u64) -> bool
+    ensures { λ r. ⌜ r ≡ keyNamed name k ⌝ }
+{
+    if name == 0 { false } else { k.name == name }
 }
 
 fn apart_key(k: Key, n: Key) -> bool
     ensures { λ r. ⌜ r ≡ apartKey k n ⌝ }
 {
-    if k.id == 1 { true } else { k.id != n.id }
+    if k.id == n.id {
+        false
+    } else {
+        k.name != n.name
+    }
 }
 
 // Whether a key is apart from those of the places from a place on.
@@ -122,19 +138,22 @@ fn key_alone(t: [Key; 8], k: Key, from: usize) -> bool
     true
 }
 
-// Whether a key is that of a place that is fine, and apart from those of the places from a place on.
+// Whether a key is that of a place that is fine, and free or apart from those of the places from a place on.
 fn key_fine(t: [Key; 8], k: Key, from: usize) -> bool
     requires { ⌜ from < 9 ⌝ }
     ensures { λ r. ⌜ r ≡ keyFine k (drop from t) ⌝ }
 {
     if k.id == 0 {
-        false
+        return false;
+    }
+    if k.id == 1 {
+        true
     } else {
         key_alone(t, k, from)
     }
 }
 
-// Whether these are the keys of a table's places that are all fine, and no two of them known by the same number.
+// Whether these are the keys of a table's places that are all fine, and no two of them known by the same number or the same name.
 pub fn keys_fine(t: [Key; 8]) -> bool
     ensures { λ r. ⌜ r ≡ keysFine t ⌝ }
 {
@@ -157,5 +176,6 @@ pub fn login_key(u: Unit, own: u32, l: Login) -> Key
 {
     let fine = login_fine(u, own, l);
     let free = is_free(l);
-    key_of(fine, free, l.address)
+    let port = l.port_name;
+    key_of(fine, free, l.address, name_number(port))
 }

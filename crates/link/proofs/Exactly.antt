@@ -1,5 +1,5 @@
--- A port login is accepted exactly when its size is right, every word test passes and a place is free once the sender's own login has ended;
--- else it is rejected, with the stated reason, and of right size the sender's login has ended all the same. Both directions, for every frame with PLOGI's code. Assumes nothing.
+-- A port login is accepted exactly when its size is right, every word test passes and a place is free once the sender's own login has ended and that of its port name;
+-- else it is rejected, with the stated reason: where a word test fails the sender's login has ended all the same and no other, else nothing changed. Both directions, for every frame with PLOGI's code. Assumes nothing.
 use mathlib.Core.Path.{_≡_, refl, ap, _∙_, subst}
 use mathlib.Core.Logic.{_⊎_, inl, inr}
 use mathlib.Core.Bool.{Bool, true, false}
@@ -24,7 +24,8 @@ use Rattle.reply.specs.declared.Reply.the-variants as reply
 use Rattle.reply.specs.declared.Accepted.the-variants as accepted
 use Rattle.calls.specs.Turn.{Decided, decidedAs}
 use Rattle.link.specs.Link.{sizeOf, outcomeOf, newLogin, plogiOf, linkOf}
-use Rattle.link.specs.Login.{ended, leftBy, Accepts, Rejects, wrong-size, test-fails, no-place}
+use Rattle.link.specs.Login.{namedIn, hostGone, leftBy, Accepts, Rejects, wrong-size, test-fails, no-place}
+use Rattle.link.proofs.Room.{full-none}
 
 module _ (p : Port) (h : Header) (f : List ℕ) (plogi : getD f 24 0 ≡ 3) where
   sized : length f ≡ 140 → linkOf p h f ≡ plogiOf p (h .«s_id») (paramsOf f 28)
@@ -32,7 +33,7 @@ module _ (p : Port) (h : Header) (f : List ℕ) (plogi : getD f 24 0 ≡ 3) wher
   sized e = rw (plogi, e)
 
   -- accepted, and the login stored at the lowest free place
-  pub accepts : (a : Accepts p h f) → linkOf p h f ≡ decidedAs (reply.Accept accepted.Login) (withLogin (ended p h) (a .place) (newLogin (h .«s_id») (paramsOf f 28)))
+  pub accepts : (a : Accepts p h f) → linkOf p h f ≡ decidedAs (reply.Accept accepted.Login) (withLogin (hostGone p h f) (a .place) (newLogin (h .«s_id») (paramsOf f 28)))
   unfolding plogiOf outcomeOf
   accepts a = sized (a .size) ∙ rw (accepts-then (paramsOf f 28) (a .tests), a .free)
 
@@ -44,11 +45,11 @@ module _ (p : Port) (h : Header) (f : List ℕ) (plogi : getD f 24 0 ≡ 3) wher
   unfolding plogiOf outcomeOf
   of-test e t v = sized e ∙ rw (v, eq-eqb (length f) 140 e)
 
-  of-full : length f ≡ 140 → verdictOf (paramsOf f 28) ≡ verdict.Accept → freeLogin (ended p h) ≡ Nothing → linkOf p h f ≡ decidedAs (reply.Reject 0x09 0x29) (leftBy p h f)
+  of-full : length f ≡ 140 → verdictOf (paramsOf f 28) ≡ verdict.Accept → freeLogin (hostGone p h f) ≡ Nothing → linkOf p h f ≡ decidedAs (reply.Reject 0x09 0x29) (leftBy p h f)
   unfolding plogiOf outcomeOf
-  of-full e v n = sized e ∙ rw (v, n, eq-eqb (length f) 140 e)
+  of-full e v n = sized e ∙ rw (v, n, eq-eqb (length f) 140 e) (ap (decidedAs (reply.Reject 0x09 0x29)) (full-none p (h .«s_id») (namedIn f) n))
 
-  -- rejected, with this reason, and the sender's login ended where the size is right
+  -- rejected, with this reason, and the sender's login ended where a word test fails
   pub rejects : (r x : ℕ) → Rejects p h f r x → linkOf p h f ≡ decidedAs (reply.Reject r x) (leftBy p h f)
   rejects r x (wrong-size n) = of-wrong n
   rejects r x (test-fails e t i) = of-test e t (rejects-then (paramsOf f 28) t i)
@@ -58,12 +59,12 @@ module _ (p : Port) (h : Header) (f : List ℕ) (plogi : getD f 24 0 ≡ 3) wher
   pub no-third : Accepts p h f ⊎ ((r : ℕ) × (x : ℕ) × Rejects p h f r x)
   no-third = by-size (eqb (length f) 140) refl
     where
-      by-room : length f ≡ 140 → verdictOf (paramsOf f 28) ≡ verdict.Accept → (g : Found) → freeLogin (ended p h) ≡ g → Accepts p h f ⊎ ((r : ℕ) × (x : ℕ) × Rejects p h f r x)
+      by-room : length f ≡ 140 → verdictOf (paramsOf f 28) ≡ verdict.Accept → (g : Found) → freeLogin (hostGone p h f) ≡ g → Accepts p h f ⊎ ((r : ℕ) × (x : ℕ) × Rejects p h f r x)
       by-room e v (At i) n = inl (record { size = e; tests = accepted (paramsOf f 28) v; place = i; free = n })
       by-room e v Nothing n = inr (0x09, 0x29, no-place e (accepted (paramsOf f 28) v) n)
 
       by-test : length f ≡ 140 → (v : Verdict) → verdictOf (paramsOf f 28) ≡ v → Accepts p h f ⊎ ((r : ℕ) × (x : ℕ) × Rejects p h f r x)
-      by-test e verdict.Accept v = by-room e v (freeLogin (ended p h)) refl
+      by-test e verdict.Accept v = by-room e v (freeLogin (hostGone p h f)) refl
       by-test e (verdict.Reject t) v = inr (reasonOf t .reason, reasonOf t .explanation, test-fails e t (rejected (paramsOf f 28) t v))
 
       by-size : (b : Bool) → eqb (length f) 140 ≡ b → Accepts p h f ⊎ ((r : ℕ) × (x : ℕ) × Rejects p h f r x)

@@ -1,8 +1,10 @@
 pub mod Ways
 pub mod Turns
+pub mod Room
 pub mod Exactly
 pub mod Keeping
 pub mod Records
 pub mod Services
 pub mod Requests
 pub mod Others
+pub mod Moved

@@ -18,7 +18,7 @@ use Rattle.state.specs.Standing.{Standing, Open, NoExchange, NoLogin}
 use Rattle.state.specs.Changes.{loginAt}
 use Rattle.state.specs.Tables.{findLogin, findExchange, loginOf, standingIn, lookupOf, soughtIn}
 use Rattle.state.proofs.Places.{open-place}
-use Rattle.formed.specs.Formed.{apartAddress}
+use Rattle.formed.specs.Formed.{apartLogin}
 use Rattle.reply.specs.declared.Reply.the-variants as reply
 use Rattle.calls.specs.Turn.{Decided, decidedAs, servedAt}
 use Rattle.calls.proofs.Decisions.{on-cond}
@@ -63,7 +63,7 @@ module _ (p : Port) (h : Header) (f : List ℕ) where
   link-out c s np nl e =
       rw (ne-eqb (sizeOf (getD f 24 0)) 0 c, eq-eqb (length f) (24 + sizeOf (getD f 24 0)) s, ne-eqb (getD f 24 0) 3 np, ne-eqb (getD f 24 0) 5 nl, out-missing p (h .«s_id») e)
 
-  module _ (d : pairs apartAddress (p .logins) ≡ true) (s : length f ≡ 24 + sizeOf (getD f 24 0)) where
+  module _ (d : pairs apartLogin (p .logins) ≡ true) (s : length f ≡ 24 + sizeOf (getD f 24 0)) where
     -- a PLOGI of right size
     pub link-plogi : getD f 24 0 ≡ 3 → AfterPlogi (paramsOf f 28) (linkOf p h f .reply) (recordOf (linkOf p h f .port) (h .«s_id»))
     unfolding sizeOf

@@ -10,7 +10,7 @@ use borrow.Author.Tests.{eq-eqb}
 use Rattle.tables.specs.declared.Found.{Found}
 use Rattle.tables.specs.declared.Found.the-variants.{At, Nothing}
 use Rattle.tables.specs.Lists.{onFound, pairs}
-use Rattle.wire.specs.Bytes.{num, part}
+use Rattle.wire.specs.Bytes.{num, part, nameOf}
 use Rattle.params.specs.declared.Params.{Params}
 use Rattle.params.specs.declared.Verdict.{Verdict}
 use Rattle.params.specs.declared.Verdict.the-variants as verdict
@@ -21,7 +21,7 @@ use Rattle.state.specs.declared.Change.the-variants.{EndLogin}
 use Rattle.state.specs.Changes.{emptyLogin, hasAddress, loginAt, withLogin, withExchange, withoutExchanges, endedAt, changedAll}
 use Rattle.state.proofs.Places.{found-has}
 use Rattle.state.specs.Tables.{findLogin, freeLogin}
-use Rattle.formed.specs.Formed.{apartAddress}
+use Rattle.formed.specs.Formed.{apartLogin}
 use Rattle.reply.specs.declared.Reply.{Reply}
 use Rattle.reply.specs.declared.Reply.the-variants as reply
 use Rattle.reply.specs.declared.Accepted.{Accepted}
@@ -31,9 +31,9 @@ use Rattle.calls.specs.Turn.{decidedAs, servedAs, servedAt}
 use Rattle.calls.proofs.Others.{empty-has}
 use Rattle.link.specs.declared.Outcome.{Outcome}
 use Rattle.link.specs.declared.Outcome.the-variants.{Place, Rejected}
-use Rattle.link.specs.Link.{newLogin, outcomeAfter, outcomeOf, outcomeReply, outcomePort, plogiOf, namesDiffer, provenBy, pdiscOf, adiscOf, logoOf, pairFine, pageFine, prliOf, prloOf, rrqOf, serviceOf}
+use Rattle.link.specs.Link.{newLogin, outcomeAfter, endsFor, endsBy, outcomeOf, outcomeReply, outcomePort, plogiOf, namesDiffer, provenBy, pdiscOf, adiscOf, logoOf, pairFine, pageFine, prliOf, prloOf, rrqOf, serviceOf}
 use Rattle.link.specs.Record.{Record, out, held, keptFrom, recordAt, recordOf, proved, paired, unpaired}
-use Rattle.link.proofs.Records.{found-record, end-record, store-record, drop-record, place-record}
+use Rattle.link.proofs.Records.{found-record, end-record, host-record, store-record, drop-record, place-record}
 
 -- after PLOGI: ACC, and the record is unpaired, proven and of the parameters sent; LS_RJT, and it is `out`; there is no other reply
 abbrev pub AfterPlogi : Params → Reply → Record → Type 0
@@ -84,7 +84,7 @@ pub new-has : (a : ℕ) (q : Params) → hasAddress a (newLogin a q) ≡ true
 unfolding newLogin hasAddress
 new-has a q = eq-eqb a a refl
 
-new-record : (a : ℕ) (q : Params) → recordAt (newLogin a q) ≡ held false true (keptFrom q)
+pub new-record : (a : ℕ) (q : Params) → recordAt (newLogin a q) ≡ held false true (keptFrom q)
 unfolding newLogin
 new-record a q = refl
 
@@ -167,7 +167,7 @@ service-other code l sought from f a h = by (service-does code l sought from f)
 
 -- the sender's login is at place i
 module _ (p : Port) (a i : ℕ) (at : findLogin p a ≡ At i) where
-  does-record : pairs apartAddress (p .logins) ≡ true → {g : Record → Record} {s : Served} → Does g (loginAt p i) s
+  does-record : pairs apartLogin (p .logins) ≡ true → {g : Record → Record} {s : Served} → Does g (loginAt p i) s
       → AfterService g (recordOf p a) (s .reply) (recordOf (servedAt p i s .port) a)
   does-record d {g} (takes x m h e) = store-record p a i at m (h a ∙ found-has p a i at) ∙ e ∙ ap g (sym (found-record p a i at))
   does-record d (rejects x y) = store-record p a i at (loginAt p i) (found-has p a i at) ∙ sym (found-record p a i at)
@@ -182,17 +182,21 @@ module _ (p : Port) (a i : ℕ) (at : findLogin p a ≡ At i) where
   unfolding withExchange hasAddress
   exchange-kept j = same-kept (endedAt (loginAt p i) j) (found-has p a i at) refl
 
-  module _ (d : pairs apartAddress (p .logins) ≡ true) where
+  module _ (d : pairs apartLogin (p .logins) ≡ true) where
     -- the service of any code
     pub service-record : (code : ℕ) (sought : ℕ → Found) (f : List ℕ)
         → AfterService (effectOf code) (recordOf p a) (servedAt p i (serviceOf code (loginAt p i) sought a f) .reply) (recordOf (servedAt p i (serviceOf code (loginAt p i) sought a f) .port) a)
     service-record code sought f = does-record d (service-does code (loginAt p i) sought a f)
 
-module _ (p : Port) (d : pairs apartAddress (p .logins) ≡ true) where
-  -- PLOGI
+module _ (p : Port) (d : pairs apartLogin (p .logins) ≡ true) where
+  -- PLOGI: what it ends, ends its sender's login
+  ends-record : (v : Verdict) (a n : ℕ) → recordOf (changedAll (endsFor v a n) p) a ≡ out
+  ends-record verdict.Accept a n = host-record p d a n
+  ends-record (verdict.Reject t) a n = end-record p d a
+
   pub plogi-record : (a : ℕ) (q : Params) → AfterPlogi q (plogiOf p a q .reply) (recordOf (plogiOf p a q .port) a)
   unfolding plogiOf
-  plogi-record a q = outcome-record (changedAll (EndLogin a) p) a q (outcomeOf (changedAll (EndLogin a) p) q) refl (end-record p d a)
+  plogi-record a q = outcome-record (changedAll (endsBy a q) p) a q (outcomeOf (changedAll (endsBy a q) p) q) refl (ends-record (verdictOf q) a (nameOf (q .«port_name»)))
 
   -- LOGO
   pub logo-record : (a named : ℕ) → AfterLogo (recordOf p a) (logoOf p a named .reply) (recordOf (logoOf p a named .port) a)

@@ -8,27 +8,28 @@ use lib.ListN.{length, getD}
 use Rattle.tables.specs.declared.Found.{Found}
 use Rattle.tables.specs.declared.Found.the-variants.{At, Nothing}
 use Rattle.tables.specs.Lists.{all, onFound}
-use Rattle.wire.specs.Bytes.{num}
+use Rattle.wire.specs.Bytes.{num, nameOf}
 use Rattle.frame.specs.declared.Header.{Header}
 use Rattle.params.specs.declared.Params.{Params}
+use Rattle.params.specs.declared.Verdict.{Verdict}
+use Rattle.params.specs.declared.Verdict.the-variants as verdict
 use Rattle.params.specs.Words.{paramsOf, verdictOf}
 use Rattle.state.specs.declared.Login.{Login}
 use Rattle.state.specs.declared.Port.{Port}
 use Rattle.state.specs.declared.Unit.{Unit}
-use Rattle.state.specs.declared.Change.the-variants.{EndLogin}
 use Rattle.state.specs.Standing.{Standing}
 use Rattle.state.specs.Changes.{loginAt, withLogin, endedAt, changedAll}
-use Rattle.state.specs.Tables.{findLogin, findExchange, standingIn, soughtIn}
+use Rattle.state.specs.Tables.{findLogin, freeLogin, findExchange, standingIn, soughtIn}
 use Rattle.formed.specs.Formed.{loginFine}
 use Rattle.reply.specs.declared.Reply.the-variants as reply
 use Rattle.calls.specs.declared.View.{View}
-use Rattle.calls.specs.View.{viewOf}
+use Rattle.calls.specs.View.{placeFor, viewOf}
 use Rattle.calls.specs.Turn.{Decided, decidedAs, servedAt, answersOnly, stores, servedIn, decidedBy}
 use Rattle.calls.proofs.Views.{view-seat, view-login, view-place, lookup-seen, sought-seen}
 use Rattle.calls.proofs.Decisions.{stays-put, answers-is, stores-is, served-is, either-is, found-is}
 use Rattle.link.specs.declared.Outcome.{Outcome}
 use Rattle.link.specs.declared.Outcome.the-variants.{Place, Rejected}
-use Rattle.link.specs.Link.{sizeOf, newLogin, outcomeAfter, outcomeOf, outcomeReply, outcomePort, plogiOf, logoOf, serviceOf, linkOf, abortedAt, abtsOf}
+use Rattle.link.specs.Link.{sizeOf, newLogin, roomFor, outcomeAfter, endsFor, endsBy, outcomeOf, outcomeReply, outcomePort, plogiOf, logoOf, serviceOf, linkOf, abortedAt, abtsOf}
 use Rattle.link.specs.Turn.{outcomeIn, loginDecision, plogiTurn, logoTurn, linkTurn, abortedLogin, abtsTurn}
 
 module _ (u : Unit) (p : Port) (fine : all (loginFine u (p .address)) (p .logins) ≡ true) where
@@ -36,18 +37,25 @@ module _ (u : Unit) (p : Port) (fine : all (loginFine u (p .address)) (p .logins
     abbrev v : View
     v = viewOf u p from
 
-    outcome-is : (q : Params) → outcomeIn (v .keys) from q ≡ outcomeOf (changedAll (EndLogin from) p) q
+    outcome-is : (q : Params) → outcomeIn (verdictOf q) (v .keys) from (nameOf (q .«port_name»)) ≡ outcomeOf (changedAll (endsBy from q) p) q
     unfolding outcomeIn outcomeOf
-    outcome-is q = ap (outcomeAfter (verdictOf q)) (view-place u p from fine)
+    outcome-is q = by (verdictOf q)
+      where
+        name : ℕ
+        name = nameOf (q .«port_name»)
+
+        by : (t : Verdict) → outcomeAfter t (placeFor (v .keys) from name) ≡ outcomeAfter t (freeLogin (changedAll (endsFor t from name) p))
+        by verdict.Accept = ap roomFor (view-place u p from fine name)
+        by (verdict.Reject t) = refl
 
     plogi-turn : (q : Params) → decidedBy p (plogiTurn (v .keys) from q) ≡ plogiOf p from q
     unfolding plogiTurn plogiOf
-    plogi-turn q = step (outcomeIn (v .keys) from q) ∙ ap after (outcome-is q)
+    plogi-turn q = step (outcomeIn (verdictOf q) (v .keys) from (nameOf (q .«port_name»))) ∙ ap after (outcome-is q)
       where
         after : Outcome → Decided
-        after o = decidedAs (outcomeReply o) (outcomePort o (changedAll (EndLogin from) p) (newLogin from q))
+        after o = decidedAs (outcomeReply o) (outcomePort o (changedAll (endsBy from q) p) (newLogin from q))
 
-        step : (o : Outcome) → decidedBy p (loginDecision o from q) ≡ after o
+        step : (o : Outcome) → decidedBy p (loginDecision o (endsBy from q) from q) ≡ after o
         step (Place j) = refl
         step (Rejected r e) = refl
 

@@ -6,13 +6,14 @@ use lib.ListN.{length, getD}
 use borrow.Author.Tests.{eq-eqb, ne-eqb}
 use Rattle.tables.specs.declared.Found.the-variants.{At, Nothing}
 use Rattle.tables.specs.Lists.{onFound}
-use Rattle.wire.specs.Bytes.{num}
+use Rattle.wire.specs.Bytes.{num, nameOf}
 use Rattle.frame.specs.declared.Header.{Header}
 use Rattle.params.specs.declared.Params.{Params}
-use Rattle.params.specs.Words.{paramsOf}
+use Rattle.params.specs.declared.Verdict.{Verdict}
+use Rattle.params.specs.Words.{paramsOf, verdictOf}
 use Rattle.state.specs.declared.Login.{Login}
 use Rattle.state.specs.declared.Port.{Port}
-use Rattle.state.specs.declared.Change.the-variants.{EndLogin}
+use Rattle.state.specs.declared.Change.{Change}
 use Rattle.state.specs.Changes.{loginAt}
 use Rattle.state.specs.Tables.{findLogin, findExchange, soughtIn}
 use Rattle.formed.specs.declared.Key.{Key}
@@ -24,18 +25,25 @@ use Rattle.calls.specs.declared.Decision.{Decision}
 use Rattle.calls.specs.Turn.{Decided, decidedAs, servedAt, changes, answersOnly, servedIn}
 use Rattle.link.specs.declared.Outcome.{Outcome}
 use Rattle.link.specs.declared.Outcome.the-variants.{Place, Rejected}
-use Rattle.link.specs.Link.{sizeOf, outcomeReply, newLogin, plogiOf, logoOf, serviceOf, linkOf}
+use Rattle.link.specs.Link.{sizeOf, outcomeReply, newLogin, endsFor, endsBy, plogiOf, logoOf, serviceOf, linkOf}
 use Rattle.link.specs.Turn.{outcomeIn, plogiTurn, logoTurn, linkTurn}
 
-module _ (keys : List Key) (from : ℕ) (q : Params) (o : Outcome) (r : Reply) (eo : o ≡ outcomeIn keys from q) (er : r ≡ outcomeReply o) where
-  pub plogi-rejected : (a b : ℕ) → o ≡ Rejected a b → changes r (EndLogin from) ≡ plogiTurn keys from q
+module _ (keys : List Key) (from : ℕ) (q : Params) (name : ℕ) (v : Verdict) (c : Change) (o : Outcome) (r : Reply)
+    (en : name ≡ nameOf (q .«port_name»)) (ev : v ≡ verdictOf q) (ec : c ≡ endsFor v from name) (eo : o ≡ outcomeIn v keys from name) (er : r ≡ outcomeReply o) where
+  ends : c ≡ endsBy from q
+  ends = rw (ec, ev, en)
+
+  outcome : outcomeIn (verdictOf q) keys from (nameOf (q .«port_name»)) ≡ o
+  outcome = rw (sym ev, sym en) (sym eo)
+
+  pub plogi-rejected : (a b : ℕ) → o ≡ Rejected a b → changes r c ≡ plogiTurn keys from q
   unfolding plogiTurn
-  plogi-rejected a b e = rw (er, sym eo, e)
+  plogi-rejected a b e = rw (er, ends, outcome, e)
 
   pub plogi-placed : (j : ℕ) (m : Login) → o ≡ Place j → m ≡ newLogin from q
-      → _≡_ {A = Decision} record { reply = r; change = EndLogin from; at = At j; login = m } (plogiTurn keys from q)
+      → _≡_ {A = Decision} record { reply = r; change = c; at = At j; login = m } (plogiTurn keys from q)
   unfolding plogiTurn
-  plogi-placed j m e em = rw (er, sym eo, e, em)
+  plogi-placed j m e em = rw (er, ends, outcome, e, em)
 
 module _ (v : View) (h : Header) (f : List ℕ) (code size : ℕ) (ec : code ≡ getD f 24 0) (es : size ≡ sizeOf code) (d : Decision) where
   pub other-code : size ≡ 0 → d ≡ answersOnly (reply.Reject 0x0b 0x00) → d ≡ linkTurn v h f

@@ -1,4 +1,4 @@
--- What each link service answers and what it stores (document 01, "Link services").
+-- What each link service answers and what it stores (document 01, "Link services"; document 02, request 1).
 use Prim.Native.Nat.{ℕ, _+_, _/_, _%_}
 use mathlib.Core.Bool.{Bool, cond, not, _&&_, _||_}
 use mathlib.Core.List.{List}
@@ -7,7 +7,7 @@ use lib.ListN.{length, getD, replicate}
 use Rattle.tables.specs.declared.Found.{Found}
 use Rattle.tables.specs.declared.Found.the-variants.{At, Nothing}
 use Rattle.tables.specs.Lists.{onFound, same}
-use Rattle.wire.specs.Bytes.{num, part}
+use Rattle.wire.specs.Bytes.{num, part, nameOf}
 use Rattle.frame.specs.declared.Header.{Header}
 use Rattle.params.specs.declared.Params.{Params}
 use Rattle.params.specs.declared.Verdict.{Verdict}
@@ -15,7 +15,8 @@ use Rattle.params.specs.declared.Verdict.the-variants as verdict
 use Rattle.params.specs.Words.{paramsOf, verdictOf, reasonOf}
 use Rattle.state.specs.declared.Login.{Login}
 use Rattle.state.specs.declared.Port.{Port}
-use Rattle.state.specs.declared.Change.the-variants.{EndLogin}
+use Rattle.state.specs.declared.Change.{Change}
+use Rattle.state.specs.declared.Change.the-variants.{EndLogin, EndHost}
 use Rattle.state.specs.Standing.{Standing, Open, NoExchange, NoLogin}
 use Rattle.state.specs.Changes.{emptyExchange, emptyLogin, loginAt, withLogin, withProven, withPaired, withoutExchanges, endedAt, changedAll}
 use Rattle.state.specs.Tables.{findLogin, freeLogin, lookupOf, soughtIn}
@@ -80,10 +81,20 @@ abbrev pub outcomePort : Outcome → Port → Login → Port
 outcomePort (Place i) p l = withLogin p i l
 outcomePort (Rejected r e) p l = p
 
--- PLOGI: "Of right size, it ends the sender's login and exchanges first, accepted or not"
+-- "Of right size, it ends the sender's login and exchanges first, accepted or not";
+-- "A PLOGI whose parameters pass, with a port name logged in at another address, ends that login and its exchanges before the room test" (02, 1)
+abbrev pub endsFor : Verdict → ℕ → ℕ → Change
+endsFor verdict.Accept from name = EndHost from name
+endsFor (verdict.Reject t) from name = EndLogin from
+
+-- what a PLOGI with these parameters ends
+abbrev pub endsBy : ℕ → Params → Change
+endsBy from q = endsFor (verdictOf q) from (nameOf (q .«port_name»))
+
+-- PLOGI: what it ends, ends first; then the room test
 unfoldable pub plogiOf : Port → ℕ → Params → Decided
 plogiOf p from q =
-    let ended = changedAll (EndLogin from) p in
+    let ended = changedAll (endsBy from q) p in
     decidedAs (outcomeReply (outcomeOf ended q)) (outcomePort (outcomeOf ended q) ended (newLogin from q))
 
 -- "Names differ from the login's"

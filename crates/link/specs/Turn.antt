@@ -6,11 +6,13 @@ use lib.Dec.{eqb}
 use lib.ListN.{length, getD}
 use Rattle.tables.specs.declared.Found.the-variants.{At}
 use Rattle.tables.specs.Lists.{onFound}
-use Rattle.wire.specs.Bytes.{num}
+use Rattle.wire.specs.Bytes.{num, nameOf}
 use Rattle.frame.specs.declared.Header.{Header}
 use Rattle.params.specs.declared.Params.{Params}
+use Rattle.params.specs.declared.Verdict.{Verdict}
 use Rattle.params.specs.Words.{paramsOf, verdictOf}
 use Rattle.state.specs.declared.Login.{Login}
+use Rattle.state.specs.declared.Change.{Change}
 use Rattle.state.specs.declared.Change.the-variants.{EndLogin}
 use Rattle.state.specs.Changes.{endedAt}
 use Rattle.state.specs.Tables.{findExchange}
@@ -23,19 +25,19 @@ use Rattle.calls.specs.View.{placeFor}
 use Rattle.calls.specs.Turn.{changes, answersOnly, stores, servedIn}
 use Rattle.link.specs.declared.Outcome.{Outcome}
 use Rattle.link.specs.declared.Outcome.the-variants.{Place, Rejected}
-use Rattle.link.specs.Link.{sizeOf, newLogin, outcomeAfter, outcomeReply, serviceOf}
+use Rattle.link.specs.Link.{sizeOf, newLogin, endsBy, outcomeAfter, outcomeReply, serviceOf}
 
--- the word tests, and then the room test, once the sender's login has ended
-unfoldable pub outcomeIn : List Key → ℕ → Params → Outcome
-outcomeIn keys from q = outcomeAfter (verdictOf q) (placeFor keys from)
+-- the word tests, and then the room test, once the logins of the sender and of its port name have ended
+unfoldable pub outcomeIn : Verdict → List Key → ℕ → ℕ → Outcome
+outcomeIn v keys from name = outcomeAfter v (placeFor keys from name)
 
--- the sender's login ends, accepted or not; an accepted login is stored at its place
-abbrev pub loginDecision : Outcome → ℕ → Params → Decision
-loginDecision (Place j) from q = record { reply = outcomeReply (Place j); change = EndLogin from; at = At j; login = newLogin from q }
-loginDecision (Rejected r e) from q = changes (outcomeReply (Rejected r e)) (EndLogin from)
+-- what the PLOGI ends, ends, accepted or not; an accepted login is stored at its place
+abbrev pub loginDecision : Outcome → Change → ℕ → Params → Decision
+loginDecision (Place j) ends from q = record { reply = outcomeReply (Place j); change = ends; at = At j; login = newLogin from q }
+loginDecision (Rejected r e) ends from q = changes (outcomeReply (Rejected r e)) ends
 
 unfoldable pub plogiTurn : List Key → ℕ → Params → Decision
-plogiTurn keys from q = loginDecision (outcomeIn keys from q) from q
+plogiTurn keys from q = loginDecision (outcomeIn (verdictOf q) keys from (nameOf (q .«port_name»))) (endsBy from q) from q
 
 unfoldable pub logoTurn : ℕ → ℕ → Decision
 logoTurn from named = cond (eqb named from) (changes (reply.Accept accepted.Short) (EndLogin from)) (answersOnly (reply.Reject 0x03 0x1f))

@@ -23,9 +23,10 @@ use state::find_exchange;
 use tables::Found;
 use wire::be24;
 use wire::byte_at;
+use wire::name_number;
 ghost use mathlib.Core.Path.{_≡_};
 ghost use Prim.Native.Nat.{_<_};
-ghost use Rattle.link.specs.Link.{sizeOf, newLogin, outcomeReply};
+ghost use Rattle.link.specs.Link.{sizeOf, newLogin, endsFor, outcomeReply};
 ghost use Rattle.link.specs.Turn.{outcomeIn, plogiTurn, logoTurn, abortedLogin, linkTurn, abtsTurn};
 
 // What becomes of a PLOGI: the place of its login, or why it is rejected.
@@ -105,35 +106,49 @@ fn size_of(code: u8) -> usize
     }
 }
 
-// PLOGI: ends the sender's login first, accepted or not; then the word tests in their order and the room test.
+// PLOGI: ends the sender's login first, accepted or not; the word tests in their order; where they pass the login of its port name ends, wherever it stands;
+// then the room test.
 fn plogi(keys: [Key; 8], from: u32, q: Params) -> Decision
     ensures { λ r. ⌜ r ≡ plogiTurn keys from q ⌝ }
 {
-    let o = judged(keys, from, q);
+    let port = q.port_name;
+    let name = name_number(port);
+    let v = q.verdict();
+    let c = ends_for(v, from, name);
+    let o = judged(v, keys, from, name);
     let r = outcome_reply(o);
     let Outcome::Place(j) = o else {
-        return change_logins(r, Change::EndLogin(from));
+        return change_logins(r, c);
     };
     let m = new_login(from, q);
     Decision {
         reply: r,
-        change: Change::EndLogin(from),
+        change: c,
         at: Found::At(j),
         login: m,
     }
 }
 
-fn judged(keys: [Key; 8], from: u32, q: Params) -> Outcome
-    ensures { λ r. ⌜ r ≡ outcomeIn keys from q ⌝ }
+// The logins that end: a PLOGI that fails a word test ends the sender's own and no other.
+fn ends_for(v: Verdict, from: u32, name: u64) -> Change
+    ensures { λ r. ⌜ r ≡ endsFor v from name ⌝ }
 {
-    let v = q.verdict();
+    match v {
+        Verdict::Accept => Change::EndHost(from, name),
+        Verdict::Reject(_) => Change::EndLogin(from),
+    }
+}
+
+fn judged(v: Verdict, keys: [Key; 8], from: u32, name: u64) -> Outcome
+    ensures { λ r. ⌜ r ≡ outcomeIn v keys from name ⌝ }
+{
     match v {
         Verdict::Reject(t) => {
             let w = t.why();
             Outcome::Rejected(w.reason, w.explanation)
         }
         Verdict::Accept => {
-            let f = place_for(keys, from);
+            let f = place_for(keys, from, name);
             match f {
                 Found::At(i) => Outcome::Place(i),
                 Found::Nothing => Outcome::Rejected(0x09, 0x29),

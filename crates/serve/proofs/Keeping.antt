@@ -41,7 +41,7 @@ after-kept u p a x i j o w =
     let l = loginAt p i in
     let used = open-used p a x i j o in
     let m = withExchange l j (nextExchange (fullFrame (l .size)) (exchangeAt l j)) in
-    update-kept u p w i m refl refl (λ f. used-fine {l = m} used (next-used j (hasMore (exchangeAt l j)) refl (open-open p a x i j o) (fine-used used f)))
+    update-kept u p w i m refl refl refl (λ f. used-fine {l = m} used (next-used j (hasMore (exchangeAt l j)) refl (open-open p a x i j o) (fine-used used f)))
 
 next-at : (u : Unit) (p : Port) (a x start : ℕ) (W : List ℕ) (s : Step) → stepOf p a x start (length W) ≡ s → wellFormed u p ≡ true → wellFormed u (nextAt s u p a x W .port) ≡ true
 next-at u p a x start W (Refused y) e w = w

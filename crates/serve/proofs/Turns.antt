@@ -16,9 +16,9 @@ use Rattle.state.specs.declared.Change.the-variants.{Keep}
 use Rattle.state.specs.declared.Port.{Port}
 use Rattle.state.specs.declared.Unit.{Unit}
 use Rattle.state.specs.Standing.{Standing}
-use Rattle.state.specs.Changes.{ownOf, hasAddress, loginAt, withExchange}
+use Rattle.state.specs.Changes.{ownOf, hasAddress, loginAt, withExchange, changedAll}
 use Rattle.state.specs.Tables.{findExchange, standingIn}
-use Rattle.state.proofs.Places.{open-place}
+use Rattle.state.proofs.Places.{found-has, open-place}
 use Rattle.formed.specs.Formed.{loginFine}
 use Rattle.reply.specs.Reply.{sentOf, writtenOf}
 use Rattle.calls.specs.declared.View.{View}
@@ -28,7 +28,7 @@ use Rattle.calls.specs.Turn.{refusedTurn}
 use Rattle.calls.specs.Others.{Another}
 use Rattle.calls.proofs.Views.{view-unit, view-own, view-seat, view-login, lookup-seen}
 use Rattle.calls.proofs.Decisions.{on-cond, on-found, keep-is}
-use Rattle.calls.proofs.Others.{seat-another}
+use Rattle.calls.proofs.Others.{other-has, seat-another}
 use Rattle.serve.specs.Next.{windowPlace, exchangeOf, fullOf, sourceOf, Step, Refused, Frame, openStep, stepAt, stepOf, frameBytes, movedOn, nextAt, nextOf, bufferAt, nextBuffer}
 use Rattle.serve.specs.Turn.{fullIn, exchangeIn, askedIn, replyIn, frameTurn, onOpen, nextTurn, nextTurnBuffer, nextBy}
 use Rattle.serve.proofs.Steps.{passed}
@@ -113,8 +113,10 @@ module _ (u : Unit) (p : Port) (a x start : ℕ) (W : List ℕ) (fine : all (log
 
 -- what is stored by a next frame of address b is of another than a
 pub next-another : (u : Unit) (p : Port) (b x start : ℕ) (W : List ℕ) → all (loginFine u (p .address)) (p .logins) ≡ true → (room a : ℕ) → (a ≡ b → ⊥)
-    → Another p a (nextTurn (viewOf u p b) b x start W room .at) (nextTurn (viewOf u p b) b x start W room .login)
+    → Another (changedAll (nextTurn (viewOf u p b) b x start W room .change) p) a (nextTurn (viewOf u p b) b x start W room .at) (nextTurn (viewOf u p b) b x start W room .login)
 unfolding hasAddress withExchange
 next-another u p b x start W fine room a n =
-    turn-cases (viewOf u p b) b x start W room (λ t. Another p a (t .at) (t .login)) (λ _. tt)
-    (λ i j k s. let o = seat-another p a b i n (sym (view-seat u p b fine) ∙ s) in (o, rw (seen u p b x start W fine i s) o))
+    turn-cases (viewOf u p b) b x start W room (λ t. Another (changedAll (t .change) p) a (t .at) (t .login)) (λ _. tt)
+    (λ i j k s.
+    let seat = sym (view-seat u p b fine) ∙ s in
+    (seat-another p a b i Keep n seat, rw (seen u p b x start W fine i s) (other-has a b (loginAt p i) n (found-has p b i seat))))

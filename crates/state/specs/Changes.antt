@@ -1,16 +1,17 @@
 -- How the tables of a port change: each change says what is new, and all else stays.
 use Prim.Native.Nat.{ℕ, _+_, _%_}
-use mathlib.Core.Bool.{Bool, cond, not, _&&_}
+use mathlib.Core.Bool.{Bool, cond, not, _&&_, _||_}
 use mathlib.Core.List.{List, [], map}
 use lib.Dec.{eqb}
 use lib.ListN.{getD, set, replicate}
 use Rattle.tables.specs.Lists.{all}
+use Rattle.wire.specs.Bytes.{nameOf}
 use Rattle.state.specs.declared.Exchange.{Exchange}
 use Rattle.state.specs.declared.Login.{Login}
 use Rattle.state.specs.declared.Own.{Own}
 use Rattle.state.specs.declared.Port.{Port}
 use Rattle.state.specs.declared.Change.{Change}
-use Rattle.state.specs.declared.Change.the-variants.{Keep, EndAll, EndLogin, Unprove, EndUnproven, EndExchangesOf, Reset, Clear}
+use Rattle.state.specs.declared.Change.the-variants.{Keep, EndAll, EndLogin, EndHost, Unprove, EndUnproven, EndExchangesOf, Reset, Clear}
 
 -- a free place for an exchange
 abbrev pub emptyExchange : Exchange
@@ -137,6 +138,14 @@ isClosed e = eqb (e .kind) 0
 unfoldable pub hasAddress : ℕ → Login → Bool
 hasAddress a l = isUsed l && eqb (l .address) a
 
+-- a login is used and has this port name, by its number ("port name" is W5-6 alone)
+unfoldable pub hasName : ℕ → Login → Bool
+hasName n l = isUsed l && eqb (nameOf (l .«port_name»)) n
+
+-- a login is of a host with this address or this port name
+abbrev pub isHost : ℕ → ℕ → Login → Bool
+isHost a n l = hasAddress a l || hasName n l
+
 -- "power on ends all": a login ends, and a free place stays as it is
 unfoldable pub freedOf : Login → Login
 freedOf l = cond (isUsed l) emptyLogin l
@@ -144,6 +153,10 @@ freedOf l = cond (isUsed l) emptyLogin l
 -- the login of an address ends, with its exchanges
 unfoldable pub endedOf : ℕ → Login → Login
 endedOf a l = cond (hasAddress a l) emptyLogin l
+
+-- PLOGI "ends the sender's login and exchanges"; "with a port name logged in at another address, ends that login and its exchanges" (02, 1)
+unfoldable pub hostEnded : ℕ → ℕ → Login → Login
+hostEnded a n l = cond (isHost a n l) emptyLogin l
 
 -- "loop reset marks every login unproven"
 unfoldable pub unproven : Login → Login
@@ -174,6 +187,7 @@ abbrev pub changedOf : Change → Login → Login
 changedOf Keep l = l
 changedOf EndAll l = freedOf l
 changedOf (EndLogin a) l = endedOf a l
+changedOf (EndHost a n) l = hostEnded a n l
 changedOf Unprove l = unproven l
 changedOf EndUnproven l = verified l
 changedOf (EndExchangesOf a) l = abortedOf a l

@@ -2,11 +2,12 @@
 use crate::Login;
 use crate::searches::all_closed;
 use crate::searches::has_address;
+use crate::searches::is_host;
 use crate::stored::empty_login;
 use crate::stored::end_exchanges;
 use crate::stored::set_attention;
 ghost use mathlib.Core.Path.{_≡_};
-ghost use Rattle.state.specs.Changes.{freedOf, endedOf, unproven, verified, abortedOf, resetOf, losesTo, clearedBy};
+ghost use Rattle.state.specs.Changes.{freedOf, endedOf, hostEnded, unproven, verified, abortedOf, resetOf, losesTo, clearedBy};
 
 pub(crate) fn freed(l: Login) -> Login
     ensures { λ r. ⌜ r ≡ freedOf l ⌝ }
@@ -18,6 +19,16 @@ pub(crate) fn ended(l: Login, address: u32) -> Login
     ensures { λ r. ⌜ r ≡ endedOf address l ⌝ }
 {
     if has_address(l, address) {
+        empty_login()
+    } else {
+        l
+    }
+}
+
+pub(crate) fn host_ended(l: Login, address: u32, name: u64) -> Login
+    ensures { λ r. ⌜ r ≡ hostEnded address name l ⌝ }
+{
+    if is_host(l, address, name) {
         empty_login()
     } else {
         l

@@ -8,6 +8,7 @@ use changes::aborted;
 use changes::cleared;
 use changes::ended;
 use changes::freed;
+use changes::host_ended;
 use changes::reset;
 use changes::time_over;
 use changes::unproved;
@@ -143,6 +144,8 @@ pub enum Change {
     EndAll,
     // the login of an address ends
     EndLogin(u32),
+    // the login of an address ends, and the login of a port name
+    EndHost(u32, u64),
     // every login is to be verified
     Unprove,
     // every login that was not verified ends
@@ -174,6 +177,7 @@ pub fn changed(l: Login, c: Change) -> Login
         Change::Keep => l,
         Change::EndAll => freed(l),
         Change::EndLogin(address) => ended(l, address),
+        Change::EndHost(address, name) => host_ended(l, address, name),
         Change::Unprove => unproved(l),
         Change::EndUnproven => time_over(l),
         Change::EndExchangesOf(address) => aborted(l, address),

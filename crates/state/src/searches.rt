@@ -3,10 +3,11 @@ use crate::Exchange;
 use crate::Login;
 use crate::Port;
 use tables::Found;
+use wire::name_number;
 ghost use mathlib.Core.Path.{_≡_};
 ghost use Rattle.tables.specs.Lists.{Within, all};
 ghost use Rattle.state.specs.Tables.{isFree, hasId, findExchange, freeExchange};
-ghost use Rattle.state.specs.Changes.{hasAddress, isClosed};
+ghost use Rattle.state.specs.Changes.{hasAddress, hasName, isHost, isClosed};
 
 // Whether a login is used and has this address.
 pub(crate) fn has_address(l: Login, address: u32) -> bool
@@ -16,6 +17,29 @@ pub(crate) fn has_address(l: Login, address: u32) -> bool
         l.address == address
     } else {
         false
+    }
+}
+
+// Whether a login is used and has this port name.
+fn has_name(l: Login, name: u64) -> bool
+    ensures { λ r. ⌜ r ≡ hasName name l ⌝ }
+{
+    let port = l.port_name;
+    if l.used == 1 {
+        name_number(port) == name
+    } else {
+        false
+    }
+}
+
+// Whether a login is of a host with this address or this port name.
+pub(crate) fn is_host(l: Login, address: u32, name: u64) -> bool
+    ensures { λ r. ⌜ r ≡ isHost address name l ⌝ }
+{
+    if has_address(l, address) {
+        true
+    } else {
+        has_name(l, name)
     }
 }
 

@@ -23,6 +23,11 @@ module _ {A : Type 0} where
   all-than p q h [] e = refl
   all-than p q h (x ∷ xs) e = and-both (h x (and-left (p x) (all p xs) e)) (all-than p q h xs (and-right (p x) (all p xs) e))
 
+  -- a test that passes at each place
+  pub all-places : (p : A → Bool) (z : A) (xs : List A) → ((j : ℕ) → j < length xs → p (getD xs j z) ≡ true) → all p xs ≡ true
+  all-places p z [] h = refl
+  all-places p z (x ∷ xs) h = and-both (h 0 (omega arith)) (all-places p z xs (λ j l. h (suc j) (omega arith)))
+
   -- an element of a list that passes the test
   pub all-at : (p : A → Bool) (z : A) (xs : List A) (i : ℕ) → i < length xs → all p xs ≡ true → p (getD xs i z) ≡ true
   all-at p z [] i h e = absurd (omega arith)

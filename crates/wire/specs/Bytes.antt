@@ -24,6 +24,10 @@ abbrev pub part : ℕ → List ℕ → ℕ → List ℕ
 part zero s i = []
 part (suc k) s i = getD s i 0 ∷ part k s (i + 1)
 
+-- the number that a name's bytes are, all of them
+unfoldable pub nameOf : List ℕ → ℕ
+nameOf name = num (length name) name 0
+
 -- l with p over its front; what does not fit is left out, so the length stays
 unfoldable pub onto : List ℕ → List ℕ → List ℕ
 onto p l = take (length l) p ++ drop (length p) l

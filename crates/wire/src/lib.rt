@@ -2,7 +2,7 @@
 ghost use mathlib.Core.Path.{_≡_};
 ghost use Prim.Native.Nat.{_%_, _≤_, _<_, min};
 ghost use lib.ListN.{getD};
-ghost use Rattle.wire.specs.Bytes.{num, bytes, part, onto, over, fillCount, fillOf};
+ghost use Rattle.wire.specs.Bytes.{num, bytes, part, nameOf, onto, over, fillCount, fillOf};
 
 // The byte at a place, 0 past the end.
 pub fn byte_at(s: &[u8], i: usize) -> u8
@@ -81,7 +81,7 @@ pub fn bytes4(n: u32) -> [u8; 4]
     ]
 }
 
-// The eight bytes of a name at a place.
+// The eight bytes of a name at a place; where all of them are there, the end is looked for once.
 pub fn name_at(s: &[u8], at: u16) -> [u8; 8]
     ensures { λ r. ⌜ r ≡ part 8 (now (s .entry)) at ⌝ }
 {
@@ -93,6 +93,9 @@ pub fn name_at(s: &[u8], at: u16) -> [u8; 8]
     let f = e + 1;
     let g = f + 1;
     let h = g + 1;
+    if h < s.len() {
+        return [s[a], s[b], s[c], s[d], s[e], s[f], s[g], s[h]];
+    }
     [
         byte_at(s, a),
         byte_at(s, b),
@@ -103,6 +106,13 @@ pub fn name_at(s: &[u8], at: u16) -> [u8; 8]
         byte_at(s, g),
         byte_at(s, h),
     ]
+}
+
+// A name as a number: two names are the same exactly when their numbers are.
+pub fn name_number(name: [u8; 8]) -> u64
+    ensures { λ r. ⌜ r ≡ nameOf name ⌝ }
+{
+    be64(&name, 0)
 }
 
 // Copies src over the front of out, as much of it as fits. The one copy loop.

@@ -1,4 +1,4 @@
-//! 01, Well formed. No made drive can be otherwise; the histories test it after each call.
+//! 01, Well formed, with the rule of 02, request 1. No made drive can be otherwise; the histories test it after each call.
 
 use crate::drive::{Attention, Drive, Exchange, Login, Source};
 use crate::setup::valid_address;
@@ -16,28 +16,41 @@ impl Drive {
             if logins[..i].iter().any(|l| l.address == login.address) {
                 return Some("two logins of one address");
             }
+            // 02, 1: "Login port names are then distinct, and the well-formed rule says so." That is among places in use; node
+            // names may be alike.
+            if logins[..i].iter().any(|l| l.parameters.port_name == login.parameters.port_name) {
+                return Some("two logins of one port name");
+            }
             // "stored parameters pass the PLOGI rules"
             let p = &login.parameters;
             let size = (256..=2112).contains(&p.size) && p.size % 4 == 0;
             if !size || p.port_name == [0; 8] || p.node_name == [0; 8] || p.concurrent == 0 || p.open_sequences == 0 {
                 return Some("stored parameters break the PLOGI rules");
             }
-            let open: Vec<&Exchange> = login.exchanges.iter().flatten().collect();
-            // "exchanges only at paired logins, OX_IDs distinct within a login"
-            if !login.paired && !open.is_empty() {
-                return Some("an exchange at an unpaired login");
+            if let Some(fault) = self.exchanges_ill_formed(login) {
+                return Some(fault);
             }
-            for (j, e) in open.iter().enumerate() {
-                if open[..j].iter().any(|o| o.ox_id == e.ox_id) {
-                    return Some("two exchanges of one OX_ID");
-                }
-                if !self.could_open(e) {
-                    return Some("an exchange no command opens");
-                }
-                // "with bytes sent at most its total and, short of it, a whole number of full frames"
-                if e.sent > e.total() || e.sent < e.total() && e.sent % p.size.min(2048) != 0 {
-                    return Some("bytes sent");
-                }
+        }
+        None
+    }
+
+    /// The first rule that a login's exchanges break.
+    fn exchanges_ill_formed(&self, login: &Login) -> Option<&'static str> {
+        let open: Vec<&Exchange> = login.exchanges.iter().flatten().collect();
+        // "exchanges only at paired logins, OX_IDs distinct within a login"
+        if !login.paired && !open.is_empty() {
+            return Some("an exchange at an unpaired login");
+        }
+        for (j, e) in open.iter().enumerate() {
+            if open[..j].iter().any(|o| o.ox_id == e.ox_id) {
+                return Some("two exchanges of one OX_ID");
+            }
+            if !self.could_open(e) {
+                return Some("an exchange no command opens");
+            }
+            // "with bytes sent at most its total and, short of it, a whole number of full frames"
+            if e.sent > e.total() || e.sent < e.total() && e.sent % login.parameters.size.min(2048) != 0 {
+                return Some("bytes sent");
             }
         }
         None

@@ -2,6 +2,7 @@
 
 mod calls;
 mod frames;
+mod moves;
 mod plans;
 
 use crate::call::{unhex, Call};
@@ -79,6 +80,8 @@ enum Plan {
     Drain(u32, u16, usize),
     /// the same with windows that fit
     Exact(u32, u16, usize),
+    /// the host of the first address comes back at the second
+    Move(u32, u32),
 }
 
 pub struct History {
@@ -195,10 +198,9 @@ impl History {
             let size =
                 if self.random.chance(700) { self.random.pick(&SIZES_GOOD) } else { 4 * self.random.within(64, 528) as u32 };
             let mut host = Host { address, port_name, node_name, size };
-            // "Port names are not compared between addresses."
-            if self.random.chance(150) && !self.hosts.is_empty() {
+            if self.random.chance(300) && !self.hosts.is_empty() {
                 let other = self.random.pick(&self.hosts);
-                (host.port_name, host.node_name) = (other.port_name, other.node_name);
+                self.name_alike(&mut host, other);
             }
             self.hosts.push(host);
         }
@@ -339,6 +341,7 @@ impl History {
             (17, 6),
             (18, if setups { 2 } else { 0 }),
             (19, 1),
+            (20, if restless { 12 } else { 6 }),
         ]);
         match choice {
             0 => Some(self.some_next()),
@@ -421,8 +424,12 @@ impl History {
                 self.plan_address_sweep();
                 None
             }
-            _ => {
+            19 => {
                 self.plan_many_frames();
+                None
+            }
+            _ => {
+                self.plan_move();
                 None
             }
         }

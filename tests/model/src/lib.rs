@@ -1,5 +1,5 @@
-//! An independent model of document 01, the drive side of a private Fibre Channel loop.
-//! A file a section of 01; each rule stands under a comment that quotes its sentence.
+//! An independent model of documents 01 and 02 (request 1), the drive side of a private Fibre Channel loop.
+//! A file a section of 01; each rule stands under a comment that quotes its sentence, of 02 where it says so.
 
 pub mod command;
 pub mod drive;

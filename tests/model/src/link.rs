@@ -1,9 +1,9 @@
-//! 01, Link services: PLOGI to RRQ, ABTS, and the LOGO by the drive.
+//! 01, Link services: PLOGI to RRQ, ABTS, and the LOGO by the drive; 02, request 1: the host that moved.
 
 use crate::drive::{Attention, Drive, Login, LOGINS};
 use crate::frame::{reply, three, Header, Row};
 use crate::rules::{hit, when, Rule};
-use crate::setup::{judge, Caller, Parameters};
+use crate::setup::{judge, Caller, Fault, Parameters};
 
 const PLOGI: u8 = 0x03;
 const LOGO: u8 = 0x05;
@@ -28,6 +28,7 @@ impl Drive {
             return self.reject(h, 0x0B, 0x00);
         };
         if when(payload.len() != size, Rule::WrongSize) {
+            when(code == PLOGI && payload.len() >= 28 && self.elsewhere(&payload[20..28], h.s_id).is_some(), Rule::StaysSize);
             return self.reject(h, 0x03, 0x00);
         }
         if code == PLOGI {
@@ -57,15 +58,17 @@ impl Drive {
         when(self.logins.iter().flatten().count() == LOGINS && self.place_of(h.s_id).is_some(), Rule::PlogiMemberOfFull);
         let before = self.place_of(h.s_id);
         self.end_login(h.s_id);
-        // "Tests in word order", then "a free place, else 09,29"
+        // "Tests in word order"
         let parameters = match judge(&payload[4..]) {
             Ok(parameters) => parameters,
             Err(fault) => {
-                hit(fault.rule(Caller::Plogi));
+                self.count_stays(h, payload, fault, before);
                 let (reason, explanation) = fault.reject();
                 return self.reject(h, reason, explanation);
             }
         };
+        let left = self.end_moved(h.s_id, &parameters, before);
+        // "a free place, else 09,29"
         let Some(free) = self.logins.iter().position(Option::is_none) else {
             hit(Rule::PlogiNoRoom);
             return self.reject(h, 0x09, 0x29);
@@ -73,6 +76,7 @@ impl Drive {
         // "Accepted: the lowest free place keeps address, names, W18 size, W19/B1, W20/B1, proven, unpaired, attention 29h."
         hit(Rule::PlogiAcc);
         when(before.is_some_and(|i| free < i), Rule::PlogiLowerPlace);
+        when(left == Some(free) && before.is_some_and(|i| free < i), Rule::MovedLowerPlace);
         self.logins[free] = Some(Login {
             address: h.s_id,
             parameters,
@@ -84,6 +88,53 @@ impl Drive {
         self.login_acc(h)
     }
 
+    /// 02, 1: "A PLOGI whose parameters pass, with a port name logged in at another address, ends that login and its exchanges before
+    /// the room test." Answers the place that is left.
+    fn end_moved(&mut self, s_id: u32, new: &Parameters, sender: Option<usize>) -> Option<usize> {
+        let Some(i) = self.elsewhere(&new.port_name, s_id) else {
+            self.count_apart(new);
+            return None;
+        };
+        self.count_moved(i, new, sender);
+        self.logins[i] = None;
+        Some(i)
+    }
+
+    /// The place of the login of that port name, W5-6 alone, at another address.
+    fn elsewhere(&self, port_name: &[u8], s_id: u32) -> Option<usize> {
+        self.logins.iter().position(|l| l.as_ref().is_some_and(|l| l.address != s_id && l.parameters.port_name == port_name))
+    }
+
+    /// Counts what the login that a host left was like, and from where it comes back.
+    fn count_moved(&self, i: usize, new: &Parameters, sender: Option<usize>) {
+        let (left, used) = (self.at(i), self.logins.iter().flatten().count());
+        hit(if sender.is_none() { Rule::Moved } else { Rule::MovedOnto });
+        when(left.open() > 0, Rule::MovedExchanges);
+        when(!left.proven, Rule::MovedUnproven);
+        when(!left.paired, Rule::MovedUnpaired);
+        when(left.parameters.node_name != new.node_name, Rule::MovedNode);
+        when(used == LOGINS, Rule::MovedFull);
+        when(used + 1 == LOGINS && sender.is_some(), Rule::MovedOntoFull);
+    }
+
+    /// Counts a new port name that is like another login's names and yet another: that login stays.
+    fn count_apart(&self, new: &Parameters) {
+        let like = |like: fn(&Parameters, &Parameters) -> bool| self.logins.iter().flatten().any(|l| like(&l.parameters, new));
+        when(like(|l, new| l.node_name == new.node_name), Rule::ApartNode);
+        when(like(|l, new| l.node_name == new.port_name), Rule::ApartPortNode);
+        when(like(|l, new| l.port_name[..4] == new.port_name[..4]), Rule::ApartW5);
+        when(like(|l, new| l.port_name[4..] == new.port_name[4..]), Rule::ApartW6);
+    }
+
+    /// Counts the word test that failed, and whether the port name is logged in elsewhere: that login stays.
+    fn count_stays(&self, h: &Header, payload: &[u8], fault: Fault, sender: Option<usize>) {
+        hit(fault.rule(Caller::Plogi));
+        if self.elsewhere(&payload[20..28], h.s_id).is_some() {
+            hit(fault.rule(Caller::Elsewhere));
+            when(sender.is_some(), Rule::StaysSenderEnds);
+        }
+    }
+
     /// "ACC is 02 00 00 00 and the setup words."
     fn login_acc(&self, h: &Header) -> Vec<u8> {
         let mut payload = ACC.to_vec();
@@ -91,10 +142,11 @@ impl Drive {
         self.accept(h, &payload)
     }
 
-    /// PDISC.
+    /// PDISC. 02, request 1 is of PLOGI alone: the names are compared with the sender's login, not with others.
     fn pdisc(&mut self, h: &Header, payload: &[u8], i: usize) -> Vec<u8> {
         // "Names differ from the login's ..: drive LOGO, login ended."
         if !same_names(&self.at(i).parameters, &payload[20..28], &payload[28..36], Rule::PdiscPort, Rule::PdiscNode) {
+            when(self.elsewhere(&payload[20..28], h.s_id).is_some(), Rule::PdiscElsewhere);
             self.end_login(h.s_id);
             return self.drive_logo(h.s_id);
         }
@@ -115,6 +167,7 @@ impl Drive {
         // "Names differ from the login's, or ADISC W6/B1-3 from S_ID: drive LOGO, login ended."
         let same = same_names(&self.at(i).parameters, &payload[8..16], &payload[16..24], Rule::AdiscPort, Rule::AdiscNode);
         if !same || when(three(&payload[25..28]) != h.s_id, Rule::AdiscAddress) {
+            when(self.elsewhere(&payload[8..16], h.s_id).is_some(), Rule::AdiscElsewhere);
             self.end_login(h.s_id);
             return self.drive_logo(h.s_id);
         }

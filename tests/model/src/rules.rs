@@ -63,6 +63,30 @@ rules! {
     PlogiNoRoom "PLOGI 09,29"
     PlogiAcc "PLOGI ACC"
     PlogiLowerPlace "PLOGI ACC at a place lower than the login's old one"
+    Moved "PLOGI ends the login of its port name at another address"
+    MovedOnto "PLOGI ends the login of its port name at another address and the sender's own"
+    MovedExchanges "the login of its port name has open exchanges, which end"
+    MovedUnproven "the login of its port name is unproven, and ends"
+    MovedUnpaired "the login of its port name is unpaired, and ends"
+    MovedNode "the login of its port name has another node name, and ends"
+    MovedFull "the login of its port name ends in a full table, before the room test"
+    MovedOntoFull "the login of its port name and the sender's own end in a full table"
+    MovedLowerPlace "PLOGI ACC at the place of the ended login, lower than the sender's old one"
+    StaysSize "PLOGI 03,00, its port name stays logged in at another address"
+    StaysCommonSize "PLOGI 03,0F, its port name stays logged in at another address"
+    StaysPortName "PLOGI 03,0D, its port name stays logged in at another address"
+    StaysNodeName "PLOGI 03,0E, its port name stays logged in at another address"
+    StaysClass3 "PLOGI 03,01 by W17, its port name stays logged in at another address"
+    StaysClass3Size "PLOGI 03,07, its port name stays logged in at another address"
+    StaysConcurrent "PLOGI 03,09, its port name stays logged in at another address"
+    StaysOpenSequences "PLOGI 03,01 by W20, its port name stays logged in at another address"
+    StaysSenderEnds "PLOGI fails a word test, its port name stays at another address, the sender's own login ends"
+    ApartNode "PLOGI with another login's node name, which stays"
+    ApartPortNode "PLOGI with another login's node name for its port name, which stays"
+    ApartW5 "PLOGI with W5 of another login's port name, which stays"
+    ApartW6 "PLOGI with W6 of another login's port name, which stays"
+    PdiscElsewhere "PDISC with another login's port name, which stays"
+    AdiscElsewhere "ADISC with another login's port name, which stays"
     PdiscPort "PDISC, another port name: drive LOGO"
     PdiscNode "PDISC, another node name: drive LOGO"
     PdiscCommonSize "PDISC 03,0F"
@@ -199,6 +223,7 @@ rules! {
 
 /// Branches that no history can take, with the reason.
 pub const UNREACHABLE: &[(Rule, &str)] = &[
+    (Rule::StaysPortName, "no login's port name is zero"),
     (Rule::PdiscPortName, "the names are compared first, and a login's are not zero"),
     (Rule::PdiscNodeName, "the names are compared first, and a login's are not zero"),
 ];

@@ -88,6 +88,8 @@ pub enum Caller {
     Setup,
     Plogi,
     Pdisc,
+    /// PLOGI, its port name logged in at another address
+    Elsewhere,
 }
 
 impl Fault {
@@ -127,6 +129,13 @@ impl Fault {
             (Caller::Pdisc, Fault::Class3Size) => Rule::PdiscClass3Size,
             (Caller::Pdisc, Fault::Concurrent) => Rule::PdiscConcurrent,
             (Caller::Pdisc, Fault::OpenSequences) => Rule::PdiscOpenSequences,
+            (Caller::Elsewhere, Fault::CommonSize) => Rule::StaysCommonSize,
+            (Caller::Elsewhere, Fault::PortName) => Rule::StaysPortName,
+            (Caller::Elsewhere, Fault::NodeName) => Rule::StaysNodeName,
+            (Caller::Elsewhere, Fault::Class3) => Rule::StaysClass3,
+            (Caller::Elsewhere, Fault::Class3Size) => Rule::StaysClass3Size,
+            (Caller::Elsewhere, Fault::Concurrent) => Rule::StaysConcurrent,
+            (Caller::Elsewhere, Fault::OpenSequences) => Rule::StaysOpenSequences,
         }
     }
 }

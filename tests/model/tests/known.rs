@@ -1,9 +1,11 @@
-//! 01, Known numbers and slips, and libfc's frames, on the model.
+//! 01, Known numbers and slips, libfc's frames, and 02, request 1: the host that moved; on the model.
 
 use model::drive::{Drive, Event, Window};
 use model::setup::{valid_address, Setup};
 
 const OWN: u8 = 0xE8;
+/// Hosts that fill the table, in the order of its places.
+const HOSTS: [u8; 8] = [0x01, 0x02, 0x04, 0x08, 0x0F, 0x10, 0x17, 0x18];
 
 /// Words 1 to 28 that pass the PLOGI rules, with that W18 size.
 fn words(size: u16) -> [u8; 112] {
@@ -15,6 +17,13 @@ fn words(size: u16) -> [u8; 112] {
     w[70..72].copy_from_slice(&size.to_be_bytes());
     w[73] = 1;
     w[77] = 1;
+    w
+}
+
+/// A host's words: its port name is its own, the node name is one for all.
+fn host_words(name: u8, size: u16) -> [u8; 112] {
+    let mut w = words(size);
+    w[16..24].copy_from_slice(&[b'h', b'o', b's', b't', 0, 0, 0, name]);
     w
 }
 
@@ -36,34 +45,52 @@ fn send(d: &mut Drive, frame: &[u8]) -> Result<Vec<u8>, u8> {
 }
 
 fn next(d: &mut Drive, ox_id: u16, start: u64, bytes: &[u8]) -> Result<Vec<u8>, u8> {
+    next_at(d, 1, ox_id, start, bytes)
+}
+
+fn next_at(d: &mut Drive, address: u8, ox_id: u16, start: u64, bytes: &[u8]) -> Result<Vec<u8>, u8> {
     let mut reply = [0x5A; 2136];
-    let n = d.next_frame(1, ox_id, Window { start, bytes }, &mut reply)?;
+    let n = d.next_frame(address.into(), ox_id, Window { start, bytes }, &mut reply)?;
     Ok(reply[..n].to_vec())
 }
 
 fn plogi(d: &mut Drive, from: u8, size: u16) -> Vec<u8> {
-    let payload = [&[3, 0, 0, 0], &words(size)[..]].concat();
+    plogi_with(d, from, &host_words(from, size))
+}
+
+/// The payload of the answer to a PLOGI with those words.
+fn plogi_with(d: &mut Drive, from: u8, words: &[u8; 112]) -> Vec<u8> {
+    let payload = [&[3, 0, 0, 0], &words[..]].concat();
     send(d, &frame(0x22, 1, from, 1, &payload)).unwrap()[24..].to_vec()
 }
 
 /// A drive with host 01h logged in, paired and its attention cleared.
 fn ready(capacity: u64, size: u16) -> Drive {
     let mut d = drive(capacity);
-    assert_eq!(plogi(&mut d, 1, size)[0], 2);
-    let prli = [0x20, 0x10, 0, 0x14, 8, 0, 0x20, 0, 0, 0, 0, 0, 0, 0, 0, 0, 0, 0, 0, 0x22];
-    let acc = [2, 0x10, 0, 0x14, 8, 0, 0x21, 0, 0, 0, 0, 0, 0, 0, 0, 0, 0, 0, 0, 0x12];
-    assert_eq!(send(&mut d, &frame(0x22, 1, 1, 1, &prli)).unwrap()[24..], acc);
-    let sense = command(&mut d, 1, &[0], 0);
-    assert_eq!((sense.len(), sense[11], sense[24 + 11], sense[24 + 24 + 12]), (68, 2, 2, 0x29));
+    log_in(&mut d, 1, size);
     d
 }
 
+/// PLOGI, PRLI, and TEST UNIT READY for the attention.
+fn log_in(d: &mut Drive, from: u8, size: u16) {
+    assert_eq!(plogi(d, from, size)[0], 2);
+    let prli = [0x20, 0x10, 0, 0x14, 8, 0, 0x20, 0, 0, 0, 0, 0, 0, 0, 0, 0, 0, 0, 0, 0x22];
+    let acc = [2, 0x10, 0, 0x14, 8, 0, 0x21, 0, 0, 0, 0, 0, 0, 0, 0, 0, 0, 0, 0, 0x12];
+    assert_eq!(send(d, &frame(0x22, 1, from, 1, &prli)).unwrap()[24..], acc);
+    let sense = command_from(d, from, 1, &[0], 0);
+    assert_eq!((sense.len(), sense[11], sense[24 + 11], sense[24 + 24 + 12]), (68, 2, 2, 0x29));
+}
+
 fn command(d: &mut Drive, ox_id: u8, cdb: &[u8], fcp_dl: u32) -> Vec<u8> {
+    command_from(d, 1, ox_id, cdb, fcp_dl)
+}
+
+fn command_from(d: &mut Drive, from: u8, ox_id: u8, cdb: &[u8], fcp_dl: u32) -> Vec<u8> {
     let mut payload = vec![0; 32];
     payload[11] = 2;
     payload[12..12 + cdb.len()].copy_from_slice(cdb);
     payload[28..].copy_from_slice(&fcp_dl.to_be_bytes());
-    send(d, &frame(6, 8, 1, ox_id, &payload)).unwrap()
+    send(d, &frame(6, 8, from, ox_id, &payload)).unwrap()
 }
 
 fn read(d: &mut Drive, ox_id: u8, address: u32, count: u16, fcp_dl: u32) -> Vec<u8> {
@@ -104,10 +131,13 @@ fn login_sizes() {
 #[test]
 fn ninth_login() {
     let mut d = drive(1);
-    for from in [0x01, 0x02, 0x04, 0x08, 0x0F, 0x10, 0x17, 0x18] {
+    for from in HOSTS {
         assert_eq!(plogi(&mut d, from, 256)[0], 2);
     }
+    // a ninth name: nothing changes
+    let before = d.clone();
     assert_eq!(plogi(&mut d, 0x1B, 256), [1, 0, 0, 0, 0, 9, 0x29, 0]);
+    assert_eq!(d, before);
     // slips: a full table refusing its own member's new login; keeping the old login after a rejected PLOGI
     assert_eq!(plogi(&mut d, 0x18, 256)[0], 2);
     assert_eq!(plogi(&mut d, 0x18, 252)[0], 1);
@@ -175,6 +205,122 @@ fn loop_reset_and_after() {
     let logo = send(&mut d, &frame(0x81, 0, 1, 1, &[])).unwrap();
     assert_eq!(logo[..24], [0x22, 0, 0, 1, 0, 0, 0, OWN, 1, 0x29, 0, 0, 0, 0, 0, 0, 0, 1, 0xFF, 0xFF, 0, 0, 0, 0]);
     assert_eq!(logo[24..], [&[5, 0, 0, 0, 0, 0, 0, OWN], &b"portname"[..]].concat());
+}
+
+/// A full table of paired logins; each has an open READ of OX_ID 0002h.
+fn full() -> Drive {
+    let mut d = drive(100);
+    for from in HOSTS {
+        log_in(&mut d, from, 512);
+        assert_eq!(command_from(&mut d, from, 2, &[0x28, 0, 0, 0, 0, 9, 0, 0, 1], 512), []);
+    }
+    d
+}
+
+/// The addresses of the table's places, 0 for a free one.
+fn places(d: &Drive) -> [u32; 8] {
+    assert_eq!(d.ill_formed(), None);
+    [0, 1, 2, 3, 4, 5, 6, 7].map(|i| d.logins[i].as_ref().map_or(0, |l| l.address))
+}
+
+/// That address has no login: TEST UNIT READY draws a LOGO, and the open READ of OX_ID 0002h is gone.
+fn assert_gone(d: &mut Drive, from: u8) {
+    assert_eq!(next_at(d, from, 2, 9, &[7; 512]), Err(9));
+    let logo = command_from(d, from, 3, &[0], 0);
+    assert_eq!((logo[0], logo[3], logo[24]), (0x22, from, 5));
+}
+
+#[test]
+fn moved_out_of_a_full_table() {
+    let mut d = full();
+    assert_eq!(plogi_with(&mut d, 0x1B, &host_words(0x08, 1024))[..4], [2, 0, 0, 0]);
+    assert_eq!(places(&d), [0x01, 0x02, 0x04, 0x1B, 0x0F, 0x10, 0x17, 0x18]);
+    // a login as any new one, without exchanges; the others keep theirs
+    let new = d.login(0x1B).unwrap();
+    assert_eq!((new.proven, new.paired, new.open(), new.parameters.size), (true, false, 0, 1024));
+    assert_gone(&mut d, 0x08);
+    assert_eq!(next_at(&mut d, 0x1B, 2, 9, &[7; 512]), Err(9));
+    for from in HOSTS.into_iter().filter(|&h| h != 0x08) {
+        assert_eq!(next_at(&mut d, from, 2, 9, &[7; 512]).unwrap()[24..], [7; 512]);
+    }
+}
+
+/// Each word test that fails: its LS_RJT, and the login of that port name stays as it was.
+#[test]
+fn moved_and_rejected() {
+    let faults: [(usize, &[u8], u8); 6] =
+        [(6, &[0, 252], 0x0F), (24, &[0; 8], 0x0E), (64, &[0], 0x01), (70, &[0, 252], 0x07), (73, &[0], 0x09), (77, &[0], 0x01)];
+    for (at, bytes, explanation) in faults {
+        let mut words = host_words(0x08, 512);
+        words[at..at + bytes.len()].copy_from_slice(bytes);
+        let mut d = full();
+        let before = d.clone();
+        assert_eq!(plogi_with(&mut d, 0x1B, &words), [1, 0, 0, 0, 0, 3, explanation, 0]);
+        assert_eq!(d, before);
+        // from a member of the table: its own login ends, and no other
+        assert_eq!(plogi_with(&mut d, 0x10, &words), [1, 0, 0, 0, 0, 3, explanation, 0]);
+        assert_eq!(places(&d), [0x01, 0x02, 0x04, 0x08, 0x0F, 0, 0x17, 0x18]);
+        assert_eq!(next_at(&mut d, 0x08, 2, 9, &[7; 512]).unwrap()[24..], [7; 512]);
+        assert_gone(&mut d, 0x10);
+    }
+}
+
+#[test]
+fn moved_onto_a_login() {
+    // the sender at place 5, the name at place 2
+    let mut d = full();
+    assert_eq!(plogi_with(&mut d, 0x10, &host_words(0x04, 512))[0], 2);
+    assert_eq!(places(&d), [0x01, 0x02, 0x10, 0x08, 0x0F, 0, 0x17, 0x18]);
+    assert_gone(&mut d, 0x04);
+    // and the other way round
+    let mut d = full();
+    assert_eq!(plogi_with(&mut d, 0x04, &host_words(0x10, 512))[0], 2);
+    assert_eq!(places(&d), [0x01, 0x02, 0x04, 0x08, 0x0F, 0, 0x17, 0x18]);
+    assert_gone(&mut d, 0x10);
+    // a free place below both is lower still
+    let mut d = full();
+    d.logins[0] = None;
+    assert_eq!(plogi_with(&mut d, 0x10, &host_words(0x04, 512))[0], 2);
+    assert_eq!(places(&d), [0x10, 0x02, 0, 0x08, 0x0F, 0, 0x17, 0x18]);
+}
+
+/// An unproven and an unpaired login end like any other; PDISC and ADISC end none but the sender's.
+#[test]
+fn moved_unproven_unpaired() {
+    let mut d = full();
+    d.event(Event::LoopReset);
+    assert_eq!(plogi_with(&mut d, 0x1B, &host_words(0x08, 512))[0], 2);
+    assert_gone(&mut d, 0x08);
+    // 1Bh is unpaired
+    assert_eq!(plogi_with(&mut d, 0x1D, &host_words(0x08, 512))[0], 2);
+    assert_eq!(places(&d), [0x01, 0x02, 0x04, 0x1D, 0x0F, 0x10, 0x17, 0x18]);
+    assert_gone(&mut d, 0x1B);
+    let pdisc = [&[0x50, 0, 0, 0], &host_words(0x08, 512)[..]].concat();
+    assert_eq!(send(&mut d, &frame(0x22, 1, 0x18, 1, &pdisc)).unwrap()[24], 5);
+    let adisc = [&[0x52, 0, 0, 0, 0, 0, 0, 0], &host_words(0x08, 512)[16..32], &[0, 0, 0, 0x17]].concat();
+    assert_eq!(send(&mut d, &frame(0x22, 1, 0x17, 1, &adisc)).unwrap()[24], 5);
+    assert_eq!(places(&d), [0x01, 0x02, 0x04, 0x1D, 0x0F, 0x10, 0, 0]);
+}
+
+/// Port names in places in use are distinct; node names need not be, nor a port name and another's node name.
+#[test]
+fn names_of_logins() {
+    let mut d = drive(100);
+    let mut words = host_words(0x01, 512);
+    assert_eq!(plogi_with(&mut d, 0x01, &words)[0], 2);
+    words[16..24].copy_from_slice(b"nodename");
+    assert_eq!(plogi_with(&mut d, 0x02, &words)[0], 2);
+    words[24..32].copy_from_slice(&host_words(0x01, 512)[16..24]);
+    words[23] ^= 1;
+    assert_eq!(plogi_with(&mut d, 0x04, &words)[0], 2);
+    assert_eq!(places(&d), [0x01, 0x02, 0x04, 0, 0, 0, 0, 0]);
+    let node_names = [0, 1].map(|i| d.logins[i].as_ref().unwrap().parameters.node_name);
+    assert_eq!(node_names, [*b"nodename"; 2]);
+    let name = d.login(0x01).unwrap().parameters.port_name;
+    d.logins[2].as_mut().unwrap().parameters.port_name = name;
+    assert_eq!(d.ill_formed(), Some("two logins of one port name"));
+    d.logins[0] = None;
+    assert_eq!(d.ill_formed(), None);
 }
 
 /// What libfc's own frames are answered with, in their order: R_CTL, or 0 for nothing, and the byte that tells most.

@@ -1,4 +1,4 @@
--- `boundary::reach` meets its contract: a walk of its MIR, by hand, with a loop. The borrow of the port is opened once; in each turn of the loop the login at the next place that the change reaches is read through it, changed by `state::changed` and stored in its place. The borrow is closed at the port with these logins.
+-- `boundary::reach` meets its contract: a walk of its MIR, by hand, with a loop. The borrow of the port is opened once; in each turn of the loop the login at the next place that is marked is read through it, changed by `state::changed` and stored in its place. The borrow is closed at the port with these logins.
 -- Assumes nothing.
 use mathlib.Core.Path.{_≡_, refl, sym, ap, subst}
 use mathlib.Core.Bool.{Bool, true, false}
@@ -32,7 +32,6 @@ use denote.Laws.{Is, shows}
 use denote.Memory.{mem as memOf}
 use denote.Plain.{uint-lawful, uint-makes, uint-tells}
 use denote.Builtin.{usize}
-use denote.Array.{array-vals, array-tells, array-makes, array-lawful}
 use denote.Ref.{RefT, MutRef, ptr-vals, mut-tells}
 use denote.Signature.{plain}
 use denote.Steps.{only, opens, closes, owned, peeks, heard, nothing}
@@ -63,20 +62,17 @@ use Rattle.state.proofs.changed as ch
 use Rattle.state.proofs.changed.Symbol as ch-def
 use Rattle.state.proofs.changed.Symbol.{name as #state·changed}
 use Rattle.state.proofs.changed.Met as ch-thm
-use Rattle.formed.specs.declared.Key.{Key}
-use Rattle.formed.proofs.Key as Ke
-use Rattle.formed.proofs.Key.Laws as Ke′
-use Rattle.boundary.specs.Settled.{freeKey, reaches, NextReached, reachedBy, reachedOf}
+use Rattle.boundary.specs.Settled.{NextMarked, reachedBy, reachedOf}
 use Rattle.boundary.proofs.Elements.{elem, unraw}
-use Rattle.boundary.proofs.Keyed.{K8, k8, kvals, kval}
 use Rattle.boundary.proofs.Lent.{pval, word, rf}
 use Rattle.boundary.proofs.Logins.{lval, stores, logins-long, table-8, login-is, reads, is-after}
+use Rattle.boundary.proofs.Marked.{M8, m8, mvals, mval, marks-tell, marks-lawful, marks-make}
 use Rattle.boundary.proofs.Reached.{Reached, reached-starts, reached-skip, reached-store, reached-out}
 use Rattle.boundary.proofs.Lending.{cval}
-use Rattle.boundary.proofs.next_reached as r
-use Rattle.boundary.proofs.next_reached.Symbol as r-def
-use Rattle.boundary.proofs.next_reached.Symbol.{name as #boundary·next-reached}
-use Rattle.boundary.proofs.next_reached.Met as r-thm
+use Rattle.boundary.proofs.next_marked as r
+use Rattle.boundary.proofs.next_marked.Symbol as r-def
+use Rattle.boundary.proofs.next_marked.Symbol.{name as #boundary·next-marked}
+use Rattle.boundary.proofs.next_marked.Met as r-thm
 use Rattle.boundary.proofs.reach.Key.{name as #boundary·reach}
 use Rattle.boundary.proofs.reach as f
 use Rattle.boundary.proofs.reach.Statement as stated
@@ -84,79 +80,78 @@ use Rattle.boundary.proofs.reach.Code as code
 use Rattle.boundary.proofs.reach.Code.Mir as mir-of
 
 abbrev stayed : Stays (f.ended .signature .params) (f.ended .kept)
-stayed = (stay-ref (0 ∷ []) tt (plain (λ _. Po.the-row)), (stay-none (λ _. K8) yes, (stay-none (λ _. Ch.the-row) yes, tt)))
+stayed = (stay-ref (0 ∷ []) tt (plain (λ _. Po.the-row)), (stay-none (λ _. M8) yes, (stay-none (λ _. Ch.the-row) yes, tt)))
 
--- where the loop stands: the next place that the change reaches, and the logins by then
-record Here (h : Port) (keys : List Key) (d : Change) : Type 0 where
+-- where the loop stands: the next place that is marked, and the logins by then
+record Here (h : Port) (ms : List Bool) (d : Change) : Type 0 where
   i : ℕ
   ls : List Login
-  good : Reached d keys (reachedBy d keys (h .logins)) ls i
-  here : i < 8 → reaches d (getD keys i freeKey) ≡ true
+  good : Reached d ms (reachedBy d ms (h .logins)) ls i
+  here : i < 8 → getD ms i false ≡ true
   is : Is Po.the-row (withLogins h ls) (pval (withLogins h ls) ∷ [])
 
 module _ {M : Type 1} (𝓤 : URA M) (H : Heap 𝓤) (A : Atoms 𝓤) (mem : Memory → SProp 𝓤) (run : Routine → Fun 𝓤) where
-  -- the contracts of `next_reached` and `state::changed`, what they give, and what they are passed
+  -- the contracts of `next_marked` and `state::changed`, what they give, and what they are passed
   abbrev R : Contract 𝓤
   R = tripleOf 𝓤 H A r.signature (r.spec 𝓤 H A mem run)
 
   abbrev C′ : Contract 𝓤
   C′ = tripleOf 𝓤 H A ch.signature (ch.spec 𝓤 H A mem run)
 
-  next-of : (ks : List Key) (d : Change) (from k : ℕ) → ent 𝓤 (ensured 𝓤 H A r.ended (r.clauses 𝓤 H A mem run) tt (ks, (d, (from, tt))) tt k) (fact 𝓤 (NextReached ks d from k))
-  next-of ks d from k = exE 𝓤 _ (λ ws. snd∗ 𝓤 (sem 𝓤 H A (lasts r.ended tt (ks, (d, (from, tt))) ws)) (fact 𝓤 (NextReached ks d from k)))
+  next-of : (ms : List Bool) (from k : ℕ) → ent 𝓤 (ensured 𝓤 H A r.ended (r.clauses 𝓤 H A mem run) tt (ms, (from, tt)) tt k) (fact 𝓤 (NextMarked ms from k))
+  next-of ms from k = exE 𝓤 _ (λ ws. snd∗ 𝓤 (sem 𝓤 H A (lasts r.ended tt (ms, (from, tt)) ws)) (fact 𝓤 (NextMarked ms from k)))
 
   changed-of : (m : Login) (d : Change) (k : Login) → ent 𝓤 (ensured 𝓤 H A ch.ended (ch.clauses 𝓤 H A mem run) tt (m, (d, tt)) tt k) (fact 𝓤 (k ≡ changedOf d m))
   changed-of m d k = exE 𝓤 _ (λ ws. snd∗ 𝓤 (sem 𝓤 H A (lasts ch.ended tt (m, (d, tt)) ws)) (fact 𝓤 (k ≡ changedOf d m)))
 
-  abbrev to-next : List Key → Change → ℕ → R .Ghost
-  to-next ks d from = ((tt, tt, tt, (ks, (d, (from, tt))), (kvals ks, (cval d ∷ [], (vint w64 from ∷ [], tt)))), tt)
+  abbrev to-next : List Bool → ℕ → R .Ghost
+  to-next ms from = ((tt, tt, tt, (ms, (from, tt)), (mvals ms, (vint w64 from ∷ [], tt))), tt)
 
   abbrev to-changed : Login → Change → C′ .Ghost
   to-changed m d = ((tt, tt, tt, (m, (d, tt)), (lval m ∷ [], (cval d ∷ [], tt))), tt)
 
-  module _ (W : Given 𝓤 H A) (d : Change) (is-d : Is Ch.the-row d (cval d ∷ [])) where
-    goes-next : (ks : List Key) (from : ℕ) → Is K8 ks (kvals ks) → from ≤ 8 → ent 𝓤 (emp 𝓤) (R .pre (to-next ks d from))
-    goes-next ks from is-ks h =
+  module _ (W : Given 𝓤 H A) where
+    goes-next : (ms : List Bool) (from : ℕ) → Is M8 ms (mvals ms) → from ≤ 8 → ent 𝓤 (emp 𝓤) (R .pre (to-next ms from))
+    goes-next ms from is-ms h =
         let fits : from < 2 ^ 64 = omega (arith, h) in
-        qed W [] ∵ says ! h $ nothing ! $ owned ! usize (Is usize) (uint-makes 𝓤 H A W w64) from _ (refl, fits) $ fjoin ! $ owned ! Ch.the-row (Is Ch.the-row) (EL.makes Ch.the-type Ch′.the-plain 𝓤 H A) d _ is-d $ fjoin ! $
-        owned ! K8 (Is K8) (array-makes 𝓤 H A W Ke.the-row (LL.makes Ke.the-type Ke′.the-plain 𝓤 H A) 8) ks _ is-ks $ fjoin ! $ nothing ! $ done !
+        qed W [] ∵ says ! h $ nothing ! $ owned ! usize (Is usize) (uint-makes 𝓤 H A W w64) from _ (refl, fits) $ fjoin ! $ owned ! M8 (Is M8) (marks-make 𝓤 H A W) ms _ is-ms $ fjoin ! $ nothing ! $ done !
 
-    goes-changed : (m : Login) → Is Lo.the-row m (lval m ∷ []) → ent 𝓤 (emp 𝓤) (C′ .pre (to-changed m d))
-    goes-changed m is-m =
+    goes-changed : (d : Change) (m : Login) → Is Ch.the-row d (cval d ∷ []) → Is Lo.the-row m (lval m ∷ []) → ent 𝓤 (emp 𝓤) (C′ .pre (to-changed m d))
+    goes-changed d m is-d is-m =
         qed W [] ∵ nothing ! $ owned ! Ch.the-row (Is Ch.the-row) (EL.makes Ch.the-type Ch′.the-plain 𝓤 H A) d _ is-d $ fjoin ! $ owned ! Lo.the-row (Is Lo.the-row) (LL.makes Lo.the-type Lo′.the-plain 𝓤 H A) m _ is-m $ fjoin ! $
         nothing ! $ join ! $ frame ! $ done !
 
-module _ {M : Type 1} (𝓤 : URA M) (H : Heap 𝓤) (A : Atoms 𝓤) (W : Given 𝓤 H A) (mem : Memory → SProp 𝓤) (run : Routine → Fun 𝓤) (κ : Lft) (q : Share) (b o : ℕ) (γ : GName) (h : Port) (keys : List Key) (c : Change) (is-keys : Is K8 keys (kvals keys)) (is-c : Is Ch.the-row c (cval c ∷ [])) where
-  abbrev a : RefT Port × (List Key × (Change × Unit {0}))
-  a = (record { ptr = (b, o); name = γ; now = h }, (keys, (c, tt)))
+module _ {M : Type 1} (𝓤 : URA M) (H : Heap 𝓤) (A : Atoms 𝓤) (W : Given 𝓤 H A) (mem : Memory → SProp 𝓤) (run : Routine → Fun 𝓤) (κ : Lft) (q : Share) (b o : ℕ) (γ : GName) (h : Port) (ms : List Bool) (c : Change) (is-ms : Is M8 ms (mvals ms)) (is-c : Is Ch.the-row c (cval c ∷ [])) where
+  abbrev a : RefT Port × (List Bool × (Change × Unit {0}))
+  a = (record { ptr = (b, o); name = γ; now = h }, (ms, (c, tt)))
 
   abbrev vals : List Val × (List Val × (List Val × Unit {0}))
-  vals = (vptr b o ∷ [], (kvals keys, (cval c ∷ [], tt)))
+  vals = (vptr b o ∷ [], (mvals ms, (cval c ∷ [], tt)))
 
   abbrev Post : Val → SProp 𝓤
   Post = walkOf 𝓤 H A f.ended stayed (f.clauses 𝓤 H A mem run) .post (((κ, tt), (q, tt), tt, a, vals), tt)
 
-  len : length keys ≡ 8
-  len = is-keys .1 .0 .1
+  len : length ms ≡ 8
+  len = is-ms .1 .0 .1
 
   -- the port at a place of the loop, and at the end
   abbrev Place : Type 0
-  Place = Here h keys c
+  Place = Here h ms c
 
   abbrev by-then : Place → Port
   by-then x = withLogins h (x .ls)
 
-  through : (x : Place) → 8 ≤ x .i → by-then x ≡ reachedOf h keys c
+  through : (x : Place) → 8 ≤ x .i → by-then x ≡ reachedOf h ms c
   unfolding reachedOf
   through x past = ap (withLogins h) (reached-out len past (x .good))
 
-  exits : (e : Port) → e ≡ reachedOf h keys c → ent 𝓤 (⋆ 𝓤 H A (‵ (fobs γ (Po.the-row .coded .code e)) ∷ ‵ (fbor κ (Body (memOf Po.the-row) b o γ)) ∷ ‵ (flft κ q) ∷ [])) (Post vunit)
+  exits : (e : Port) → e ≡ reachedOf h ms c → ent 𝓤 (⋆ 𝓤 H A (‵ (fobs γ (Po.the-row .coded .code e)) ∷ ‵ (fbor κ (Body (memOf Po.the-row) b o γ)) ∷ ‵ (flft κ q) ∷ [])) (Post vunit)
   exits e is =
       qed W (‵ (fobs γ (Po.the-row .coded .code e)) ∷ ‵ (fbor κ (Body (memOf Po.the-row) b o γ)) ∷ ‵ (flft κ q) ∷ []) ∵
       suffices ! _ (ends-at 𝓤 H A f.ended stayed (f.clauses 𝓤 H A mem run) W (((κ, tt), (q, tt), tt, a, vals), tt) vunit tt (e, (tt, (tt, tt))) (tt, (tt, (tt, tt)))) $ says ! is $
       nothing ! $ move ! (3 ∷ 0 ∷ []) $ join ! $ frame ! $ feqI ! (List Val) (vptr b o ∷ []) (vptr b o ∷ []) refl $ fjoin3 ! $
       -- [what p owns]
-      nothing ! $ owned ! Ch.the-row (Is Ch.the-row) (EL.makes Ch.the-type Ch′.the-plain 𝓤 H A) c _ is-c $ fjoin ! $ owned ! K8 (Is K8) (array-makes 𝓤 H A W Ke.the-row (LL.makes Ke.the-type Ke′.the-plain 𝓤 H A) 8) keys _ is-keys $ fjoin ! $ move ! (1 ∷ 0 ∷ []) $ fjoin ! $
+      nothing ! $ owned ! Ch.the-row (Is Ch.the-row) (EL.makes Ch.the-type Ch′.the-plain 𝓤 H A) c _ is-c $ fjoin ! $ owned ! M8 (Is M8) (marks-make 𝓤 H A W) ms _ is-ms $ fjoin ! $ move ! (1 ∷ 0 ∷ []) $ fjoin ! $
       feqI ! (List Val) (vunit ∷ []) (vunit ∷ []) refl $ move ! (1 ∷ 0 ∷ []) $ done !
 
   -- the loop's variant
@@ -167,13 +162,13 @@ module _ {M : Type 1} (𝓤 : URA M) (H : Heap 𝓤) (A : Atoms 𝓤) (W : Given
   Nearer-wf = InvImage·wf (λ (x : Place). 8 - x .i) (Nat·lt-wfRel .wf)
 
   -- the first place, and the next one
-  abbrev starting : Is Po.the-row h (pval h ∷ []) → (k : ℕ) → NextReached keys c 0 k → Place
+  abbrev starting : Is Po.the-row h (pval h ∷ []) → (k : ℕ) → NextMarked ms 0 k → Place
   starting was k e = record { i = k; ls = h .logins; good = reached-skip len e (reached-starts len (logins-long h was)); here = e .here; is = was }
 
-  abbrev going : (x : Place) → x .i < 8 → (m : Login) → Is Lo.the-row m (lval m ∷ []) → m ≡ changedOf c (getD (x .ls) (x .i) noLogin) → (k : ℕ) → NextReached keys c (x .i + 1) k → Place
+  abbrev going : (x : Place) → x .i < 8 → (m : Login) → Is Lo.the-row m (lval m ∷ []) → m ≡ changedOf c (getD (x .ls) (x .i) noLogin) → (k : ℕ) → NextMarked ms (x .i + 1) k → Place
   going x less m is-m e k e′ = record { i = k; ls = set (x .ls) (x .i) m; good = reached-skip len e′ (reached-store len less (x .here less) e (x .good)); here = e′ .here; is = is-after (by-then x) (x .is) (x .i) m is-m }
 
-  module _ (𝓣 : Tables 𝓤 H) (fm : FmC 𝓤 H (W .laws) (𝓣 .C)) (known-next : Triple 𝓤 (𝓣 .C #boundary·next-reached) (R 𝓤 H A mem run)) (known-changed : Triple 𝓤 (𝓣 .C #state·changed) (C′ 𝓤 H A mem run)) (l₀ l₁ l₂ l₃ l₄ l₅ l₆ l₇ l₈ l₉ l₁₀ l₁₁ l₁₂ : ℕ) where
+  module _ (𝓣 : Tables 𝓤 H) (fm : FmC 𝓤 H (W .laws) (𝓣 .C)) (known-next : Triple 𝓤 (𝓣 .C #boundary·next-marked) (R 𝓤 H A mem run)) (known-changed : Triple 𝓤 (𝓣 .C #state·changed) (C′ 𝓤 H A mem run)) (l₀ l₁ l₂ l₃ l₄ l₅ l₆ l₇ l₈ l₉ l₁₀ l₁₁ l₁₂ : ℕ) where
     abbrev C : Calls 𝓤 H
     C = 𝓣 .C
 
@@ -181,13 +176,13 @@ module _ {M : Type 1} (𝓤 : URA M) (H : Heap 𝓤) (A : Atoms 𝓤) (W : Given
     Λ = 𝓣 .Λ
 
     abbrev En : Env 𝓤 H
-    En = (tyUnit, l₀) ∷ (rf, l₁) ∷ (k8, l₂) ∷ (Ch′.mir, l₃) ∷ (word, l₄) ∷ (Lo′.mir, l₅) ∷ (tyBool, l₆) ∷ (word, l₇) ∷ (tyPtr, l₈) ∷ (tyPtr, l₉) ∷ (Lo′.mir, l₁₀) ∷ (tyPtr, l₁₁) ∷ (tyPtr, l₁₂) ∷ []
+    En = (tyUnit, l₀) ∷ (rf, l₁) ∷ (m8, l₂) ∷ (Ch′.mir, l₃) ∷ (word, l₄) ∷ (Lo′.mir, l₅) ∷ (tyBool, l₆) ∷ (word, l₇) ∷ (tyPtr, l₈) ∷ (tyPtr, l₉) ∷ (Lo′.mir, l₁₀) ∷ (tyPtr, l₁₁) ∷ (tyPtr, l₁₂) ∷ []
 
     -- what is had where the port's logins are ls: the port's cell, the open borrow, and the locals
     abbrev Had : List Login → Item 𝓤 → List (Item 𝓤)
     Had ls four = ‵ (fat fullShare (rawTy Po′.mir) b o (pval (withLogins h ls))) ∷ ‵ (fobor κ q (Body (memOf Po.the-row) b o γ)) ∷ ‵ (fobs γ (Po.the-row .coded .code h)) ∷ ‵ (fauth γ (Po.the-row .coded .code h))
         ∷ ‵ (froom tyPtr l₁₂ 0) ∷ ‵ (fdies tyPtr l₁₂) ∷ ‵ (froom tyPtr l₁₁ 0) ∷ ‵ (fdies tyPtr l₁₁) ∷ ‵ (froom Lo′.mir l₁₀ 0) ∷ ‵ (fdies Lo′.mir l₁₀) ∷ ‵ (froom tyPtr l₉ 0) ∷ ‵ (fdies tyPtr l₉) ∷ ‵ (froom tyPtr l₈ 0) ∷ ‵ (fdies tyPtr l₈) ∷ ‵ (froom word l₇ 0) ∷ ‵ (fdies word l₇)
-        ∷ ‵ (froom tyBool l₆ 0) ∷ ‵ (fdies tyBool l₆) ∷ ‵ (froom Lo′.mir l₅ 0) ∷ ‵ (fdies Lo′.mir l₅) ∷ four ∷ ‵ (fdies word l₄) ∷ ‵ (fat fullShare Ch′.mir l₃ 0 (cval c)) ∷ ‵ (fdies Ch′.mir l₃) ∷ ‵ (fat fullShare k8 l₂ 0 (kval keys)) ∷ ‵ (fdies k8 l₂) ∷ ‵ (fat fullShare rf l₁ 0 (vptr b o)) ∷ ‵ (fdies rf l₁) ∷ ‵ (froom tyUnit l₀ 0) ∷ ‵ (fdies tyUnit l₀) ∷ []
+        ∷ ‵ (froom tyBool l₆ 0) ∷ ‵ (fdies tyBool l₆) ∷ ‵ (froom Lo′.mir l₅ 0) ∷ ‵ (fdies Lo′.mir l₅) ∷ four ∷ ‵ (fdies word l₄) ∷ ‵ (fat fullShare Ch′.mir l₃ 0 (cval c)) ∷ ‵ (fdies Ch′.mir l₃) ∷ ‵ (fat fullShare m8 l₂ 0 (mval ms)) ∷ ‵ (fdies m8 l₂) ∷ ‵ (fat fullShare rf l₁ 0 (vptr b o)) ∷ ‵ (fdies rf l₁) ∷ ‵ (froom tyUnit l₀ 0) ∷ ‵ (fdies tyUnit l₀) ∷ []
 
     -- at the head of a turn
     abbrev At-head : Place → List (Item 𝓤)
@@ -217,7 +212,7 @@ module _ {M : Type 1} (𝓤 : URA M) (H : Heap 𝓤) (A : Atoms 𝓤) (W : Given
         (init ! 8 refl (subst (λ (z : Val). Holds (hasTy Lo′.mir z) × WT z) (sym (reads (by-then x) (x .is) i noLogin less)) (LL.lawful Lo.the-type Lo′.the-laws 𝓤 H A W .typed l _ is-l .0))) $
         rewrite ! 8 (λ (z : Val). ‵ (fat fullShare Lo′.mir l₁₀ 0 z)) (reads (by-then x) (x .is) i noLogin less) refl $
         -- `changed`
-        use0 W (raw (C′ 𝓤 H A mem run .pre (to-changed 𝓤 H A mem run l c))) (goes-changed 𝓤 H A mem run W c is-c l is-l) $
+        use0 W (raw (C′ 𝓤 H A mem run .pre (to-changed 𝓤 H A mem run l c))) (goes-changed 𝓤 H A mem run W c l is-c is-l) $
         calls-at ! fm (C′ 𝓤 H A mem run) known-changed (to-changed 𝓤 H A mem run l c) (and-then ! (load ! (from ! (stop !)) (look ! 9 refl)) (and-then ! (load ! (from ! (stop !)) (look ! 23 refl)) (no-more !))) (λ u.
         use1 W (later (some (λ (m : Login). (‵ ftrue ⊛ ‵ (Lo.the-row .own m (u ∷ []))) ⊛ raw (ensured 𝓤 H A ch.ended (ch.clauses 𝓤 H A mem run) tt (l, (c, tt)) tt m)))) (id⊢ 𝓤 _) $ await ! tt $ pick ! (λ m.
         split ! $ move ! (1 ∷ []) $ use1 W (raw (fact 𝓤 (m ≡ changedOf c l))) (changed-of 𝓤 H A mem run l c m) $ heard ! (m ≡ changedOf c l) (λ e-m. split ! $ drop ! $
@@ -233,12 +228,12 @@ module _ {M : Type 1} (𝓤 : URA M) (H : Heap 𝓤) (A : Atoms 𝓤) (W : Given
         assigns ! (of-opd ! (load ! (from ! (stop !)) (look ! 18 refl))) (from ! (hop ! (look ! 4 refl) (stop !)))
         (store-in ! 0 (unraw ! (elem ! i (table-8 (by-then x) (x .is)) less (sub ! 2 refl (whole !)))) (LL.lawful Lo.the-type Lo′.the-laws 𝓤 H A W .typed m _ is-m .0)) $
         rewrite ! 0 (λ (z : Val). ‵ (fat fullShare (rawTy Po′.mir) b o z)) (stores (by-then x) i m) refl $
-        -- `next_reached`
+        -- `next_marked`
         assigns ! (bin ! (load ! (from ! (stop !)) (look ! 20 refl)) (lit ! tt) (record { fits = next-fits })) (from ! (stop !)) (store ! 14 refl (tt, record { fits = next-fits })) $
-        use0 W (raw (R 𝓤 H A mem run .pre (to-next 𝓤 H A mem run keys c (i + 1)))) (goes-next 𝓤 H A mem run W c is-c keys (i + 1) is-keys next-in) $
-        calls-at-last ! fm (R 𝓤 H A mem run) known-next (to-next 𝓤 H A mem run keys c (i + 1)) (and-then ! (load ! (from ! (stop !)) (look ! 25 refl)) (and-then ! (load ! (from ! (stop !)) (look ! 23 refl)) (and-then ! (load ! (from ! (stop !)) (look ! 15 refl)) (no-more !)))) (λ v.
-        use1 W (later (some (λ (k : ℕ). (‵ ftrue ⊛ ‵ (usize .own k (v ∷ []))) ⊛ raw (ensured 𝓤 H A r.ended (r.clauses 𝓤 H A mem run) tt (keys, (c, (i + 1, tt))) tt k)))) (id⊢ 𝓤 _) $ await ! tt $ pick ! (λ k.
-        split ! $ move ! (1 ∷ []) $ use1 W (raw (fact 𝓤 (NextReached keys c (i + 1) k))) (next-of 𝓤 H A mem run keys c (i + 1) k) $ heard ! (NextReached keys c (i + 1) k) (λ e-k. split ! $ drop ! $
+        use0 W (raw (R 𝓤 H A mem run .pre (to-next 𝓤 H A mem run ms (i + 1)))) (goes-next 𝓤 H A mem run W ms (i + 1) is-ms next-in) $
+        calls-at-last ! fm (R 𝓤 H A mem run) known-next (to-next 𝓤 H A mem run ms (i + 1)) (and-then ! (load ! (from ! (stop !)) (look ! 25 refl)) (and-then ! (load ! (from ! (stop !)) (look ! 15 refl)) (no-more !))) (λ v.
+        use1 W (later (some (λ (k : ℕ). (‵ ftrue ⊛ ‵ (usize .own k (v ∷ []))) ⊛ raw (ensured 𝓤 H A r.ended (r.clauses 𝓤 H A mem run) tt (ms, (i + 1, tt)) tt k)))) (id⊢ 𝓤 _) $ await ! tt $ pick ! (λ k.
+        split ! $ move ! (1 ∷ []) $ use1 W (raw (fact 𝓤 (NextMarked ms (i + 1) k))) (next-of 𝓤 H A mem run ms (i + 1) k) $ heard ! (NextMarked ms (i + 1) k) (λ e-k. split ! $ drop ! $
         peeks ! usize (Is usize) (shows 𝓤 H A usize) k (v ∷ []) (λ is-k. drop ! $
         land-last ! (from ! (stop !)) (store ! 20 refl (uint-lawful 𝓤 H A W w64 .typed k _ is-k .0)) $
         rewrite ! 20 (λ (z : Val). ‵ (fat fullShare word l₄ 0 z)) (ap only (uint-tells w64 k _ is-k)) refl $
@@ -275,35 +270,35 @@ module _ {M : Type 1} (𝓤 : URA M) (H : Heap 𝓤) (A : Atoms 𝓤) (W : Given
 
     starts : Is Po.the-row h (pval h ∷ []) → Sq W (Had (h .logins) (‵ (froom word l₄ 0))) (runs C Λ En mir-of.t-1 (atRet En Post))
     starts was =
-        use0 W (raw (R 𝓤 H A mem run .pre (to-next 𝓤 H A mem run keys c 0))) (goes-next 𝓤 H A mem run W c is-c keys 0 is-keys zero-le) $
-        calls-at ! fm (R 𝓤 H A mem run) known-next (to-next 𝓤 H A mem run keys c 0) (and-then ! (load ! (from ! (stop !)) (look ! 25 refl)) (and-then ! (load ! (from ! (stop !)) (look ! 23 refl)) (and-then ! (lit ! tt) (no-more !)))) (λ v.
-        use1 W (later (some (λ (k : ℕ). (‵ ftrue ⊛ ‵ (usize .own k (v ∷ []))) ⊛ raw (ensured 𝓤 H A r.ended (r.clauses 𝓤 H A mem run) tt (keys, (c, (0, tt))) tt k)))) (id⊢ 𝓤 _) $ await ! tt $ pick ! (λ k.
-        split ! $ move ! (1 ∷ []) $ use1 W (raw (fact 𝓤 (NextReached keys c 0 k))) (next-of 𝓤 H A mem run keys c 0 k) $ heard ! (NextReached keys c 0 k) (λ e-k. split ! $ drop ! $
+        use0 W (raw (R 𝓤 H A mem run .pre (to-next 𝓤 H A mem run ms 0))) (goes-next 𝓤 H A mem run W ms 0 is-ms zero-le) $
+        calls-at ! fm (R 𝓤 H A mem run) known-next (to-next 𝓤 H A mem run ms 0) (and-then ! (load ! (from ! (stop !)) (look ! 25 refl)) (and-then ! (lit ! tt) (no-more !))) (λ v.
+        use1 W (later (some (λ (k : ℕ). (‵ ftrue ⊛ ‵ (usize .own k (v ∷ []))) ⊛ raw (ensured 𝓤 H A r.ended (r.clauses 𝓤 H A mem run) tt (ms, (0, tt)) tt k)))) (id⊢ 𝓤 _) $ await ! tt $ pick ! (λ k.
+        split ! $ move ! (1 ∷ []) $ use1 W (raw (fact 𝓤 (NextMarked ms 0 k))) (next-of 𝓤 H A mem run ms 0 k) $ heard ! (NextMarked ms 0 k) (λ e-k. split ! $ drop ! $
         peeks ! usize (Is usize) (shows 𝓤 H A usize) k (v ∷ []) (λ is-k. drop ! $
         land ! (from ! (stop !)) (init ! 20 refl (uint-lawful 𝓤 H A W w64 .typed k _ is-k .0)) $
         rewrite ! 20 (λ (z : Val). ‵ (fat fullShare word l₄ 0 z)) (ap only (uint-tells w64 k _ is-k)) refl $ looped (starting was k e-k)))))
 
-  walk : (𝓣 : Tables 𝓤 H) → Triple 𝓤 (𝓣 .C #boundary·next-reached) (R 𝓤 H A mem run) → Triple 𝓤 (𝓣 .C #state·changed) (C′ 𝓤 H A mem run)
-      → ent 𝓤 (onEntry 𝓤 H A f.signature (κ, tt) (q, tt) a vals) (WpFn 𝓤 H (𝓣 .C) (𝓣 .Λ) code.function (vptr b o ∷ kval keys ∷ cval c ∷ []) Post)
+  walk : (𝓣 : Tables 𝓤 H) → Triple 𝓤 (𝓣 .C #boundary·next-marked) (R 𝓤 H A mem run) → Triple 𝓤 (𝓣 .C #state·changed) (C′ 𝓤 H A mem run)
+      → ent 𝓤 (onEntry 𝓤 H A f.signature (κ, tt) (q, tt) a vals) (WpFn 𝓤 H (𝓣 .C) (𝓣 .Λ) code.function (vptr b o ∷ mval ms ∷ cval c ∷ []) Post)
   walk 𝓣 known-next known-changed =
-      qed W ((‵ (flft κ q) ⊛ ‵ ftrue) ∷ ‵ (owns (MutRef (named 0) κ Po.the-row ∷ K8 ∷ Ch.the-row ∷ []) a vals) ∷ []) ∵ split ! $ move ! (2 ∷ []) $ fsplit ! $ fsplit3 ! $ drop ! $ move ! (0 ∷ 1 ∷ 3 ∷ []) $
+      qed W ((‵ (flft κ q) ⊛ ‵ ftrue) ∷ ‵ (owns (MutRef (named 0) κ Po.the-row ∷ M8 ∷ Ch.the-row ∷ []) a vals) ∷ []) ∵ split ! $ move ! (2 ∷ []) $ fsplit ! $ fsplit3 ! $ drop ! $ move ! (0 ∷ 1 ∷ 3 ∷ []) $
       -- [obs; the borrow; its token; …]
-      enter ! (𝓣 .C) (𝓣 .Λ) code.function (vptr b o ∷ kval keys ∷ cval c ∷ []) _ $
+      enter ! (𝓣 .C) (𝓣 .Λ) code.function (vptr b o ∷ mval ms ∷ cval c ∷ []) _ $
       alloc1 ! (λ l₀. alloc1 ! (λ l₁. alloc1 ! (λ l₂. alloc1 ! (λ l₃. alloc1 ! (λ l₄. alloc1 ! (λ l₅. alloc1 ! (λ l₆. alloc1 ! (λ l₇. alloc1 ! (λ l₈. alloc1 ! (λ l₉. alloc1 ! (λ l₁₀. alloc1 ! (λ l₁₁. alloc1 ! (λ l₁₂. alloc0 ! $ params1 ! $
-      pass1 ! (init ! 22 refl (tt, tt)) $ pass1 ! (init ! 20 refl (array-lawful 𝓤 H A W Ke.the-row (LL.lawful Ke.the-type Ke′.the-laws 𝓤 H A W) 8 .typed keys _ is-keys .0)) $ pass1 ! (init ! 18 refl (EL.lawful Ch.the-type Ch′.the-laws 𝓤 H A W tt .typed c _ is-c .0)) $ pass0 ! $
+      pass1 ! (init ! 22 refl (tt, tt)) $ pass1 ! (init ! 20 refl (marks-lawful 𝓤 H A W .typed ms _ is-ms .0)) $ pass1 ! (init ! 18 refl (EL.lawful Ch.the-type Ch′.the-laws 𝓤 H A W tt .typed c _ is-c .0)) $ pass0 ! $
       move ! (26 ∷ 27 ∷ 28 ∷ []) $ opens ! tt Po.the-row {h = h} b o (λ vs. spelt ! Po.the-row (Is Po.the-row) (shows 𝓤 H A Po.the-row) (LL.vals Po.the-type Po′.the-laws) (LL.tells Po.the-type Po′.the-laws) fullShare h vs b o $
       move ! (1 ∷ []) $ peeks ! Po.the-row (Is Po.the-row) (shows 𝓤 H A Po.the-row) h (pval h ∷ []) (λ was. drop ! $
       keep ! (0 ∷ 1 ∷ 2 ∷ 3 ∷ 4 ∷ 5 ∷ 6 ∷ 7 ∷ 8 ∷ 9 ∷ 10 ∷ 11 ∷ 12 ∷ 13 ∷ 14 ∷ 15 ∷ 16 ∷ 17 ∷ 18 ∷ 19 ∷ 20 ∷ 21 ∷ 22 ∷ 23 ∷ 24 ∷ 25 ∷ 26 ∷ 27 ∷ 28 ∷ 29 ∷ []) $ starts 𝓣 (fmOf 𝓤 H (W .laws) 𝓣) known-next known-changed l₀ l₁ l₂ l₃ l₄ l₅ l₆ l₇ l₈ l₉ l₁₀ l₁₁ l₁₂ was)))))))))))))))
 
-module _ {M : Type 1} (𝓤 : URA M) (H : Heap 𝓤) (A : Atoms 𝓤) (W : Given 𝓤 H A) (mem : Memory → SProp 𝓤) (run : Routine → Fun 𝓤) (𝓣 : Tables 𝓤 H) (known-next : Triple 𝓤 (𝓣 .C #boundary·next-reached) (R 𝓤 H A mem run)) (known-changed : Triple 𝓤 (𝓣 .C #state·changed) (C′ 𝓤 H A mem run)) where
+module _ {M : Type 1} (𝓤 : URA M) (H : Heap 𝓤) (A : Atoms 𝓤) (W : Given 𝓤 H A) (mem : Memory → SProp 𝓤) (run : Routine → Fun 𝓤) (𝓣 : Tables 𝓤 H) (known-next : Triple 𝓤 (𝓣 .C #boundary·next-marked) (R 𝓤 H A mem run)) (known-changed : Triple 𝓤 (𝓣 .C #state·changed) (C′ 𝓤 H A mem run)) where
   f-walks : Walks 𝓤 H A f.ended stayed (WpFn 𝓤 H (𝓣 .C) (𝓣 .Λ) code.function) (f.clauses 𝓤 H A mem run)
   f-walks = walked 𝓤 H A f.ended stayed (f.clauses 𝓤 H A mem run) (WpFn 𝓤 H (𝓣 .C) (𝓣 .Λ) code.function)
-      (λ κs. (ptr-vals, (array-vals (LL.vals Ke.the-type Ke′.the-laws), (EL.vals Ch.the-type Ch′.the-laws, tt)))) (λ κs. (mut-tells (named 0) (κs .0) Po.the-row, (array-tells Ke.the-row (LL.vals Ke.the-type Ke′.the-laws) (LL.tells Ke.the-type Ke′.the-laws) 8, (EL.tells Ch.the-type Ch′.the-laws, tt))))
+      (λ κs. (ptr-vals, (mvals, (EL.vals Ch.the-type Ch′.the-laws, tt)))) (λ κs. (mut-tells (named 0) (κs .0) Po.the-row, (marks-tell, (EL.tells Ch.the-type Ch′.the-laws, tt))))
       (λ κs qs bounds a g are. via 𝓤 _ (fst∗ 𝓤 _ (emp 𝓤)) (walk 𝓤 H A W mem run (κs .0) (qs .0) (a .0 .ptr .0) (a .0 .ptr .1) (a .0 .name) (a .0 .now) (a .1 .0) (a .1 .1 .0) (are .1 .0) (are .1 .1 .0) 𝓣 known-next known-changed))
 
   f-meets : Meets 𝓤 H A f.signature (WpFn 𝓤 H (𝓣 .C) (𝓣 .Λ) code.function) (f.spec 𝓤 H A mem run)
   f-meets =
-      walk-meets 𝓤 H A f.ended stayed W (goes-ref 𝓤 H A W 1 0 tt (plain (λ _. Po.the-row)), (goes-none 𝓤 H A W 1 (λ _. K8) yes (λ κs x f. refl), (goes-none 𝓤 H A W 1 (λ _. Ch.the-row) yes (λ κs x f. refl), tt))) (f.clauses 𝓤 H A mem run)
+      walk-meets 𝓤 H A f.ended stayed W (goes-ref 𝓤 H A W 1 0 tt (plain (λ _. Po.the-row)), (goes-none 𝓤 H A W 1 (λ _. M8) yes (λ κs x f. refl), (goes-none 𝓤 H A W 1 (λ _. Ch.the-row) yes (λ κs x f. refl), tt))) (f.clauses 𝓤 H A mem run)
       (WpFn 𝓤 H (𝓣 .C) (𝓣 .Λ) code.function) (WpFn-mono 𝓤 H (W .laws) 𝓣 code.function) f-walks
 
 pub reach-spec : {M : Type 1} → stated.statement M
@@ -312,5 +307,5 @@ reach-spec 𝓤 H 𝓜 𝓖 𝓡 =
     entered 𝓤 H (tripleOf 𝓤 H (𝓖 .A) f.signature (f.spec 𝓤 H (𝓖 .A) (𝓜 .mem) (𝓡 .run)))
     (tables 𝓤 H 𝓜 𝓡 code.env .C) (tables 𝓤 H 𝓜 𝓡 code.env .Λ) #boundary·reach code.function (code.unfolded 𝓤 H 𝓜 𝓡)
     (f-meets 𝓤 H (𝓖 .A) (givenOf 𝓤 H 𝓜 𝓖) (𝓜 .mem) (𝓡 .run) (tablesOf 𝓤 H 𝓜 (tables 𝓤 H 𝓜 𝓡 code.env))
-    (cited 𝓤 H (R 𝓤 H (𝓖 .A) (𝓜 .mem) (𝓡 .run)) 𝓜 𝓡 code.env #boundary·next-reached r-def.routine code.calls-boundary·next-reached (r-thm.met 𝓤 H 𝓜 𝓖 𝓡))
+    (cited 𝓤 H (R 𝓤 H (𝓖 .A) (𝓜 .mem) (𝓡 .run)) 𝓜 𝓡 code.env #boundary·next-marked r-def.routine code.calls-boundary·next-marked (r-thm.met 𝓤 H 𝓜 𝓖 𝓡))
     (cited 𝓤 H (C′ 𝓤 H (𝓖 .A) (𝓜 .mem) (𝓡 .run)) 𝓜 𝓡 code.env #state·changed ch-def.routine code.calls-state·changed (ch-thm.met 𝓤 H 𝓜 𝓖 𝓡)))

@@ -210,7 +210,7 @@ module _ {M : Type 1} (𝓤 : URA M) (H : Heap 𝓤) (A : Atoms 𝓤) (W : Given
           let m = getD (h .logins) i noLogin in
           let d = h .address in
           let small : i * 288 < 2 ^ 64 = omega (arith, less) in
-          let small-8 : i * 8 < 2 ^ 64 = omega (arith, less) in
+          let small-16 : i * 16 < 2 ^ 64 = omega (arith, less) in
           let next-fits : i + 1 < 2 ^ 64 = omega (arith, less) in
           let is-m = login-is h was i noLogin less in
           assigns ! (bin ! (load ! (from ! (stop !)) (look ! 32 refl)) (lit ! tt) tt) (from ! (stop !)) (init ! 26 refl (tt, tt)) $
@@ -233,10 +233,10 @@ module _ {M : Type 1} (𝓤 : URA M) (H : Heap 𝓤) (A : Atoms 𝓤) (W : Given
           land ! (from ! (stop !)) (init ! 30 refl (typed-key 𝓤 H A mem run W k u is-u)) $
           rewrite ! 30 (λ (z : Val). ‵ (fat fullShare Ke′.mir l₅ 0 z)) (ap only (LL.tells Ke.the-type Ke′.the-laws k _ is-u)) refl $
           -- it is stored at i
-          assigns ! (bin ! (load ! (from ! (stop !)) (look ! 32 refl)) (lit ! tt) (record { fits = small-8 })) (from ! (stop !)) (store ! 22 refl (tt, record { fits = small-8 })) $
+          assigns ! (bin ! (load ! (from ! (stop !)) (look ! 32 refl)) (lit ! tt) (record { fits = small-16 })) (from ! (stop !)) (store ! 22 refl (tt, record { fits = small-16 })) $
           assigns ! (addr ! (from ! (stop !))) (from ! (stop !)) (init ! 14 refl (tt, tt)) $
           assigns ! (bin ! (load ! (from ! (stop !)) (look ! 14 refl)) (load ! (from ! (stop !)) (look ! 22 refl)) tt) (from ! (stop !)) (init ! 12 refl (tt, tt)) $
-          rewrite ! 12 (λ (z : ℕ). ‵ (fat fullShare tyPtr l₁₄ 0 (vptr l₃ z))) (sym (place-is 8 0 i)) refl $
+          rewrite ! 12 (λ (z : ℕ). ‵ (fat fullShare tyPtr l₁₄ 0 (vptr l₃ z))) (sym (place-is 16 0 i)) refl $
           assigns ! (of-opd ! (load ! (from ! (stop !)) (look ! 30 refl))) (from ! (hop ! (look ! 12 refl) (stop !))) (store-in ! 34 (elem ! i (length-values keyVal (x .ks) ∙ x .good .long) less (whole !)) (typed-key 𝓤 H A mem run W k _ is-k)) $
           rewrite ! 34 (λ (vs : Vals). ‵ (fat fullShare k8 l₃ 0 (vstruct vs))) (set-values keyVal (x .ks) i k) refl $
           assigns-last ! (bin ! (load ! (from ! (stop !)) (look ! 32 refl)) (lit ! tt) (record { fits = next-fits })) (from ! (stop !)) (store ! 32 refl (tt, record { fits = next-fits })) $
@@ -286,7 +286,7 @@ module _ {M : Type 1} (𝓤 : URA M) (H : Heap 𝓤) (A : Atoms 𝓤) (W : Given
 
       starts : Sq W (Had (‵ (froom k8 l₃ 0)) (‵ (froom word l₄ 0)) (‵ (froom Ke′.mir l₆ 0))) (runs C Λ En mir-of.t-1 (atRet En Post))
       starts =
-          assigns ! (agg ! (and-then ! (lit ! tt) (no-more !))) (from ! (stop !)) (init ! 28 refl (typed-key 𝓤 H A mem run W noKey _ is-none)) $
+          assigns ! (agg ! (and-then ! (lit ! tt) (and-then ! (lit ! tt) (no-more !)))) (from ! (stop !)) (init ! 28 refl (typed-key 𝓤 H A mem run W noKey _ is-none)) $
           assigns ! (rep ! 8 (load ! (from ! (stop !)) (look ! 28 refl))) (from ! (stop !)) (init ! 34 refl (typed-keys 𝓤 H A mem run W blank blank-are)) $
           assigns ! (of-opd ! (lit ! tt)) (from ! (stop !)) (init ! 32 refl (tt, record { fits = lit< tt })) $ looped
 

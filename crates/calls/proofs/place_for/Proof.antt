@@ -6,7 +6,7 @@ use Rattle.calls.proofs.place_for.Tie as tie
 
 returns : tie.Need-returns
 unfolding placeFor
-returns c = c .find-either .ensures
+returns c = c .find-any .ensures
 
 pub place-for-spec : {M : Type 1} → statement M
 place-for-spec =

@@ -6,7 +6,7 @@ use Rattle.calls.proofs.seat_of.Tie as tie
 
 returns : tie.Need-returns
 unfolding seatOf
-returns c = c .find-either .ensures
+returns c = c .find-any .ensures
 
 pub seat-of-spec : {M : Type 1} → statement M
 seat-of-spec =

@@ -7,12 +7,13 @@ use Rattle.formed.proofs.login_key.Tie as tie
 
 returns : tie.Need-returns
 unfolding loginKey
-returns c = c .key-of .ensures ∙ rw (c .before .before .login-fine .ensures, c .before .is-free .ensures)
+returns c = c .key-of .ensures ∙ rw (c .before .before .before .before .login-fine .ensures, c .before .before .before .is-free .ensures, c .before .name-number .ensures)
 
 pub login-key-spec : {M : Type 1} → statement M
 login-key-spec =
     tie.close
     (tie.spec
+    (λ c κs. search needs)
     (λ c κs. search needs)
     (λ c κs. search needs)
     (λ c κs. search needs)

@@ -7,21 +7,20 @@ use Rattle.link.proofs.judged.Tie as tie
 
 returns : tie.Need-returns
 unfolding outcomeIn
-returns c = rw (c .why .ensures, sym (c .before .before .before .before .verdict .ensures) ∙ c .before .before .v .given .1)
+returns c = rw (c .why .ensures, c .before .before .v .given .1)
 
 returns-2 : tie.Need-returns-2
 unfolding outcomeIn
-returns-2 c = rw (sym (c .before .before .before .before .before .before .verdict .ensures) ∙ c .before .before .before .before .enum-told .given .1, sym (c .before .before .before .place-for .ensures .is) ∙ c .before .f .given .1)
+returns-2 c = rw (c .before .before .before .before .enum-told .given .1, sym (c .before .before .before .place-for .ensures .is) ∙ c .before .f .given .1)
 
 returns-3 : tie.Need-returns-3
 unfolding outcomeIn
-returns-3 c = rw (sym (c .before .before .before .before .before .verdict .ensures) ∙ c .before .before .before .enum-told .given .1, sym (c .before .before .place-for .ensures .is) ∙ c .enum-told2 .given .1)
+returns-3 c = rw (c .before .before .before .enum-told .given .1, sym (c .before .before .place-for .ensures .is) ∙ c .enum-told2 .given .1)
 
 pub judged-spec : {M : Type 1} → statement M
 judged-spec =
     tie.close
     (tie.spec
-    (λ c κs. search needs)
     (λ c. search needs)
     (λ c κs. search needs)
     (λ c. search needs)

@@ -1,10 +1,10 @@
--- `wire::name_at` meets its contract: byte by byte. Assumes nothing.
+-- `wire::name_at` meets its contract: byte by byte, where all of them are there and where not. Assumes nothing.
 use borrow.Author.Needs.{needs}
 use Rattle.wire.proofs.name_at.Statement.{statement}
 use Rattle.wire.proofs.name_at.Tie as tie
 
-returns : tie.Need-returns
-returns c = cc
+returns-2 : tie.Need-returns-2
+returns-2 c = cc
 
 pub name-at-spec : {M : Type 1} → statement M
 name-at-spec =
@@ -17,6 +17,15 @@ name-at-spec =
     (λ c. search needs)
     (λ c. search needs)
     (λ c. search needs)
+    (λ c. search needs)
+    (λ c. search needs)
+    (λ c. search needs)
+    (λ c. search needs)
+    (λ c. search needs)
+    (λ c. search needs)
+    (λ c. search needs)
+    (λ c. search needs)
+    (λ c. search needs)
     (λ c κs. search needs)
     (λ c κs. search needs)
     (λ c κs. search needs)
@@ -25,4 +34,4 @@ name-at-spec =
     (λ c κs. search needs)
     (λ c κs. search needs)
     (λ c κs. search needs)
-    returns)
+    returns-2)

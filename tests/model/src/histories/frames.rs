@@ -177,6 +177,9 @@ impl History {
             code => code,
         };
         let mut payload = self.link_payload(code, s_id);
+        if self.random.chance(if self.kind == Kind::Calm { 50 } else { 100 }) {
+            self.name_elsewhere(s_id, &mut payload);
+        }
         // in a calm history what ends a login is asked for less often
         let faults = if self.kind == Kind::Calm && matches!(code, 0x50 | 0x52) { 200 } else { 350 };
         if self.random.chance(faults) {

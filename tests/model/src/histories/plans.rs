@@ -87,7 +87,9 @@ impl History {
                 };
                 self.plans.push_back(plan);
             }
-            if self.random.chance(if self.kind == Kind::Calm { 850 } else { 600 }) {
+            if self.random.chance(100) {
+                self.plan_return(a);
+            } else if self.random.chance(if self.kind == Kind::Calm { 850 } else { 600 }) {
                 self.plans.push_back(Plan::Prove(a));
             }
         }
@@ -170,6 +172,9 @@ impl History {
 
     /// A frame tried with each byte, bit or length changed, or a field tried with each value.
     pub(super) fn plan_sweep(&mut self) {
+        if self.random.chance(60) {
+            return self.plan_move_sweep();
+        }
         let s_id = self.commander();
         let code = self.random.pick(&[0x03, 0x05, 0x12, 0x20, 0x20, 0x21, 0x50, 0x52]);
         let ox_id = self.ox_id();
@@ -370,6 +375,7 @@ impl History {
                 Some(self.send(2136, &frame))
             }
             Plan::Event(event) => Some(Call::new(b'E', vec![event])),
+            Plan::Move(from, to) => self.come_back(from, to),
             Plan::Next(a, ox_id) => Some(self.next_call(a, ox_id)),
             Plan::Drain(_, _, 0) | Plan::Exact(_, _, 0) => None,
             Plan::Drain(a, ox_id, left) => {

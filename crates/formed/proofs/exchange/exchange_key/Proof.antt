@@ -7,7 +7,7 @@ use Rattle.formed.proofs.exchange.exchange_key.Tie as tie
 
 returns : tie.Need-returns
 unfolding exchangeKey
-returns c = c .key-of .ensures ∙ rw (c .before .before .before .exchange-fine .ensures, c .before .before .is-closed .ensures)
+returns c = c .key-of .ensures ∙ rw (c .before .before .before .before .exchange-fine .ensures, c .before .before .before .is-closed .ensures)
 
 pub exchange-key-spec : {M : Type 1} → statement M
 exchange-key-spec =
@@ -15,6 +15,8 @@ exchange-key-spec =
     (tie.spec
     (λ c κs. search needs)
     (λ c κs. search needs)
+    (λ c. search needs)
+    (λ c. search needs)
     (λ c. search needs)
     (λ c κs. search needs)
     returns)
