@@ -7,7 +7,7 @@ from sides import Sides, words
 WIDTH, HOST, DRIVE = 860, 190, 670
 MID = (HOST + DRIVE) // 2
 STYLE = """text{font:13px system-ui,-apple-system,"Segoe UI",Helvetica,Arial,sans-serif;fill:#1f2328}
-.note{font-size:12px;fill:#b3261e}.grey{font-size:12px;fill:#59636e}.side{font-weight:600}
+.note{font-size:12px;fill:#b3261e}.grey,.quiet{font-size:12px;fill:#59636e}.side{font-weight:600}
 line,path{stroke:#1f2328;stroke-width:1.3;fill:none}.head{fill:#1f2328}.life{stroke:#8c959f;stroke-width:2}
 .event{stroke:#0b57a4;stroke-width:1.6}.many{stroke-width:3}.bad,.refused{stroke:#b3261e}.refused{stroke-dasharray:6 4}.bad.head{fill:#b3261e}
 .unsure{fill:#fff1cc}.wrong{fill:#fbd9d6}"""
@@ -48,10 +48,10 @@ class Picture:
             self.remark(note)
         return y + 10
 
-    def remark(self, note, x=MID):
+    def remark(self, note, x=MID, kind="note"):
         """A line of its own below what it is about."""
         if note:
-            self.text(x, self.y + 9, note, "note")
+            self.text(x, self.y + 9, note, kind)
             self.y += 14
 
     def event(self, name, both, note):
@@ -64,10 +64,10 @@ class Picture:
         return y + 4
 
     def asked(self, name, note):
-        """A next frame that the port asked for in vain."""
-        self.line(DRIVE - 50, self.y + 12, DRIVE, self.y + 12, "refused")
+        """A next frame that the port asked for in vain: it is refused, or there is none yet."""
+        self.line(DRIVE - 50, self.y + 12, DRIVE, self.y + 12, "refused" if note else "")
         self.text(DRIVE - 58, self.y + 10, name, "", "end")
-        self.text(DRIVE - 58, self.y + 25, note, "note", "end")
+        self.text(DRIVE - 58, self.y + 25, note or "nothing to send: data are awaited", "note" if note else "quiet", "end")
         self.y += 30
         return self.y - 14
 
@@ -96,13 +96,26 @@ class Picture:
         return "\n".join([head, *body, *self.bands, *lives, *self.marks, "</svg>", ""])
 
 
+MANY = "M"  # the letter of many data frames in one step
+
+
+def of_exchange(s):
+    """The data frame that a step is, of either side, and its exchange; or none, where more is to be said of the step."""
+    if s.letter == "N" and s.reply[:1] == b"\x01" and s.untouched and not s.lost:
+        return s.reply, s.body[:6]
+    if s.letter == "D" and s.frame[:1] == b"\x01" and s.untouched and not s.refused and not s.reply:
+        return s.frame, s.frame[5:8] + s.frame[16:18]
+    return b"", None
+
+
 def folded(steps):
     """Of more than four data frames in a row of one exchange, the first and the last are drawn, and the rest as one arrow with their number."""
-    for key, run in groupby(steps, lambda s: s.body[:6] if s.reply[:1] == b"\x01" and s.untouched and not s.lost else None):
+    for key, run in groupby(steps, lambda s: of_exchange(s)[1]):
         run = list(run)
         if key and len(run) > 4:
-            size = sum(len(s.reply) - 24 - s.reply[11] % 4 for s in run[1:-1])
-            run[1:-1] = [run[1]._replace(reply=b"", name="%d more FCP_DATA, %d bytes" % (len(run) - 2, size))]
+            frames = [of_exchange(s)[0] for s in run[1:-1]]
+            size = sum(len(f) - 24 - f[11] % 4 for f in frames)
+            run[1:-1] = [run[1]._replace(letter=MANY, reply=b"", stored="", name="%d more FCP_DATA, %d bytes" % (len(frames), size))]
         yield from run
 
 
@@ -112,13 +125,16 @@ def step(p, s, allowed, moved, meaning, refusal):
     p.y += 0 if s.letter == "N" and s.reply else 5
     if s.letter in "SE":
         y = p.event("setup: " + s.name if s.letter == "S" else s.name, s.name == "loop reset", note)
+    elif s.letter == MANY:
+        y = p.arrow(bool(s.frame), p.of(s.frame[7] if s.frame else s.body[3], s.name), "", "many")
     elif s.letter == "N" and not s.reply:
-        y = p.asked("the port asks for " + s.name, note) if s.refused else p.arrow(False, p.of(s.body[3], s.name), "", "many")
-    elif s.letter in "FL":
+        y = p.asked("the port asks for " + s.name, note)
+    elif s.letter in "FDL":
         notes = ["lost"] if s.letter == "L" else [note] if note else []
         notes += ([] if allowed else ["against the host's rules"]) + ([moved] if moved else [])
         name = p.of(s.frame[7], s.name) if len(s.frame) >= 24 else s.name
         y = p.arrow(True, name, "; ".join(notes), "lost" if s.letter == "L" else "refused" if note else "")
+        p.remark(s.stored, kind="quiet")
     taken = y if s.letter != "N" else p.y
     if s.reply:
         y = p.arrow(False, p.of(s.reply[3], meaning(s.reply)), "lost" if s.lost else "", "lost" if s.lost else "")

@@ -1,8 +1,8 @@
 """What each host of a session believes, and the drive's record of it, step by step.
 
 A belief is document 01's ("01") "The host's rules" over what the host sent and what came back to it. The record is not printed by recorder: it is what 01,
-and request 1 of document 02, make of the drive's own answers, of those that the loop lost too. tests/show holds it to the tables that the program vectors
-prints.
+and requests 1 and 2 of document 02, make of the drive's own answers, of those that the loop lost too. tests/show holds it to the tables that the program
+vectors prints.
 """
 from collections import namedtuple
 
@@ -35,9 +35,9 @@ def after(kind, f, answer, state):
 
 
 def believed(kind, f, heard, before):
-    """01: "a lost request or answer means unsure, and a frame the drive refuses counts as lost"; after a command or ABTS silence says nothing."""
+    """01: "a lost request or answer means unsure, and a frame the drive refuses counts as lost"; after a command, its data or ABTS silence says nothing."""
     if not heard:
-        return before if kind in ("command", "ABTS") else UNSURE
+        return before if kind in ("command", "data", "ABTS") else UNSURE
     return after(kind, f, heard, before)
 
 
@@ -49,14 +49,14 @@ def recorded(kind, f, answer, before):
 
 
 def allowed(kind, f, before):
-    """01: "Unsure or out sends PLOGI, LOGO only; in adds PRLI, PDISC, ADISC; paired adds PRLO, commands, ABTS, RRQ but not PRLI"."""
+    """01: "Unsure or out sends PLOGI, LOGO only; in adds PRLI, PDISC, ADISC; paired adds PRLO, commands, ABTS, RRQ but not PRLI"; 02, 2: "data frames"."""
     if len(f) - 24 != SIZES.get(kind, len(f) - 24) or kind == "LOGO" and f[29:32] != f[5:8]:
         return False  # "of right form, code and size, a LOGO with its own address"
     if kind in ("PLOGI", "LOGO") or not isinstance(before, Held):
         return kind in ("PLOGI", "LOGO")
     if kind in ("PDISC", "ADISC"):
         return kind == "ADISC" or kept(f) == before.kept  # "PDISC repeats the login's parameters"
-    return before.proven and kind in (("PRLO", "RRQ", "command", "ABTS") if before.paired else ("PRLI",))
+    return before.proven and kind in (("PRLO", "RRQ", "command", "data", "ABTS") if before.paired else ("PRLI",))
 
 
 def doubted(states):
@@ -86,7 +86,7 @@ class Sides:
         if s.letter in "SE":
             self.event(s)
         host = self.host(s)
-        kind = None if host is None else {0x22: s.name, 0x06: "command", 0x81: "ABTS"}.get(s.frame[0])
+        kind = None if host is None else {0x22: s.name, 0x06: "command", 0x01: "data", 0x81: "ABTS"}.get(s.frame[0])
         if not kind:
             return True
         before, answer = self.beliefs.get(host, UNSURE), meaning(s.reply) if s.reply else ""

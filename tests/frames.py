@@ -1,4 +1,4 @@
-"""Frames to the drive, and the replies that document 01 ("01") asks for, each put together by hand.
+"""Frames to the drive, and the replies that document 01 ("01") or a request of document 02 ("02, 2") asks for, each put together by hand.
 
 The sentence of 01 stands beside each; 003 has the header's layout, 000 and 004 those of the payloads.
 """
@@ -143,6 +143,11 @@ def data(f, number, offset, payload, last):
     h[14:16] = (number % 65536).to_bytes(2, "big")
     h[20:24] = offset.to_bytes(4, "big")
     return bytes(h) + payload + bytes(fill)
+
+
+def xfer_rdy(f, offset, burst):
+    """02, 2: "FCP_XFER_RDY (R_CTL 05h, F_CTL 890000, 12 bytes: offset, burst, zero)"; TYPE is 08h, "the rest 0", and twelve bytes take no fill."""
+    return head("05", sender(f), "08", "890000", 0x00, ox_of(f)) + offset.to_bytes(4, "big") + burst.to_bytes(4, "big") + bytes(4)
 
 
 # the unit
@@ -311,3 +316,31 @@ def write(address, count):
 
 def test_unit(host, ox_id=0x0A00, **changes):
     return cmnd(host, ox_id, TEST_UNIT_READY, bits=0x00, **changes)
+
+
+# the data of a WRITE
+
+
+def news(offset, size):
+    """What a host writes, from this byte of its command on: every four bytes have their own place, and D1h, which no block of a small number has there."""
+    first = offset // 4
+    whole = b"".join(b"\xD1" + (n % 2 ** 24).to_bytes(3, "big") for n in range(first, (offset + size) // 4 + 1))
+    return whole[offset - 4 * first:][:size]
+
+
+def sent(f, offset, content, last=True, fill=None, number=0):
+    """An FCP_DATA of the host to the command f, from this byte of it on (02, 2): "(01h, 08h), with any SEQ_CNT and a fill count within its payload".
+
+    Bytes of the fill are EEh, so that none can be taken for data unseen; F_CTL has relative offset present and, of the last frame of a
+    sequence, its end and the initiative (FC-PH), which the drive does not look at.
+    """
+    fill = -len(content) % 4 if fill is None else fill
+    h = bytearray(frame(sender(f), ox_of(f), b"", r_ctl=0x01, kind=0x08, seq_id=0x01, offset=offset))
+    h[9:12] = bytes.fromhex("09000%X" % (8 + fill) if last else "00000%X" % (8 + fill))
+    h[14:16] = number.to_bytes(2, "big")
+    return bytes(h) + content + b"\xEE" * fill
+
+
+def wcmnd(host, ox_id, address, count, dl=None, bits=0x01, **changes):
+    """A WRITE(10), by default with the write bit (02, 2: "test 8 asks the write bit for a write") and FCP_DL as much as it wants."""
+    return cmnd(host, ox_id, write(address, count), 512 * count if dl is None else dl, bits=bits, **changes)

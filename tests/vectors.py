@@ -1,5 +1,5 @@
 #!/usr/bin/env python3
-"""The vectors of the drive's entries: frames in and next frames out, and the answer and the table of logins that document 01 asks for after each.
+"""The vectors of the drive's entries: frames in and next frames out, and the answer, the window and the table of logins that document 01 asks for after each.
 
 Usage: tests/vectors.py stdin | stdout
 
@@ -10,7 +10,7 @@ import sys
 
 sys.dont_write_bytecode = True
 from frames import *  # noqa: E402, F403
-from session import LOOP_RESET, POWER_ON, ROOM, TIME_OVER, asking, record, setup  # noqa: E402
+from session import LOOP_RESET, POWER_ON, ROOM, TIME_OVER, asking, lending, record, setup  # noqa: E402
 
 # the lines
 
@@ -44,9 +44,9 @@ def refuses(name, number, letter, body, after):
     line(name, letter, body, "refused %d %s" % (number, table(after)))
 
 
-def fresh(after="", capacity=CAPACITY, **changes):
+def fresh(after="", capacity=CAPACITY, writable=0, **changes):
     """A drive without logins; then each host named logs in."""
-    line("setup", "S", setup(capacity), "- " + table(""))
+    line("setup", "S", setup(capacity, writable=writable), "- " + table(""))
     so_far = ""
     for host in bytes.fromhex(after):
         so_far += " %02Xp29" % host  # "proven, unpaired, attention 29h"
@@ -71,9 +71,9 @@ def shows(name, place, standing, exchanges):
     line(name, "e", bytes([place]), standing + " " + table(exchanges))
 
 
-def exchange(ox_id, sends, wanted, dl, start=0, count=0, sent=0, frames=0):
-    """An exchange: OX_ID, what it sends, a READ's first block and count, wanted, FCP_DL, bytes sent, and frames sent modulo 65,536."""
-    return "%04X=%s,%d,%d,%d,%d,%d,%d" % (ox_id, sends, start, count, wanted, dl, sent, frames)
+def exchange(ox_id, sends, wanted, dl, start=0, count=0, bytes_sent=0, frames=0):
+    """An exchange: OX_ID, what it sends, a READ's or WRITE's first block and count, wanted, FCP_DL, bytes sent, and frames sent modulo 65,536."""
+    return "%04X=%s,%d,%d,%d,%d,%d,%d" % (ox_id, sends, start, count, wanted, dl, bytes_sent, frames)
 
 
 def a_linux_host():
@@ -977,13 +977,261 @@ def changed(f, at, value):
     return f[:at] + bytes([value]) + f[at + 1:]
 
 
+# writing: 02, 2
+
+
+def lends(name, f, start, window, stored, after, reply=nothing):
+    """A frame with a window that begins at a block: the reply to it, every byte of the window after it, and the table."""
+    line(name, "D", lending(f, start, window), " ".join(text for text in (reply(f).hex().upper() or "-", stored.hex().upper(), table(after)) if text))
+
+
+def lends_in_vain(name, number, f, start, window, after):
+    """It is refused, and "changes no lent byte"."""
+    line(name, "D", lending(f, start, window), " ".join(text for text in ("refused %d" % number, window.hex().upper(), table(after)) if text))
+
+
+def writes_to(f, awaited, bytes_sent=0):
+    """The exchange that the WRITE f opened: 02, 2: "The exchange record gains a direction"; of the drive's data frames none is sent."""
+    address, count, dl = (int.from_bytes(f[a:b], "big") for a, b in ((38, 42), (43, 45), (52, 56)))
+    return exchange(ox_of(f), "WRITE", 512 * count, dl, address, count, bytes_sent) + ",from-host" + ",awaited" * awaited
+
+
+def asked_for(name, f, after, offset, burst):
+    """FCP_XFER_RDY; "nothing while data is awaited", and then nothing changes."""
+    gives(name + "-ready", f, xfer_rdy(f, offset, burst), after)
+    shows(name + "-ready-open", 0, "01P", writes_to(f, True, offset))
+    line(name + "-awaited", "N", asking(sender(f), ox_of(f)), "- " + table(after))
+    shows(name + "-awaited-open", 0, "01P", writes_to(f, True, offset))
+
+
+def takes(name, f, offset, size, after, awaited, behind=0, **changes):
+    """A data frame that is taken, in a window that begins with the block of its first byte and has this many bytes behind it: only its own change."""
+    start, before = int.from_bytes(f[38:42], "big") + offset // 512, offset % 512
+    lent = unit(start, before + size + behind)
+    lends(name, sent(f, offset, news(offset, size), **changes), start, lent, lent[:before] + news(offset, size) + lent[before + size:], after)
+    shows(name + "-open", 0, "01P", writes_to(f, awaited, offset + size))
+
+
+def writes(name, ox_id, address, count, dl, response, sizes, behind=0):
+    """A WRITE of host 01, of at most a burst, with data frames of these sizes, to its FCP_RSP."""
+    f = wcmnd(0x01, ox_id, address, count, dl)
+    opened, total = "01P:%04X" % ox_id, min(512 * count, dl)  # to take: the smaller of wanted and FCP_DL
+    answers(name, f, nothing, opened)
+    shows(name + "-opened", 0, "01P", writes_to(f, False))
+    asked_for(name, f, opened, 0, total)
+    offset = 0
+    for number, size in enumerate(sizes):
+        takes("%s-%d" % (name, number), f, offset, size, opened, offset + size < total, behind, number=number)
+        offset += size
+    ends(name, f, response, "01P")
+    lends_in_vain(name + "-over", 11, sent(f, offset, b""), address, unit(address, 4), "01P")
+
+
+def writing():
+    """WRITEs through to FCP_RSP, with 01's known numbers; fill bytes are none of the data, and a frame may end anywhere."""
+    ready("01", writable=1)
+    writes("write", 0x0101, 40, 2, 1024, good(), (1024,))
+    writes("write-frames", 0x0102, 3, 9, 4608, good(), (2048, 2112, 448))
+    writes("write-odd", 0x0103, 99, 1, 512, good(), (1, 2, 0, 3, 505, 1), behind=7)
+    writes("write-dl-1000", 0x0104, 98, 2, 1000, over(24), (1000,), behind=24)  # the last 24 bytes of the second block stay
+    writes("write-dl-1001", 0x0105, 98, 2, 1001, over(23), (1001,), behind=23)
+    writes("write-dl-2048", 0x0106, 98, 2, 2048, under(1024), (1024,))
+    writes("write-dl-1", 0x0107, 0, 1, 1, over(511), (1,), behind=511)
+    f = wcmnd(0x01, 0x0108, 50, 2)
+    answers("write-counted", f, nothing, "01P:0108")
+    asked_for("write-counted", f, "01P:0108", 0, 1024)
+    takes("write-counted-0", f, 0, 512, "01P:0108", True, last=True, number=0xFFFF)  # "any SEQ_CNT"; a sequence that stops short of the burst is no fault
+    takes("write-counted-1", f, 512, 512, "01P:0108", False, last=False, number=0x1234)
+    ends("write-counted", f, good(), "01P")
+
+
+def write_far():
+    """"block 8,388,608 is byte 4,294,967,296": a window from block 0 on does not hold it."""
+    ready("01", 8388609, writable=1)
+    f = wcmnd(0x01, 0x0101, 8388608, 1)
+    answers("write-far", f, nothing, "01P:0101")
+    asked_for("write-far", f, "01P:0101", 0, 512)
+    for name, start in (("zero", 0), ("before", 8388607), ("after", 8388609), ("doubled", 16777216), ("wrapped", 2 ** 55 + 8388608)):
+        lends_in_vain("write-far-" + name, 10, sent(f, 0, news(0, 512)), start, bytes(512), "01P:0101")
+    takes("write-far-data", f, 0, 512, "01P:0101", False)
+    ends("write-far", f, good(), "01P")
+    writes("write-across", 0x0102, 8388607, 2, 1024, good(), (1024,))
+    writes("write-across-odd", 0x0103, 8388607, 2, 1024, good(), (500, 24, 500))
+
+
+def write_tests():
+    """"read-only units still give 07/27/00 at test 5, tests 6 and 7 treat WRITE(10) as READ(10), and test 8 asks the write bit for a write"."""
+    ready("01", writable=1)
+    f = wcmnd(0x01, 0x0101, 0, 1)
+    for name, cdb in (("byte-1", "2A010000000000000100"), ("byte-1-all", "2AFF0000000000000100"), ("outside", "2A010000006400000100"), ("nothing", "2A010000000000000000")):
+        for bits in (0x00, 0x01):
+            answers("write-field-%s-%d" % (name, bits), cmnd(0x01, 0x0101, cdb, 512, bits=bits), check("05/24/00", 512), "01P")
+    for address, count in ((99, 2), (100, 0), (100, 1), (0, 101), (4294967295, 1), (4294967295, 101)):
+        for bits in (0x00, 0x01):
+            answers("write-outside-%d-%d" % (address, count), wcmnd(0x01, 0x0101, address, count, 512, bits), check("05/21/00", 512), "01P")
+    for bits in (0x00, 0x02, 0xFC, 0xFE):  # without the write bit, and "the read bit does not help"
+        for dl in (1, 512, HIGHEST):
+            answers("no-write-bit-%02X" % bits, wcmnd(0x01, 0x0101, 99, 1, dl, bits), code("02"), "01P")
+        answers("no-write-bit-%02X-dl-0" % bits, wcmnd(0x01, 0x0101, 99, 1, 0, bits), over(512), "01P")  # nothing to take needs no bit
+        answers("no-write-bit-%02X-no-block" % bits, wcmnd(0x01, 0x0101, 99, 0, 512, bits), under(512), "01P")
+    answers("write-both-bits", wcmnd(0x01, 0x0101, 99, 1, 512, 0x03), code("02"), "01P")
+    answers("read-with-write-bit", cmnd(0x01, 0x0101, read(99, 1), 512, bits=0x01), code("02"), "01P")
+    answers("write-no-block", wcmnd(0x01, 0x0101, 99, 0), good(), "01P")
+    answers("write-no-byte", wcmnd(0x01, 0x0101, 98, 2, 0), over(1024), "01P")  # no exchange opens, and nothing is written
+    lends_in_vain("write-no-byte-data", 11, sent(f, 0, news(0, 4)), 0, unit(0, 4), "01P")
+    answers("unnamed-write", cmnd(0x01, 0x8101, "2AFE00000063FF0001" + "FF" * 7, 36, bits=0xFD, byte_8=0xFF, attribute=0xFF), nothing, "01P:8101")
+    shows("unnamed-write-open", 0, "01P", writes_to(wcmnd(0x01, 0x8101, 99, 1, 36), False))
+    ready("01", HIGHEST, writable=1)
+    answers("write-most", wcmnd(0x01, 0x0101, 4294901760, 65535, HIGHEST), nothing, "01P:0101")
+    shows("write-most-open", 0, "01P", writes_to(wcmnd(0x01, 0x0101, 4294901760, 65535, HIGHEST), False))
+    asked_for("write-most", wcmnd(0x01, 0x0101, 4294901760, 65535, HIGHEST), "01P:0101", 0, 65536)
+    ready("01")
+    for bits in (0x00, 0x01, 0x02):
+        answers("write-read-only-%d" % bits, wcmnd(0x01, 0x0101, 0, 1, bits=bits), check("07/27/00", 512), "01P")
+    lends_in_vain("write-read-only-data", 11, sent(f, 0, news(0, 4)), 0, unit(0, 4), "01P")
+
+
+def write_room():
+    """Test 9 counts bytes to take likewise: "eight open, status 28h"; and what ends a WRITE, after which its data are for none."""
+    ready("0102", writable=1)
+    open_ones = [wcmnd(0x01, 0x0101 + n, n, 1) for n in range(8)]
+    eight = "01P"
+    for f in open_ones:
+        eight += ":%04X" % ox_of(f)
+        answers("write-eight", f, nothing, eight + " 02P")
+    for dl in (1, 512, HIGHEST):
+        answers("write-ninth-dl-%d" % dl, wcmnd(0x01, 0x0109, 8, 1, dl), eight_open(dl), eight + " 02P")
+    answers("write-ninth-dl-0", wcmnd(0x01, 0x0109, 8, 1, 0), over(512), eight + " 02P")
+    answers("write-ninth-no-bit", wcmnd(0x01, 0x0109, 8, 1, bits=0x00), code("02"), eight + " 02P")  # before test 9
+    answers("write-ninth-other", wcmnd(0x02, 0x0101, 8, 1), nothing, eight + " 02P:0101")
+    answers("write-rrq", rrq(0x01, 0x0108), rjt("03,17"), eight + " 02P:0101")
+    gives("write-overlap-ready", open_ones[2], xfer_rdy(open_ones[2], 0, 512), eight + " 02P:0101")
+    answers("write-overlap", open_ones[2], check("0B/4E/00", 512), "01P:0101:0102:0104:0105:0106:0107:0108 02P:0101")  # test 1 on an open WRITE ends it
+    lends_in_vain("write-overlap-data", 11, sent(open_ones[2], 0, news(0, 4)), 2, unit(2, 4), "01P:0101:0102:0104:0105:0106:0107:0108 02P:0101")
+    answers("write-abts", abts(0x01, 0x0101), ba_acc, "01P:0102:0104:0105:0106:0107:0108 02P:0101")
+    lends_in_vain("write-abts-data", 11, sent(open_ones[0], 0, news(0, 4)), 0, unit(0, 4), "01P:0102:0104:0105:0106:0107:0108 02P:0101")
+    answers("write-abort-task-set", task(0x01, 0x02), code("00"), "01P 02P:0101")
+    answers("write-clear-task-set", task(0x01, 0x04), code("00"), "01P 02P2F")  # it lost a WRITE
+    lends_in_vain("write-cleared", 11, sent(wcmnd(0x02, 0x0101, 8, 1), 0, news(0, 4)), 8, unit(8, 4), "01P 02P2F")
+    answers("write-attention", wcmnd(0x02, 0x0101, 8, 1), check("06/2F/00", 512), "01P 02P")
+    answers("write-after-attention", wcmnd(0x02, 0x0101, 8, 1), nothing, "01P 02P:0101")
+    event("reset", LOOP_RESET, "01U 02U:0101")
+    event("verification-over", TIME_OVER, "")
+    lends_in_vain("write-over-data", 11, sent(wcmnd(0x02, 0x0101, 8, 1), 0, news(0, 4)), 8, unit(8, 4), "")
+
+
+def opened_write(ox_id, awaited=True, before=0):
+    """A WRITE of one block from 20 on, of which these bytes came; none are awaited before FCP_XFER_RDY."""
+    f = wcmnd(0x01, ox_id, 20, 1)
+    after = "01P:%04X" % ox_id
+    answers("fault-open-%04X" % ox_id, f, nothing, after)
+    if awaited:
+        gives("fault-ready-%04X" % ox_id, f, xfer_rdy(f, 0, 512), after)
+    if before:
+        takes("fault-first-%04X" % ox_id, f, 0, before, after, before < 512)
+    return f
+
+
+def write_faults():
+    """"A data frame at another offset than the next is answered at once with RSP_CODE 03, else past the burst with 01, and ends the exchange"."""
+    ready("01", writable=1)
+    cases = (("early", False, 0, 0, 4, "01"), ("early-offset", False, 0, 4, 4, "03"), ("early-empty", False, 0, 4, 0, "03"),
+             ("past-by-1", True, 0, 0, 513, "01"), ("past-by-4", True, 0, 0, 516, "01"), ("past-most", True, 0, 0, 2112, "01"),  # 513 has three fill bytes
+             ("offset", True, 0, 4, 4, "03"), ("offset-and-past", True, 0, 4, 512, "03"), ("offset-empty", True, 0, 512, 0, "03"), ("offset-most", True, 0, HIGHEST, 1, "03"),
+             ("again", True, 256, 0, 256, "03"), ("ahead", True, 256, 260, 4, "03"), ("second-past", True, 256, 256, 257, "01"),
+             ("after-all", True, 512, 512, 1, "01"), ("after-all-again", True, 512, 0, 512, "03"))
+    for n, (name, awaited, before, offset, size, number) in enumerate(cases):
+        for m, (where, start, window) in enumerate((("", 20, unit(20, 512)), ("-no-window", 0, b""))):  # a fault looks at no window and changes no byte
+            f = opened_write(0x0101 + 2 * n + m, awaited, before)
+            lends("fault-" + name + where, sent(f, offset, news(offset, size)), start, window, window, "01P", code(number))
+            refuses("fault-%s%s-gone" % (name, where), 9, "N", asking(0x01, ox_of(f)), "01P")
+            lends_in_vain("fault-%s%s-over" % (name, where), 11, sent(f, 0, b""), 20, b"", "01P")
+
+
+def empty_data():
+    """A data frame of 0 bytes at the right offset is taken, also while none is awaited, in a window that holds the place where it would begin."""
+    ready("01", writable=1)
+    f = opened_write(0x0101, awaited=False)
+    for name, start, window in (("", 20, unit(20, 4)), ("-none", 20, b""), ("-end", 19, unit(19, 512))):
+        lends("empty" + name, sent(f, 0, b""), start, window, window, "01P:0101")
+    for name, start, window in (("-zero", 0, unit(20, 4)), ("-after", 21, unit(21, 4)), ("-before", 19, unit(19, 511))):
+        lends_in_vain("empty" + name, 10, sent(f, 0, b""), start, window, "01P:0101")
+    shows("empty-open", 0, "01P", writes_to(f, False))
+    asked_for("empty", f, "01P:0101", 0, 512)
+    takes("empty-awaited", f, 0, 0, "01P:0101", True)
+    takes("empty-first", f, 0, 511, "01P:0101", True, behind=1)
+    takes("empty-second", f, 511, 0, "01P:0101", True, behind=1)
+    takes("empty-last", f, 511, 1, "01P:0101", False)
+    takes("empty-over", f, 512, 0, "01P:0101", False)
+    ends("empty", f, good(), "01P")
+
+
+def write_refusals():
+    """"11, data frame for no open write, after 7; then 10 for its window": each leaves the exchange and the window as they were."""
+    ready("0102", writable=1)
+    f, g, lent = wcmnd(0x01, 0x0101, 20, 1), cmnd(0x01, 0x0102, read(20, 1), 512), unit(20, 512)
+    both = "01P:0101:0102 02P"
+    answers("write-refused", f, nothing, "01P:0101 02P")
+    answers("write-refused-read", g, nothing, both)
+    gives("write-refused-ready", f, xfer_rdy(f, 0, 512), both)
+    first = sent(f, 0, news(0, 64), last=False)
+    for size in (0, 20, 23, 86, 2140):
+        lends_in_vain("write-frame-of-%d" % size, 3, first.ljust(size, b"\x00")[:size], 20, lent, both)
+    lends_in_vain("write-to-another", 4, changed(changed(first, 3, 0xE8), 7, 0x03), 20, lent, both)
+    lends_in_vain("write-from-us", 5, changed(changed(first, 7, 0xEF), 13, 0x01), 20, lent, both)
+    for name, at, value in (("type", 8, 0x01), ("df-ctl", 13, 0x01)):
+        lends_in_vain("write-form-" + name, 6, changed(first, at, value), 20, lent, both)
+    for fill in (1, 2, 3):  # "a fill count within its payload"
+        lends_in_vain("write-form-fill-%d" % fill, 6, changed(sent(f, 0, b""), 11, 0x08 + fill), 20, lent, both)
+    for name, h in (("read", g), ("ox-id", wcmnd(0x01, 0x0103, 20, 1)), ("other-login", wcmnd(0x02, 0x0101, 20, 1)), ("no-login", wcmnd(0x04, 0x0101, 20, 1))):
+        lends_in_vain("write-none-" + name, 11, sent(h, 0, news(0, 64)), 20, lent, both)
+        lends_in_vain("write-none-%s-window" % name, 11, sent(h, 4, news(0, 64)), 0, b"", both)  # before its offset and its window
+        refuses("write-none-%s-frame" % name, 11, "F", framed(sent(h, 0, news(0, 64))), both)
+    for name, start, size in (("before", 19, 512 + 63), ("after", 21, 512), ("short", 20, 63), ("none", 20, 0), ("zero", 0, 512), ("most", 2 ** 64 - 1, 512),
+                              ("wrapped", 2 ** 55 + 20, 512)):  # 512 times 2 to the 55th is 0 in 64 bits
+        lends_in_vain("write-window-" + name, 10, first, start, bytes(size), both)
+    refuses("write-window-of-frame", 10, "F", framed(first), both)
+    shows("write-refused-open", 0, "01P", writes_to(f, True) + " " + exchange(0x0102, "READ", 512, 512, 20, 1))
+    event("reset", LOOP_RESET, "01U:0101:0102 02U")
+    for name, h, start, window in (("", f, 20, lent), ("-window", f, 0, b""), ("-read", g, 20, lent)):  # before 11, a fault and 10
+        lends_in_vain("write-unproven" + name, 7, sent(h, 4, news(0, 64)), start, window, "01U:0101:0102 02U")
+    refuses("write-unproven-next", 7, "N", asking(0x01, 0x0101), "01U:0101:0102 02U")
+    answers("pdisc", pdisc(0x01), login_acc, both.replace("02P", "02U"))
+    lends("write-proven", first, 20, unit(20, 100), news(0, 64) + unit(20, 100)[64:], both.replace("02P", "02U"))
+    shows("write-proven-open", 0, "01P", writes_to(f, True, 64) + " " + exchange(0x0102, "READ", 512, 512, 20, 1))
+
+
+def windows_of_others():
+    """With another frame than data the window "is not looked at": the usual answers, and every byte as it was."""
+    fresh()
+    lent = unit(7, 20)
+    for name, f, reply, after in (("plogi", login(0x01), login_acc, "01p29"), ("prli", prli(0x01), prli_acc, "01P29"), ("command", test_unit(0x01), check("06/29/00"), "01P"),
+                                  ("read", cmnd(0x01, 0x0101, read(7, 1), 512), nothing, "01P:0101"), ("abts", abts(0x01, 0x0101), ba_acc, "01P"),
+                                  ("answer", frame(0x01, 0x0101, b"", r_ctl=0x23), nothing, "01P"), ("logo", logo(0x01), acc, "")):
+        lends("window-" + name, f, 2 ** 64 - 1, lent, lent, after, reply)
+
+
+def long_windows():
+    """"a window: .. at most 65,536 bytes": 10 where it is longer, unless a fault ends the exchange. No part of the stored lines: each has its window."""
+    ready("01", 1000, writable=1)
+    for n, (name, offset, number) in enumerate((("offset", 4, "03"), ("past", 0, "01"))):
+        f = opened_write(0x0101 + n)
+        lends("long-fault-" + name, sent(f, offset, news(offset, 513)), 0, unit(0, 65537), unit(0, 65537), "01P", code(number))
+    f = opened_write(0x0103)
+    lends_in_vain("long-window", 10, sent(f, 0, news(0, 64)), 0, unit(0, 65537), "01P:0103")
+    refuses("long-window-next", 10, "N", asking(0x01, 0x0103, 0, bytes(65537)), "01P:0103")
+    lends("long-other", test_unit(0x01), 0, unit(0, 65537), unit(0, 65537), "01P:0103", good())
+    lends("long-just", sent(f, 0, news(0, 64)), 0, unit(0, 65536), unit(0, 20 * 512) + news(0, 64) + unit(0, 65536)[20 * 512 + 64:], "01P:0103")
+
+
 def no_drive_yet():
     """"2 | state not well formed": the program starts with a drive that is all zeros."""
     passes(0x01, 0x0101, 1)
     for name, letter, body in (("frame", "F", framed(login(0x01))), ("frame-size", "F", framed(b"")), ("next", "N", asking(0x01, 0x0101)),
-                               ("next-many", "N", asking(0x01, 0x0101)), ("reset", "E", bytes([LOOP_RESET])),
+                               ("next-many", "N", asking(0x01, 0x0101)), ("reset", "E", bytes([LOOP_RESET])), ("window", "D", lending(login(0x01))),
                                ("verification-over", "E", bytes([TIME_OVER])), ("power-on", "E", bytes([POWER_ON]))):
         refuses("no-drive-" + name, 2, letter, body, "")
+    lends_in_vain("no-drive-data", 2, sent(wcmnd(0x01, 0x0101, 0, 1), 0, news(0, 4)), 0, unit(0, 4), "")
     refuses("no-drive-setup", 8, "S", setup(0), "")
     refuses("no-drive-still", 2, "F", framed(login(0x01)), "")
 
@@ -993,7 +1241,7 @@ def refusals():
     ready("01")
     w20 = WORDS[:77] + b"\x02" + WORDS[78:]  # W20/B1 is byte 81 of the payload; "with W20/B1 = 01h"
     for name, body in (("capacity-0", setup(0)), ("capacity-33-bits", setup(2 ** 32)), ("address", setup(address=0x0000F0)),
-                       ("words", setup(words=w20))):
+                       ("words", setup(words=w20)), ("writable-2", setup(writable=2)), ("writable-FF", setup(writable=0xFF))):
         refuses("setup-" + name, 8, "S", body, "01P")
     f = test_unit(0x01)
     for size in (0, 20, 23, 25, 26, 2134):  # "frame not 24 to 2,136 bytes, or not a multiple of 4"
@@ -1016,7 +1264,8 @@ for part in (no_drive_yet, a_linux_host, other_codes_and_sizes, no_login, plogi_
              moved_whatever_it_holds, names_apart, verified, other_names, pairing, logo_and_rrq, aborts, headers, unnamed,
              no_paired_login, response_codes, target_reset, clear_task_set, abort_task_set, overlapped,
              other_units, attentions, codes_and_writes, fields, edges, no_read_bit, room, wanted, unnamed_of_commands,
-             refusals, reading, far, going_round, made_data, next_refusals):
+             refusals, reading, far, going_round, made_data, next_refusals,
+             writing, write_far, write_tests, write_room, write_faults, empty_data, write_refusals, windows_of_others):
     part()
 
 STDIN, STDOUT = b"".join(given), "".join(text + "\n" for text in lines).encode()

@@ -12,13 +12,15 @@ struct field {
 
 static const struct field exchange_fields[] = {FIELD(exchange, start, 0, 8),     FIELD(exchange, blocks, 8, 4), FIELD(exchange, wanted, 12, 4),
                                                FIELD(exchange, expected, 16, 4), FIELD(exchange, sent, 20, 4),  FIELD(exchange, ox_id, 24, 2),
-                                               FIELD(exchange, count, 26, 2),    FIELD(exchange, kind, 28, 4)};
+                                               FIELD(exchange, count, 26, 2),    FIELD(exchange, kind, 28, 2),  FIELD(exchange, direction, 30, 1),
+                                               FIELD(exchange, awaited, 31, 1)};
 static const struct field login_fields[] = {FIELD(login, used, 0, 1),       FIELD(login, proven, 1, 1),    FIELD(login, paired, 2, 1), FIELD(login, attention, 3, 1),
                                             FIELD(login, concurrent, 4, 1), FIELD(login, sequences, 5, 1), FIELD(login, size, 6, 2),   FIELD(login, address, 8, 4),
                                             FIELD(login, port_name, 12, 8), FIELD(login, node_name, 20, 8)};
 static const struct field port_fields[] = {FIELD(port, address, 0, 4), FIELD(port, accept, 4, 112)};
-static const struct field unit_fields[] = {FIELD(unit, capacity, 0, 8), FIELD(unit, identity, 8, 28)};
-static const struct field setup_fields[] = {FIELD(setup, capacity, 0, 8), FIELD(setup, address, 8, 4), FIELD(setup, identity, 12, 28), FIELD(setup, accept, 40, 112)};
+static const struct field unit_fields[] = {FIELD(unit, capacity, 0, 8), FIELD(unit, identity, 8, 28), FIELD(unit, writable, 36, 1)};
+static const struct field setup_fields[] = {FIELD(setup, capacity, 0, 8), FIELD(setup, address, 8, 4), FIELD(setup, identity, 12, 28), FIELD(setup, accept, 40, 112),
+                                            FIELD(setup, writable, 152, 1)};
 static const struct field tables[] = {FIELD(drive, unit, 0, 40), FIELD(drive, port, 40, 2424), FIELD(port, logins, 120, 2304), FIELD(login, places, 32, 256)};
 #define COUNT(table) (sizeof(table) / sizeof(table)[0])
 
@@ -42,7 +44,7 @@ static void sizes(void) {
     check(sizeof(struct jhartupal_port) == 2424, "port: %zu bytes and not 2,424", sizeof(struct jhartupal_port));
     check(sizeof(struct jhartupal_unit) == 40, "unit: %zu bytes and not 40", sizeof(struct jhartupal_unit));
     check(sizeof(struct jhartupal_drive) == 2464, "drive: %zu bytes and not 2,464", sizeof(struct jhartupal_drive));
-    check(sizeof(struct jhartupal_setup) == 152, "setup: %zu bytes and not 152", sizeof(struct jhartupal_setup));
+    check(sizeof(struct jhartupal_setup) == 160, "setup: %zu bytes and not 160", sizeof(struct jhartupal_setup));
     check(offsetof(struct beside_exchange, x) == 8, "exchange: aligned to %zu", offsetof(struct beside_exchange, x));
     check(offsetof(struct beside_login, x) == 8, "login: aligned to %zu", offsetof(struct beside_login, x));
     check(offsetof(struct beside_port, x) == 8, "port: aligned to %zu", offsetof(struct beside_port, x));
@@ -68,7 +70,7 @@ static void mark_state(void) {
             mark_all(login + 32 + 32 * j, exchange_fields, COUNT(exchange_fields));
         }
     }
-    check(marked() == 36 + 116 + 8 * (28 + 8 * 32), "%zu bytes of fields in a state", marked());
+    check(marked() == 37 + 116 + 8 * (28 + 8 * 32), "%zu bytes of fields in a state", marked());
 }
 
 static void layout(void) {
@@ -88,6 +90,7 @@ int main(void) {
     layout();
     session();
     moved();
+    writes();
     example();
     refusals();
     damages();

@@ -1,4 +1,5 @@
-/* What a caller tells by the header alone, held to every call: which place is taken and what a freed one holds, what 0 says of a frame in, and what a next frame answers. */
+/* What a caller tells by the header alone, held to every call: which place is taken and what a freed one holds, what 0 says of a frame in, what a data frame comes to, and what a
+ * next frame answers. */
 #include "check.h"
 
 /* Bytes of a login's own fields, before its padding and its places. */
@@ -108,16 +109,58 @@ static void plogi_told(const struct jhartupal_drive *before, const struct jhartu
 void frame_told(const struct jhartupal_drive *before, const struct jhartupal_drive *after, const uint8_t *frame, uint64_t said) {
     promise(said == 0 || (said >= 28 && said <= 140), "a frame in is answered with %llu bytes", (unsigned long long)said);
     if (said == 0) {
-        promise(frame[0] == 0x06 ? opened(before, after, frame) : frame[0] == 0x23 && same(before, after), "a frame with R_CTL %02X is answered with 0", frame[0]);
+        promise(frame[0] == 0x06 ? opened(before, after, frame) : frame[0] == 0x01 || (frame[0] == 0x23 && same(before, after)), "a frame with R_CTL %02X is answered with 0",
+                frame[0]);
     } else if (frame[0] == 0x22 && frame[24] == 0x03) {
         plogi_told(before, after, frame);
     }
 }
 
-/* The n bytes of a READ's next frame are in the window. */
+/* The n bytes that come next of a READ or WRITE are in the window. */
 static bool held(const struct jhartupal_exchange *e, size_t n, uint64_t start, size_t length) {
     uint64_t block = e->start + e->sent / JHARTUPAL_BLOCK;
     return start <= block && block - start <= JHARTUPAL_MOST_WINDOW && (block - start) * JHARTUPAL_BLOCK + e->sent % JHARTUPAL_BLOCK + n <= length;
+}
+
+/* Where the burst of a WRITE ends, by the number end of the header; where none is awaited, at what has come. */
+static uint32_t end_of(const struct jhartupal_exchange *e) {
+    uint64_t all = least(e->wanted, e->expected), next = ((uint64_t)e->sent / JHARTUPAL_MOST_BURST + 1) * JHARTUPAL_MOST_BURST;
+    return e->awaited == 0 ? e->sent : (uint32_t)least(all, next);
+}
+
+/* Whether the m bytes of a data frame have gone to their place in the window, and no other byte of it has changed. */
+static bool gone_in(const struct jhartupal_exchange *e, const uint8_t *frame, size_t m, const struct window *w) {
+    size_t at = (size_t)(e->start + e->sent / JHARTUPAL_BLOCK - w->start) * JHARTUPAL_BLOCK + e->sent % JHARTUPAL_BLOCK;
+    return memcmp(window_left, w->bytes, at) == 0 && memcmp(window_left + at, frame + 24, m) == 0 && memcmp(window_left + at + m, w->bytes + at + m, w->n - at - m) == 0;
+}
+
+/* A data frame that none of 1 to 7 refuses: "11", else a fault, else "10", else it is taken. */
+void data_told(const struct jhartupal_drive *before, const struct jhartupal_drive *after, const uint8_t *frame, size_t n, const struct window *w, uint64_t said) {
+    size_t i = login_of(before, number(frame + 5, 3)), j = i == JHARTUPAL_LOGINS ? JHARTUPAL_PLACES : exchange_of(&before->port.logins[i], (uint16_t)number(frame + 16, 2));
+    size_t m = n - 24 - (frame[11] & 3);
+    uint32_t offset = number(frame + 20, 4);
+    if (j == JHARTUPAL_PLACES || before->port.logins[i].places[j].direction == JHARTUPAL_TO_HOST) {
+        promise(said == JHARTUPAL_REFUSED + JHARTUPAL_NO_WRITE, "a data frame for no open write answers %llu", (unsigned long long)said);
+        return;
+    }
+    const struct jhartupal_exchange *e = &before->port.logins[i].places[j], *f = &after->port.logins[i].places[j];
+    if (offset != e->sent || e->sent + m > end_of(e)) {
+        promise(said == 56 && reply[51] == (offset != e->sent ? 0x03 : 0x01) && f->kind == JHARTUPAL_FREE, "a data frame at %u of %zu bytes, after %u, answers %llu", offset, m, e->sent,
+                (unsigned long long)said);
+    } else if (w->n > JHARTUPAL_MOST_WINDOW || !held(e, m, w->start, w->n)) {
+        promise(said == JHARTUPAL_REFUSED + JHARTUPAL_BAD_WINDOW, "a data frame without its window answers %llu", (unsigned long long)said);
+    } else {
+        promise(said == 0 && f->sent == e->sent + m && f->awaited == (e->awaited == 1 && f->sent < end_of(e)) && gone_in(e, frame, m, w), "a data frame at %u of %zu bytes answers %llu",
+                offset, m, (unsigned long long)said);
+    }
+}
+
+/* What the next frame of a WRITE answers: what has come, what is awaited, or what is left to ask for. */
+static uint64_t write_answer(const struct jhartupal_exchange *e) {
+    if (e->awaited == 1) {
+        return 0;
+    }
+    return e->sent < least(e->wanted, e->expected) ? 36 : 48;
 }
 
 /* What the next frame of a login's exchange answers, by the numbers full, total and n of the header. */
@@ -126,7 +169,13 @@ static uint64_t answer_of(const struct jhartupal_login *l, const struct jhartupa
     if (l->proven == 0) {
         return JHARTUPAL_REFUSED + JHARTUPAL_UNPROVEN;
     }
-    if (length > JHARTUPAL_MOST_WINDOW || (e->kind == JHARTUPAL_READ && n > 0 && !held(e, n, start, length))) {
+    if (length > JHARTUPAL_MOST_WINDOW) {
+        return JHARTUPAL_REFUSED + JHARTUPAL_BAD_WINDOW;
+    }
+    if (e->direction == JHARTUPAL_FROM_HOST) {
+        return write_answer(e);
+    }
+    if (e->kind == JHARTUPAL_BLOCKS && n > 0 && !held(e, n, start, length)) {
         return JHARTUPAL_REFUSED + JHARTUPAL_BAD_WINDOW;
     }
     return n > 0 ? 24 + (n + 3) / 4 * 4 : 48;

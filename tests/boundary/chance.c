@@ -35,11 +35,23 @@ static void spoil(uint8_t *bytes, size_t n, uint32_t times) {
 static struct jhartupal_drive good[GOOD_STATES];
 static uint8_t window[JHARTUPAL_MOST_WINDOW + 1];
 
-/* Empty; one login; full; full and to be verified; full, with reads on their way. */
+/* In place of a login's last exchange a WRITE, of more than one burst or of a few blocks, asked for or not. */
+static void write_at(struct jhartupal_drive *d, size_t i) {
+    uint16_t id = d->port.logins[i].places[JHARTUPAL_PLACES - 1].ox_id, count = i % 2 == 0 ? 300 : 3;
+    struct frame f = abts(hosts[i], id), g = writing(hosts[i], id, (uint32_t)(1000 * i), count, (uint32_t)JHARTUPAL_BLOCK * count);
+    take(d, &f);
+    take(d, &g);
+    if (i % 4 < 2) {
+        next_out(d, hosts[i], id, 0, window, 0, ROOM);
+    }
+}
+
+/* Empty; one login, of a unit that may not be written; full; full and to be verified; full, with reads and writes on their way. */
 static void good_states(void) {
     made(&good[0], CAPACITY);
     made(&good[1], CAPACITY);
     paired(&good[1], hosts[0], JHARTUPAL_MOST_SIZE);
+    good[1].unit.writable = 0;
     full(&good[2]);
     full(&good[3]);
     event(&good[3], LOOP_RESET);
@@ -47,6 +59,7 @@ static void good_states(void) {
     for (size_t i = 0; i < JHARTUPAL_LOGINS; i++) {
         const struct jhartupal_exchange *e = &good[4].port.logins[i].places[i];
         next_out(&good[4], hosts[i], e->ox_id, e->start, window, JHARTUPAL_MOST_DATA, ROOM);
+        write_at(&good[4], i);
     }
     scatter(window, sizeof window);
 }
@@ -72,9 +85,12 @@ static struct frame some_command(void) {
     uint8_t from = host(), code = codes[below(6)], byte_4 = (uint8_t)chance(), lun = below(4) == 0;
     uint16_t id = some_id(), count = (uint16_t)(below(4) == 0 ? chance() : below(12));
     uint32_t block = below(4) == 0 ? CAPACITY - below(8) : below(CAPACITY), few = below(300), dl = below(3) == 0 ? below(9000) : (uint32_t)JHARTUPAL_BLOCK * count;
-    switch (below(8)) {
+    switch (below(10)) {
     case 0:
         return task(from, id, (uint8_t)(1 << byte_4 % 8));
+    case 3:
+    case 4:
+        return writing(from, id, block, count, dl);
     case 1:
     case 2:
         return command(from, id, code, byte_4, lun, few);
@@ -129,6 +145,28 @@ static struct frame some_frame(void) {
     return f;
 }
 
+/* An open exchange of a drive, rather than a free place; and the login that it is of. */
+static const struct jhartupal_exchange *some_exchange(const struct jhartupal_drive *d, const struct jhartupal_login **l, bool write) {
+    const struct jhartupal_exchange *e;
+    uint32_t tries = 0;
+    do {
+        *l = &d->port.logins[below(JHARTUPAL_LOGINS)];
+        e = &(*l)->places[below(JHARTUPAL_PLACES)];
+    } while ((e->kind == JHARTUPAL_FREE || (write && e->direction != JHARTUPAL_FROM_HOST)) && ++tries < (write ? 256 : 32));
+    return e;
+}
+
+/* Data for an open WRITE rather than for another exchange, mostly at the next offset and within the burst; and a window that mostly has their place. */
+static struct frame some_data(const struct jhartupal_drive *d, uint64_t *start) {
+    const struct jhartupal_login *l;
+    const struct jhartupal_exchange *e = some_exchange(d, &l, true);
+    uint32_t offset = below(8) == 0 ? below(4096) : e->sent, n = below(4) == 0 ? below(JHARTUPAL_MOST_FRAME - 24 + 1) : below(600);
+    uint16_t id = below(8) == 0 ? some_id() : e->ox_id, count = (uint16_t)chance();
+    uint8_t from = below(8) == 0 ? host() : (uint8_t)l->address;
+    *start = below(16) == 0 ? chance() : e->start + offset / JHARTUPAL_BLOCK - (below(4) == 0);
+    return sending(from, id, count, offset, window + below(1000), n);
+}
+
 static size_t some_room(void) {
     switch (below(16)) {
     case 0:
@@ -175,15 +213,11 @@ static void some_state(struct jhartupal_drive *d) {
 enum { FRAME, NEXT, EVENT, MAKE, FUNCTIONS };
 static unsigned tally[FUNCTIONS][LAST_REFUSAL + 1]; /* of each function: the answers, and each refusal */
 static unsigned moves;                              /* accepted PLOGIs with the port name of a login at another address */
+static unsigned taken, faults, silences;            /* data frames taken, those that end an exchange, and next frames while data are awaited */
 
 static uint64_t some_next(struct jhartupal_drive *d, size_t room) {
     const struct jhartupal_login *l;
-    const struct jhartupal_exchange *e;
-    uint32_t tries = 0;
-    do { /* rather an open exchange than a free place */
-        l = &d->port.logins[below(JHARTUPAL_LOGINS)];
-        e = &l->places[below(JHARTUPAL_PLACES)];
-    } while (e->kind == JHARTUPAL_FREE && ++tries < 32);
+    const struct jhartupal_exchange *e = some_exchange(d, &l, false);
     uint32_t address = below(8) == 0 ? (uint32_t)chance() : l->address;
     uint16_t id = below(8) == 0 ? some_id() : e->ox_id;
     uint64_t start = below(8) == 0 ? chance() : e->start + e->sent / JHARTUPAL_BLOCK - (below(4) == 0);
@@ -194,9 +228,10 @@ static uint64_t some_make(struct jhartupal_drive *d) {
     uint8_t words[JHARTUPAL_ACCEPT];
     uint64_t capacity = below(4) == 0 ? chance() : 1 + below(CAPACITY);
     uint32_t address = below(4) == 0 ? below(256) : OWN;
+    uint8_t writable = (uint8_t)(below(8) == 0 ? chance() : below(2));
     memcpy(words, accept_words(), sizeof words);
     spoil(words, sizeof words, below(40));
-    return make(d, capacity, address, window, words);
+    return make(d, capacity, address, window, words, writable);
 }
 
 static int some_function(void) {
@@ -220,15 +255,21 @@ static void one_call(struct jhartupal_drive *d) {
     bool formed = well_formed(d);
     int function = some_function();
     size_t room = function == FRAME || function == NEXT ? some_room() : ROOM;
-    struct frame f = function == FRAME ? some_frame() : test_unit(0x01);
+    uint64_t start = chance();
+    bool sends = function == FRAME && below(3) == 0;
+    struct frame f = sends ? some_data(d, &start) : function == FRAME ? some_frame() : test_unit(0x01);
     bool another = names_another(d, &f);
-    uint64_t said = function == FRAME ? frame_in(d, f.b, f.n, room) : function == NEXT ? some_next(d, room) : function == EVENT ? event(d, (int)below(3)) : some_make(d);
+    struct window w = {start, window, function == FRAME ? some_length() : 0};
+    uint64_t said = function == FRAME ? frame_with(d, f.b, f.n, &w, room) : function == NEXT ? some_next(d, room) : function == EVENT ? event(d, (int)below(3)) : some_make(d);
     bool two = said == JHARTUPAL_REFUSED + JHARTUPAL_ILL_FORMED;
     promise(two == (!formed && room >= ROOM && function != MAKE), "function %d answers %llu, and the state is%s well formed", function, (unsigned long long)said,
             formed ? "" : " not");
     promise(room >= ROOM || said == JHARTUPAL_REFUSED + JHARTUPAL_SHORT_BUFFER, "function %d answers %llu with a room of %zu", function, (unsigned long long)said, room);
     tally[function][said < JHARTUPAL_REFUSED ? 0 : (said - JHARTUPAL_REFUSED) % (LAST_REFUSAL + 1)]++;
     moves += function == FRAME && another && f.b[24] == 0x03 && said == 28 + JHARTUPAL_ACCEPT;
+    taken += sends && said == 0;
+    faults += sends && said == 56;
+    silences += function == NEXT && said == 0;
     if (said < JHARTUPAL_REFUSED) {
         struct jhartupal_drive after;
         memcpy(&after, d, sizeof after);
@@ -249,6 +290,7 @@ static void varied(void) {
         }
     }
     check(moves >= 100, "only %u accepted PLOGIs end the login of another address by chance", moves);
+    check(taken >= 100 && faults >= 100 && silences >= 100, "only %u data frames taken, %u faults, %u next frames while data are awaited by chance", taken, faults, silences);
 }
 
 void chances(void) {
@@ -262,7 +304,7 @@ void chances(void) {
     }
     check(failures() == before, "%u of %u calls by chance (seed %u) fail", failures() - before, (unsigned)CALLS, (unsigned)SEED);
     varied();
-    say("%u calls by chance, seed %u; answered and refused with 1 to 10:\n", (unsigned)CALLS, (unsigned)SEED);
+    say("%u calls by chance, seed %u; answered and refused with 1 to 11:\n", (unsigned)CALLS, (unsigned)SEED);
     for (size_t i = 0; i < FUNCTIONS; i++) {
         for (unsigned k = 0; k <= LAST_REFUSAL; k++) {
             say(k == LAST_REFUSAL ? "%u\n" : "%u ", tally[i][k]);

@@ -2,7 +2,7 @@
  * and the three events answer 2 exactly then, with nothing changed (lend.c). */
 #include "check.h"
 
-enum { ILL = 0, FINE = 1, CAPACITY = 16777216, MOST_WANTED = JHARTUPAL_BLOCK * JHARTUPAL_MOST_READ };
+enum { ILL = 0, FINE = 1, CAPACITY = 16777216, MOST_WANTED = JHARTUPAL_BLOCK * JHARTUPAL_MOST_COUNT };
 
 /* All five calls with a state. Not well formed: each is refused with 2; otherwise none is. */
 static void sees(const char *rule, size_t i, size_t j, const struct jhartupal_drive *state, int fine) {
@@ -51,6 +51,9 @@ static const struct change setups[] = {
     {"\".. to 4,294,967,295\"", OF(drive, unit.capacity), JHARTUPAL_MOST_BLOCKS, FINE},
     {"\".. to 4,294,967,295\": one more", OF(drive, unit.capacity), JHARTUPAL_MOST_BLOCKS + 1, ILL},
     {"\".. to 4,294,967,295\": a high bit", OF(drive, unit.capacity), UINT64_C(1) << 63 | 1, ILL},
+    {"a unit that may not be written", OF(drive, unit.writable), 0, FINE},
+    {"writable is 0 or 1: 2", OF(drive, unit.writable), 2, ILL},
+    {"writable is 0 or 1: FFh", OF(drive, unit.writable), 0xFF, ILL},
     {"own address 01h", OF(drive, port.address), 0x01, FINE},
     {"own address: \"among FC-AL's 127\"", OF(drive, port.address), 0x03, ILL},
     {"own address: \"among FC-AL's 127\", F7h", OF(drive, port.address), 0xF7, ILL},
@@ -125,76 +128,120 @@ static const struct change idle[] = {
 /* At each place of each login, all of size 256 */
 struct damage {
     const char *rule;
-    struct jhartupal_exchange e; /* start, blocks, wanted, expected, sent, OX_ID, count, kind */
+    struct jhartupal_exchange e; /* start, blocks, wanted, expected, sent, OX_ID, count, kind, direction, awaited */
     int fine;
 };
 
 static const struct damage damages_of[] = {
-    {"a READ, halfway", {10, 4, 2048, 2048, 512, 0x3000, 2, JHARTUPAL_READ}, FINE},
-    {"READ of no blocks", {10, 0, 0, 2048, 0, 0x3000, 0, JHARTUPAL_READ}, ILL},
-    {"READ of 65,535 blocks", {10, JHARTUPAL_MOST_READ, MOST_WANTED, 2048, 0, 0x3000, 0, JHARTUPAL_READ}, FINE},
-    {"READ of 65,536 blocks", {10, JHARTUPAL_MOST_READ + 1, MOST_WANTED + JHARTUPAL_BLOCK, 2048, 0, 0x3000, 0, JHARTUPAL_READ}, ILL},
-    {"READ: \"count x 512\", one less", {10, 4, 2047, 1024, 512, 0x3000, 2, JHARTUPAL_READ}, ILL},
-    {"READ: \"count x 512\", one more", {10, 4, 2049, 1024, 512, 0x3000, 2, JHARTUPAL_READ}, ILL},
-    {"READ of the last block", {CAPACITY - 1, 1, JHARTUPAL_BLOCK, JHARTUPAL_BLOCK, 0, 0x3000, 0, JHARTUPAL_READ}, FINE},
-    {"READ: \"address not below capacity\"", {CAPACITY, 1, JHARTUPAL_BLOCK, JHARTUPAL_BLOCK, 0, 0x3000, 0, JHARTUPAL_READ}, ILL},
-    {"READ: \"address plus count above it\"", {CAPACITY - 3, 4, 2048, 2048, 0, 0x3000, 0, JHARTUPAL_READ}, ILL},
-    {"READ from block 2^32 on", {UINT64_C(1) << 32, 4, 2048, 2048, 0, 0x3000, 0, JHARTUPAL_READ}, ILL},
-    {"READ from the last block of 64 bits", {UINT64_MAX, 1, JHARTUPAL_BLOCK, JHARTUPAL_BLOCK, 0, 0x3000, 0, JHARTUPAL_READ}, ILL},
-    {"FCP_DL 0", {10, 4, 2048, 0, 0, 0x3000, 0, JHARTUPAL_READ}, ILL},
-    {"FCP_DL 1", {10, 4, 2048, 1, 0, 0x3000, 0, JHARTUPAL_READ}, FINE},
-    {"FCP_DL 0, INQUIRY", {0, 0, 36, 0, 0, 0x3000, 0, JHARTUPAL_INQUIRY}, ILL},
-    {"no such kind: 9", {10, 4, 2048, 2048, 0, 0x3000, 0, JHARTUPAL_SENSE_OTHER_UNIT + 1}, ILL},
-    {"no such kind: 9, of few bytes", {0, 0, 8, 8, 0, 0x3000, 0, JHARTUPAL_SENSE_OTHER_UNIT + 1}, ILL},
-    {"no such kind: FFh", {0, 0, 8, 8, 0, 0x3000, 0, 0xFF}, ILL},
-    {"a free place, whatever stands there", {UINT64_MAX, 7, 7, 0, 9, 0x1000, 3, JHARTUPAL_FREE}, FINE},
-    {"INQUIRY: nothing", {0, 0, 0, 36, 0, 0x3000, 0, JHARTUPAL_INQUIRY}, ILL},
-    {"INQUIRY: 36", {0, 0, 36, 255, 0, 0x3000, 0, JHARTUPAL_INQUIRY}, FINE},
-    {"INQUIRY: 37", {0, 0, 37, 255, 0, 0x3000, 0, JHARTUPAL_INQUIRY}, ILL},
-    {"INQUIRY of another LUN: nothing", {0, 0, 0, 36, 0, 0x3000, 0, JHARTUPAL_INQUIRY_OTHER_UNIT}, ILL},
-    {"INQUIRY of another LUN: 36", {0, 0, 36, 255, 0, 0x3000, 0, JHARTUPAL_INQUIRY_OTHER_UNIT}, FINE},
-    {"INQUIRY of another LUN: 37", {0, 0, 37, 255, 0, 0x3000, 0, JHARTUPAL_INQUIRY_OTHER_UNIT}, ILL},
-    {"READ CAPACITY: 7", {0, 0, 7, 8, 0, 0x3000, 0, JHARTUPAL_READ_CAPACITY}, ILL},
-    {"READ CAPACITY: 8", {0, 0, 8, 8, 0, 0x3000, 0, JHARTUPAL_READ_CAPACITY}, FINE},
-    {"READ CAPACITY: 9", {0, 0, 9, 8, 0, 0x3000, 0, JHARTUPAL_READ_CAPACITY}, ILL},
-    {"REQUEST SENSE: nothing", {0, 0, 0, 18, 0, 0x3000, 0, JHARTUPAL_SENSE_NONE}, ILL},
-    {"REQUEST SENSE: 18", {0, 0, 18, 18, 0, 0x3000, 0, JHARTUPAL_SENSE_NONE}, FINE},
-    {"REQUEST SENSE: 19", {0, 0, 19, 18, 0, 0x3000, 0, JHARTUPAL_SENSE_NONE}, ILL},
-    {"REQUEST SENSE with 29h: 1", {0, 0, 1, 18, 0, 0x3000, 0, JHARTUPAL_SENSE_RESET}, FINE},
-    {"REQUEST SENSE with 29h: 19", {0, 0, 19, 18, 0, 0x3000, 0, JHARTUPAL_SENSE_RESET}, ILL},
-    {"REQUEST SENSE with 2Fh: 18", {0, 0, 18, 18, 0, 0x3000, 0, JHARTUPAL_SENSE_CLEARED}, FINE},
-    {"REQUEST SENSE with 2Fh: nothing", {0, 0, 0, 18, 0, 0x3000, 0, JHARTUPAL_SENSE_CLEARED}, ILL},
-    {"REQUEST SENSE of another LUN: 18", {0, 0, 18, 18, 0, 0x3000, 0, JHARTUPAL_SENSE_OTHER_UNIT}, FINE},
-    {"REQUEST SENSE of another LUN: 19", {0, 0, 19, 18, 0, 0x3000, 0, JHARTUPAL_SENSE_OTHER_UNIT}, ILL},
-    /* of every kind but READ a start or blocks, and all else as in a line above that is fine */
-    {"INQUIRY: a start, 1", {1, 0, 36, 255, 0, 0x3000, 0, JHARTUPAL_INQUIRY}, ILL},
-    {"INQUIRY: a block", {0, 1, 36, 255, 0, 0x3000, 0, JHARTUPAL_INQUIRY}, ILL},
-    {"INQUIRY of another LUN: a start, 2^32", {UINT64_C(1) << 32, 0, 36, 255, 0, 0x3000, 0, JHARTUPAL_INQUIRY_OTHER_UNIT}, ILL},
-    {"INQUIRY of another LUN: blocks, 65,536", {0, JHARTUPAL_MOST_READ + 1, 36, 255, 0, 0x3000, 0, JHARTUPAL_INQUIRY_OTHER_UNIT}, ILL},
-    {"READ CAPACITY: a start, 1", {1, 0, 8, 8, 0, 0x3000, 0, JHARTUPAL_READ_CAPACITY}, ILL},
-    {"READ CAPACITY: a block", {0, 1, 8, 8, 0, 0x3000, 0, JHARTUPAL_READ_CAPACITY}, ILL},
-    {"REQUEST SENSE: a start, 1", {1, 0, 18, 18, 0, 0x3000, 0, JHARTUPAL_SENSE_NONE}, ILL},
-    {"REQUEST SENSE: blocks, the most of 32 bits", {0, UINT32_MAX, 18, 18, 0, 0x3000, 0, JHARTUPAL_SENSE_NONE}, ILL},
-    {"REQUEST SENSE with 29h: a start, 2^63", {UINT64_C(1) << 63, 0, 1, 18, 0, 0x3000, 0, JHARTUPAL_SENSE_RESET}, ILL},
-    {"REQUEST SENSE with 29h: a block", {0, 1, 1, 18, 0, 0x3000, 0, JHARTUPAL_SENSE_RESET}, ILL},
-    {"REQUEST SENSE with 2Fh: a start, the last of 64 bits", {UINT64_MAX, 0, 18, 18, 0, 0x3000, 0, JHARTUPAL_SENSE_CLEARED}, ILL},
-    {"REQUEST SENSE with 2Fh: blocks, 2^31", {0, UINT32_C(1) << 31, 18, 18, 0, 0x3000, 0, JHARTUPAL_SENSE_CLEARED}, ILL},
-    {"REQUEST SENSE of another LUN: a start, as of a READ", {10, 0, 18, 18, 0, 0x3000, 0, JHARTUPAL_SENSE_OTHER_UNIT}, ILL},
-    {"REQUEST SENSE of another LUN: blocks, the most of a READ", {0, JHARTUPAL_MOST_READ, 18, 18, 0, 0x3000, 0, JHARTUPAL_SENSE_OTHER_UNIT}, ILL},
-    {"all sent", {10, 4, 2048, 2048, 2048, 0x3000, 8, JHARTUPAL_READ}, FINE},
-    {"\"bytes sent at most its total\"", {10, 4, 2048, 2048, 2304, 0x3000, 9, JHARTUPAL_READ}, ILL},
-    {"all that FCP_DL lets be sent", {10, 4, 2048, 1000, 1000, 0x3000, 4, JHARTUPAL_READ}, FINE},
-    {"\"the smaller of wanted and FCP_DL\"", {10, 4, 2048, 1000, 1024, 0x3000, 4, JHARTUPAL_READ}, ILL},
-    {"\"the smaller of wanted and FCP_DL\", wanted", {0, 0, 8, 2048, 256, 0x3000, 1, JHARTUPAL_READ_CAPACITY}, ILL},
-    {"\"a whole number of full frames\"", {10, 4, 2048, 2048, 500, 0x3000, 2, JHARTUPAL_READ}, ILL},
-    {"INQUIRY, all sent", {0, 0, 36, 36, 36, 0x3000, 1, JHARTUPAL_INQUIRY}, FINE},
-    {"INQUIRY, short of its total", {0, 0, 36, 36, 35, 0x3000, 1, JHARTUPAL_INQUIRY}, ILL},
-    {"the frames sent, one less", {10, 4, 2048, 2048, 512, 0x3000, 1, JHARTUPAL_READ}, ILL},
-    {"the frames sent, one more", {10, 4, 2048, 2048, 512, 0x3000, 3, JHARTUPAL_READ}, ILL},
-    {"none sent, one counted", {10, 4, 2048, 2048, 0, 0x3000, 1, JHARTUPAL_READ}, ILL},
-    {"65,536 frames sent", {10, JHARTUPAL_MOST_READ, MOST_WANTED, MOST_WANTED, 16777216, 0x3000, 0, JHARTUPAL_READ}, FINE},
-    {"131,070 frames sent", {10, JHARTUPAL_MOST_READ, MOST_WANTED, MOST_WANTED, MOST_WANTED, 0x3000, 65534, JHARTUPAL_READ}, FINE},
-    {"131,070 frames sent, one more", {10, JHARTUPAL_MOST_READ, MOST_WANTED, MOST_WANTED, MOST_WANTED, 0x3000, 65535, JHARTUPAL_READ}, ILL},
+    {"a READ, halfway", {10, 4, 2048, 2048, 512, 0x3000, 2, JHARTUPAL_BLOCKS, 0, 0}, FINE},
+    {"READ of no blocks", {10, 0, 0, 2048, 0, 0x3000, 0, JHARTUPAL_BLOCKS, 0, 0}, ILL},
+    {"READ of 65,535 blocks", {10, JHARTUPAL_MOST_COUNT, MOST_WANTED, 2048, 0, 0x3000, 0, JHARTUPAL_BLOCKS, 0, 0}, FINE},
+    {"READ of 65,536 blocks", {10, JHARTUPAL_MOST_COUNT + 1, MOST_WANTED + JHARTUPAL_BLOCK, 2048, 0, 0x3000, 0, JHARTUPAL_BLOCKS, 0, 0}, ILL},
+    {"READ: \"count x 512\", one less", {10, 4, 2047, 1024, 512, 0x3000, 2, JHARTUPAL_BLOCKS, 0, 0}, ILL},
+    {"READ: \"count x 512\", one more", {10, 4, 2049, 1024, 512, 0x3000, 2, JHARTUPAL_BLOCKS, 0, 0}, ILL},
+    {"READ of the last block", {CAPACITY - 1, 1, JHARTUPAL_BLOCK, JHARTUPAL_BLOCK, 0, 0x3000, 0, JHARTUPAL_BLOCKS, 0, 0}, FINE},
+    {"READ: \"address not below capacity\"", {CAPACITY, 1, JHARTUPAL_BLOCK, JHARTUPAL_BLOCK, 0, 0x3000, 0, JHARTUPAL_BLOCKS, 0, 0}, ILL},
+    {"READ: \"address plus count above it\"", {CAPACITY - 3, 4, 2048, 2048, 0, 0x3000, 0, JHARTUPAL_BLOCKS, 0, 0}, ILL},
+    {"READ from block 2^32 on", {UINT64_C(1) << 32, 4, 2048, 2048, 0, 0x3000, 0, JHARTUPAL_BLOCKS, 0, 0}, ILL},
+    {"READ from the last block of 64 bits", {UINT64_MAX, 1, JHARTUPAL_BLOCK, JHARTUPAL_BLOCK, 0, 0x3000, 0, JHARTUPAL_BLOCKS, 0, 0}, ILL},
+    {"FCP_DL 0", {10, 4, 2048, 0, 0, 0x3000, 0, JHARTUPAL_BLOCKS, 0, 0}, ILL},
+    {"FCP_DL 1", {10, 4, 2048, 1, 0, 0x3000, 0, JHARTUPAL_BLOCKS, 0, 0}, FINE},
+    {"FCP_DL 0, INQUIRY", {0, 0, 36, 0, 0, 0x3000, 0, JHARTUPAL_INQUIRY, 0, 0}, ILL},
+    {"no such kind: 9", {10, 4, 2048, 2048, 0, 0x3000, 0, JHARTUPAL_SENSE_OTHER_UNIT + 1, 0, 0}, ILL},
+    {"no such kind: 9, of few bytes", {0, 0, 8, 8, 0, 0x3000, 0, JHARTUPAL_SENSE_OTHER_UNIT + 1, 0, 0}, ILL},
+    {"no such kind: FFh", {0, 0, 8, 8, 0, 0x3000, 0, 0xFF, 0, 0}, ILL},
+    {"a free place, whatever stands there", {UINT64_MAX, 7, 7, 0, 9, 0x1000, 3, JHARTUPAL_FREE, 0, 0}, FINE},
+    {"INQUIRY: nothing", {0, 0, 0, 36, 0, 0x3000, 0, JHARTUPAL_INQUIRY, 0, 0}, ILL},
+    {"INQUIRY: 36", {0, 0, 36, 255, 0, 0x3000, 0, JHARTUPAL_INQUIRY, 0, 0}, FINE},
+    {"INQUIRY: 37", {0, 0, 37, 255, 0, 0x3000, 0, JHARTUPAL_INQUIRY, 0, 0}, ILL},
+    {"INQUIRY of another LUN: nothing", {0, 0, 0, 36, 0, 0x3000, 0, JHARTUPAL_INQUIRY_OTHER_UNIT, 0, 0}, ILL},
+    {"INQUIRY of another LUN: 36", {0, 0, 36, 255, 0, 0x3000, 0, JHARTUPAL_INQUIRY_OTHER_UNIT, 0, 0}, FINE},
+    {"INQUIRY of another LUN: 37", {0, 0, 37, 255, 0, 0x3000, 0, JHARTUPAL_INQUIRY_OTHER_UNIT, 0, 0}, ILL},
+    {"READ CAPACITY: 7", {0, 0, 7, 8, 0, 0x3000, 0, JHARTUPAL_READ_CAPACITY, 0, 0}, ILL},
+    {"READ CAPACITY: 8", {0, 0, 8, 8, 0, 0x3000, 0, JHARTUPAL_READ_CAPACITY, 0, 0}, FINE},
+    {"READ CAPACITY: 9", {0, 0, 9, 8, 0, 0x3000, 0, JHARTUPAL_READ_CAPACITY, 0, 0}, ILL},
+    {"REQUEST SENSE: nothing", {0, 0, 0, 18, 0, 0x3000, 0, JHARTUPAL_SENSE_NONE, 0, 0}, ILL},
+    {"REQUEST SENSE: 18", {0, 0, 18, 18, 0, 0x3000, 0, JHARTUPAL_SENSE_NONE, 0, 0}, FINE},
+    {"REQUEST SENSE: 19", {0, 0, 19, 18, 0, 0x3000, 0, JHARTUPAL_SENSE_NONE, 0, 0}, ILL},
+    {"REQUEST SENSE with 29h: 1", {0, 0, 1, 18, 0, 0x3000, 0, JHARTUPAL_SENSE_RESET, 0, 0}, FINE},
+    {"REQUEST SENSE with 29h: 19", {0, 0, 19, 18, 0, 0x3000, 0, JHARTUPAL_SENSE_RESET, 0, 0}, ILL},
+    {"REQUEST SENSE with 2Fh: 18", {0, 0, 18, 18, 0, 0x3000, 0, JHARTUPAL_SENSE_CLEARED, 0, 0}, FINE},
+    {"REQUEST SENSE with 2Fh: nothing", {0, 0, 0, 18, 0, 0x3000, 0, JHARTUPAL_SENSE_CLEARED, 0, 0}, ILL},
+    {"REQUEST SENSE of another LUN: 18", {0, 0, 18, 18, 0, 0x3000, 0, JHARTUPAL_SENSE_OTHER_UNIT, 0, 0}, FINE},
+    {"REQUEST SENSE of another LUN: 19", {0, 0, 19, 18, 0, 0x3000, 0, JHARTUPAL_SENSE_OTHER_UNIT, 0, 0}, ILL},
+    /* of every kind but blocks a start or blocks, and all else as in a line above that is fine */
+    {"INQUIRY: a start, 1", {1, 0, 36, 255, 0, 0x3000, 0, JHARTUPAL_INQUIRY, 0, 0}, ILL},
+    {"INQUIRY: a block", {0, 1, 36, 255, 0, 0x3000, 0, JHARTUPAL_INQUIRY, 0, 0}, ILL},
+    {"INQUIRY of another LUN: a start, 2^32", {UINT64_C(1) << 32, 0, 36, 255, 0, 0x3000, 0, JHARTUPAL_INQUIRY_OTHER_UNIT, 0, 0}, ILL},
+    {"INQUIRY of another LUN: blocks, 65,536", {0, JHARTUPAL_MOST_COUNT + 1, 36, 255, 0, 0x3000, 0, JHARTUPAL_INQUIRY_OTHER_UNIT, 0, 0}, ILL},
+    {"READ CAPACITY: a start, 1", {1, 0, 8, 8, 0, 0x3000, 0, JHARTUPAL_READ_CAPACITY, 0, 0}, ILL},
+    {"READ CAPACITY: a block", {0, 1, 8, 8, 0, 0x3000, 0, JHARTUPAL_READ_CAPACITY, 0, 0}, ILL},
+    {"REQUEST SENSE: a start, 1", {1, 0, 18, 18, 0, 0x3000, 0, JHARTUPAL_SENSE_NONE, 0, 0}, ILL},
+    {"REQUEST SENSE: blocks, the most of 32 bits", {0, UINT32_MAX, 18, 18, 0, 0x3000, 0, JHARTUPAL_SENSE_NONE, 0, 0}, ILL},
+    {"REQUEST SENSE with 29h: a start, 2^63", {UINT64_C(1) << 63, 0, 1, 18, 0, 0x3000, 0, JHARTUPAL_SENSE_RESET, 0, 0}, ILL},
+    {"REQUEST SENSE with 29h: a block", {0, 1, 1, 18, 0, 0x3000, 0, JHARTUPAL_SENSE_RESET, 0, 0}, ILL},
+    {"REQUEST SENSE with 2Fh: a start, the last of 64 bits", {UINT64_MAX, 0, 18, 18, 0, 0x3000, 0, JHARTUPAL_SENSE_CLEARED, 0, 0}, ILL},
+    {"REQUEST SENSE with 2Fh: blocks, 2^31", {0, UINT32_C(1) << 31, 18, 18, 0, 0x3000, 0, JHARTUPAL_SENSE_CLEARED, 0, 0}, ILL},
+    {"REQUEST SENSE of another LUN: a start, as of a READ", {10, 0, 18, 18, 0, 0x3000, 0, JHARTUPAL_SENSE_OTHER_UNIT, 0, 0}, ILL},
+    {"REQUEST SENSE of another LUN: blocks, the most of a READ", {0, JHARTUPAL_MOST_COUNT, 18, 18, 0, 0x3000, 0, JHARTUPAL_SENSE_OTHER_UNIT, 0, 0}, ILL},
+    {"all sent", {10, 4, 2048, 2048, 2048, 0x3000, 8, JHARTUPAL_BLOCKS, 0, 0}, FINE},
+    {"\"bytes sent at most its total\"", {10, 4, 2048, 2048, 2304, 0x3000, 9, JHARTUPAL_BLOCKS, 0, 0}, ILL},
+    {"all that FCP_DL lets be sent", {10, 4, 2048, 1000, 1000, 0x3000, 4, JHARTUPAL_BLOCKS, 0, 0}, FINE},
+    {"\"the smaller of wanted and FCP_DL\"", {10, 4, 2048, 1000, 1024, 0x3000, 4, JHARTUPAL_BLOCKS, 0, 0}, ILL},
+    {"\"the smaller of wanted and FCP_DL\", wanted", {0, 0, 8, 2048, 256, 0x3000, 1, JHARTUPAL_READ_CAPACITY, 0, 0}, ILL},
+    {"\"a whole number of full frames\"", {10, 4, 2048, 2048, 500, 0x3000, 2, JHARTUPAL_BLOCKS, 0, 0}, ILL},
+    {"INQUIRY, all sent", {0, 0, 36, 36, 36, 0x3000, 1, JHARTUPAL_INQUIRY, 0, 0}, FINE},
+    {"INQUIRY, short of its total", {0, 0, 36, 36, 35, 0x3000, 1, JHARTUPAL_INQUIRY, 0, 0}, ILL},
+    {"the frames sent, one less", {10, 4, 2048, 2048, 512, 0x3000, 1, JHARTUPAL_BLOCKS, 0, 0}, ILL},
+    {"the frames sent, one more", {10, 4, 2048, 2048, 512, 0x3000, 3, JHARTUPAL_BLOCKS, 0, 0}, ILL},
+    {"none sent, one counted", {10, 4, 2048, 2048, 0, 0x3000, 1, JHARTUPAL_BLOCKS, 0, 0}, ILL},
+    {"65,536 frames sent", {10, JHARTUPAL_MOST_COUNT, MOST_WANTED, MOST_WANTED, 16777216, 0x3000, 0, JHARTUPAL_BLOCKS, 0, 0}, FINE},
+    {"131,070 frames sent", {10, JHARTUPAL_MOST_COUNT, MOST_WANTED, MOST_WANTED, MOST_WANTED, 0x3000, 65534, JHARTUPAL_BLOCKS, 0, 0}, FINE},
+    {"131,070 frames sent, one more", {10, JHARTUPAL_MOST_COUNT, MOST_WANTED, MOST_WANTED, MOST_WANTED, 0x3000, 65535, JHARTUPAL_BLOCKS, 0, 0}, ILL},
+    /* of a read, and of made data, nothing is awaited, and nothing but blocks comes from the host */
+    {"READ: data awaited", {10, 4, 2048, 2048, 512, 0x3000, 2, JHARTUPAL_BLOCKS, 0, 1}, ILL},
+    {"READ: awaited 2", {10, 4, 2048, 2048, 512, 0x3000, 2, JHARTUPAL_BLOCKS, 0, 2}, ILL},
+    {"READ: awaited FFh", {10, 4, 2048, 2048, 512, 0x3000, 2, JHARTUPAL_BLOCKS, 0, 0xFF}, ILL},
+    {"INQUIRY: data awaited", {0, 0, 36, 36, 0, 0x3000, 0, JHARTUPAL_INQUIRY, 0, 1}, ILL},
+    {"direction is 0 or 1: 2", {10, 4, 2048, 2048, 0, 0x3000, 0, JHARTUPAL_BLOCKS, 2, 0}, ILL},
+    {"direction is 0 or 1: FFh", {10, 4, 2048, 2048, 0, 0x3000, 0, JHARTUPAL_BLOCKS, 0xFF, 0}, ILL},
+    {"direction is 0 or 1: 2, INQUIRY", {0, 0, 36, 36, 0, 0x3000, 0, JHARTUPAL_INQUIRY, 2, 0}, ILL},
+    {"INQUIRY from the host", {0, 0, 36, 36, 0, 0x3000, 0, JHARTUPAL_INQUIRY, 1, 0}, ILL},
+    {"INQUIRY of another LUN from the host", {0, 0, 36, 36, 0, 0x3000, 0, JHARTUPAL_INQUIRY_OTHER_UNIT, 1, 0}, ILL},
+    {"READ CAPACITY from the host", {0, 0, 8, 8, 0, 0x3000, 0, JHARTUPAL_READ_CAPACITY, 1, 0}, ILL},
+    {"REQUEST SENSE from the host", {0, 0, 18, 18, 0, 0x3000, 0, JHARTUPAL_SENSE_NONE, 1, 0}, ILL},
+    {"REQUEST SENSE with 29h from the host", {0, 0, 18, 18, 0, 0x3000, 0, JHARTUPAL_SENSE_RESET, 1, 0}, ILL},
+    {"REQUEST SENSE with 2Fh from the host", {0, 0, 18, 18, 0, 0x3000, 0, JHARTUPAL_SENSE_CLEARED, 1, 0}, ILL},
+    {"REQUEST SENSE of another LUN from the host, awaited", {0, 0, 18, 18, 0, 0x3000, 0, JHARTUPAL_SENSE_OTHER_UNIT, 1, 1}, ILL},
+    {"a free place, whatever its direction", {0, 0, 0, 0, 0, 0x3000, 0, JHARTUPAL_FREE, 2, 2}, FINE},
+    /* a write, of a unit that may be written */
+    {"a WRITE, not asked for", {10, 4, 2048, 2048, 0, 0x3000, 0, JHARTUPAL_BLOCKS, 1, 0}, FINE},
+    {"a WRITE, awaited", {10, 4, 2048, 2048, 0, 0x3000, 0, JHARTUPAL_BLOCKS, 1, 1}, FINE},
+    {"a WRITE, awaited, a part has come", {10, 4, 2048, 2048, 7, 0x3000, 0, JHARTUPAL_BLOCKS, 1, 1}, FINE},
+    {"a WRITE, awaited 2", {10, 4, 2048, 2048, 7, 0x3000, 0, JHARTUPAL_BLOCKS, 1, 2}, ILL},
+    {"a WRITE, awaited FFh", {10, 4, 2048, 2048, 0, 0x3000, 0, JHARTUPAL_BLOCKS, 1, 0xFF}, ILL},
+    {"a WRITE, all has come", {10, 4, 2048, 2048, 2048, 0x3000, 0, JHARTUPAL_BLOCKS, 1, 0}, FINE},
+    {"a WRITE, all has come, awaited", {10, 4, 2048, 2048, 2048, 0x3000, 0, JHARTUPAL_BLOCKS, 1, 1}, ILL},
+    {"a WRITE, all but one has come, awaited", {10, 4, 2048, 2048, 2047, 0x3000, 0, JHARTUPAL_BLOCKS, 1, 1}, FINE},
+    {"a WRITE, more than all has come", {10, 4, 2048, 2048, 2049, 0x3000, 0, JHARTUPAL_BLOCKS, 1, 0}, ILL},
+    {"a WRITE, more than all has come, awaited", {10, 4, 2048, 2048, 2049, 0x3000, 0, JHARTUPAL_BLOCKS, 1, 1}, ILL},
+    {"a WRITE, all that FCP_DL lets come", {10, 4, 2048, 1001, 1001, 0x3000, 0, JHARTUPAL_BLOCKS, 1, 0}, FINE},
+    {"a WRITE, more than FCP_DL", {10, 4, 2048, 1001, 1002, 0x3000, 0, JHARTUPAL_BLOCKS, 1, 0}, ILL},
+    {"a WRITE, within a burst, not awaited", {10, 4, 2048, 2048, 512, 0x3000, 0, JHARTUPAL_BLOCKS, 1, 0}, ILL},
+    {"a WRITE, a frame counted", {10, 4, 2048, 2048, 512, 0x3000, 1, JHARTUPAL_BLOCKS, 1, 1}, ILL},
+    {"a WRITE, the frames of a READ counted", {10, 4, 2048, 2048, 512, 0x3000, 2, JHARTUPAL_BLOCKS, 1, 1}, ILL},
+    {"a WRITE, a burst has come", {10, 257, 131584, 131584, JHARTUPAL_MOST_BURST, 0x3000, 0, JHARTUPAL_BLOCKS, 1, 0}, FINE},
+    {"a WRITE, a burst has come, awaited", {10, 257, 131584, 131584, JHARTUPAL_MOST_BURST, 0x3000, 0, JHARTUPAL_BLOCKS, 1, 1}, FINE},
+    {"a WRITE, a burst but one byte, not awaited", {10, 257, 131584, 131584, JHARTUPAL_MOST_BURST - 1, 0x3000, 0, JHARTUPAL_BLOCKS, 1, 0}, ILL},
+    {"a WRITE, a byte past a burst, not awaited", {10, 257, 131584, 131584, JHARTUPAL_MOST_BURST + 1, 0x3000, 0, JHARTUPAL_BLOCKS, 1, 0}, ILL},
+    {"a WRITE, a byte past a burst, awaited", {10, 257, 131584, 131584, JHARTUPAL_MOST_BURST + 1, 0x3000, 0, JHARTUPAL_BLOCKS, 1, 1}, FINE},
+    {"a WRITE, FCP_DL 0", {10, 4, 2048, 0, 0, 0x3000, 0, JHARTUPAL_BLOCKS, 1, 0}, ILL},
+    {"a WRITE of no blocks", {10, 0, 0, 2048, 0, 0x3000, 0, JHARTUPAL_BLOCKS, 1, 0}, ILL},
+    {"a WRITE of 65,535 blocks", {10, JHARTUPAL_MOST_COUNT, MOST_WANTED, MOST_WANTED, 0, 0x3000, 0, JHARTUPAL_BLOCKS, 1, 1}, FINE},
+    {"a WRITE of 65,536 blocks", {10, JHARTUPAL_MOST_COUNT + 1, MOST_WANTED + JHARTUPAL_BLOCK, 2048, 0, 0x3000, 0, JHARTUPAL_BLOCKS, 1, 0}, ILL},
+    {"a WRITE: \"count x 512\", one more", {10, 4, 2049, 2048, 0, 0x3000, 0, JHARTUPAL_BLOCKS, 1, 0}, ILL},
+    {"a WRITE of the last block", {CAPACITY - 1, 1, JHARTUPAL_BLOCK, JHARTUPAL_BLOCK, 0, 0x3000, 0, JHARTUPAL_BLOCKS, 1, 1}, FINE},
+    {"a WRITE: \"address plus count above it\"", {CAPACITY - 3, 4, 2048, 2048, 0, 0x3000, 0, JHARTUPAL_BLOCKS, 1, 0}, ILL},
 };
 
 #define COUNT(table) (sizeof(table) / sizeof(table)[0])
@@ -232,6 +279,23 @@ static void exchange_rules(const struct jhartupal_drive *good) {
                 d.port.logins[i].places[j] = damages_of[k].e;
                 sees(damages_of[k].rule, i, j, &d, damages_of[k].fine);
             }
+        }
+    }
+}
+
+/* "WRITE(10) on units whose setup allows it" (02): an open write, at each place, of a unit that may be written or not; the READs of it stay. */
+static void read_only(const struct jhartupal_drive *good) {
+    static const struct jhartupal_exchange write = {10, 4, 2048, 2048, 0, 0x3000, 0, JHARTUPAL_BLOCKS, JHARTUPAL_FROM_HOST, 0};
+    struct jhartupal_drive d;
+    for (size_t i = 0; i < JHARTUPAL_LOGINS; i++) {
+        for (size_t j = 0; j < JHARTUPAL_PLACES; j++) {
+            memcpy(&d, good, sizeof d);
+            d.unit.writable = 0;
+            sees("a unit that may not be written, and reads of it", i, j, &d, FINE);
+            d.port.logins[i].places[j] = write;
+            sees("a write of a unit that may not be written", i, j, &d, ILL);
+            d.unit.writable = 1;
+            sees("a write of a unit that may be written", i, j, &d, FINE);
         }
     }
 }
@@ -335,6 +399,7 @@ void damages(void) {
     login_rules(&good, busy, COUNT(busy), true);
     login_rules(&good, idle, COUNT(idle), false);
     exchange_rules(&good);
+    read_only(&good);
     each_two(&good);
     each_two_names(&good);
     left_over(&good);

@@ -1,4 +1,4 @@
-/* "Well formed", written from the sentences of document 01 and of 02's request 1, and the readings of them: what the drive's own test is held to. */
+/* "Well formed", written from the sentences of document 01 and of 02's requests 1 and 2, and the readings of them: what the drive's own test is held to. */
 #include "check.h"
 
 /* "a low byte among FC-AL's 127 loop addresses, 00h excepted": the characters to EFh whose 8B/10B code has as many ones as zeros, which is
@@ -30,12 +30,12 @@ static bool words_pass(const uint8_t *words) {
         && w[77] != 0 && w[81] == 1;
 }
 
-/* "each exchange is one an accepted command could open": of the commands only READ(10) names blocks, and the others leave both fields 0 */
-static bool could_open(const struct jhartupal_exchange *e, uint64_t capacity) {
+/* "each exchange is one an accepted command could open": of the commands only READ(10) and WRITE(10) name blocks, and the others leave both fields 0 */
+static bool could_want(const struct jhartupal_exchange *e, uint64_t capacity) {
     bool no_blocks = e->start == 0 && e->blocks == 0;
     switch (e->kind) {
-    case JHARTUPAL_READ: /* READ(10): "address not below capacity, or address plus count above it" is refused; "count x 512" */
-        return 1 <= e->blocks && e->blocks <= JHARTUPAL_MOST_READ && e->wanted == JHARTUPAL_BLOCK * e->blocks && e->start < capacity && e->blocks <= capacity - e->start;
+    case JHARTUPAL_BLOCKS: /* READ(10), WRITE(10): "address not below capacity, or address plus count above it" is refused; "count x 512" */
+        return 1 <= e->blocks && e->blocks <= JHARTUPAL_MOST_COUNT && e->wanted == JHARTUPAL_BLOCK * e->blocks && e->start < capacity && e->blocks <= capacity - e->start;
     case JHARTUPAL_INQUIRY: /* INQUIRY: "36 or byte 4 if smaller", and so of another LUN */
     case JHARTUPAL_INQUIRY_OTHER_UNIT:
         return no_blocks && 1 <= e->wanted && e->wanted <= 36;
@@ -51,21 +51,38 @@ static bool could_open(const struct jhartupal_exchange *e, uint64_t capacity) {
     }
 }
 
-/* "with bytes sent at most its total and, short of it, a whole number of full frames"; and the frames counted modulo 65,536 */
-static bool sent_fits(const struct jhartupal_exchange *e, unsigned size) {
-    uint32_t total = e->wanted < e->expected ? e->wanted : e->expected;
-    uint32_t frame = size < JHARTUPAL_MOST_DATA ? size : JHARTUPAL_MOST_DATA;
-    uint32_t frames = e->sent / frame + (e->sent % frame != 0);
-    return 1 <= e->expected && e->sent <= total && (e->sent == total || e->sent % frame == 0) && e->count == (frames & 0xFFFF);
+/* "WRITE(10) on units whose setup allows it" (02): only its data come from the host */
+static bool could_open(const struct jhartupal_exchange *e, const struct jhartupal_unit *u) {
+    bool from_host = e->direction == JHARTUPAL_FROM_HOST && e->kind == JHARTUPAL_BLOCKS && u->writable == 1;
+    return 1 <= e->expected && could_want(e, u->capacity) && (e->direction == JHARTUPAL_TO_HOST || from_host);
 }
 
-static bool places_fit(const struct jhartupal_login *l, uint64_t capacity) {
+/* "with bytes sent at most its total and, short of it, a whole number of full frames"; and the frames counted modulo 65,536 */
+static bool sent_fits(const struct jhartupal_exchange *e, uint32_t total, unsigned size) {
+    uint32_t frame = size < JHARTUPAL_MOST_DATA ? size : JHARTUPAL_MOST_DATA;
+    uint32_t frames = e->sent / frame + (e->sent % frame != 0);
+    return e->awaited == 0 && e->sent <= total && (e->sent == total || e->sent % frame == 0) && e->count == (frames & 0xFFFF);
+}
+
+/* "next frames are FCP_XFER_RDY .. for the bytes left, 65,536 at most, nothing while data is awaited, then FCP_RSP" (02); the drive counts no frames of its own */
+static bool taken_fits(const struct jhartupal_exchange *e, uint32_t total) {
+    bool between = e->sent == total || e->sent % JHARTUPAL_MOST_BURST == 0;
+    return e->sent <= total && e->count == 0 && (e->awaited == 0 ? between : e->awaited == 1 && e->sent < total);
+}
+
+/* "the full-frame rule binds reads only" (02) */
+static bool moved_fits(const struct jhartupal_exchange *e, unsigned size) {
+    uint32_t total = e->wanted < e->expected ? e->wanted : e->expected;
+    return e->direction == JHARTUPAL_FROM_HOST ? taken_fits(e, total) : sent_fits(e, total, size);
+}
+
+static bool places_fit(const struct jhartupal_login *l, const struct jhartupal_unit *u) {
     for (size_t j = 0; j < JHARTUPAL_PLACES; j++) {
         const struct jhartupal_exchange *e = &l->places[j];
         if (e->kind == JHARTUPAL_FREE) {
             continue;
         }
-        if (l->used == 0 || l->paired == 0 || !could_open(e, capacity) || !sent_fits(e, l->size)) {
+        if (l->used == 0 || l->paired == 0 || !could_open(e, u) || !moved_fits(e, l->size)) {
             return false; /* "exchanges only at paired logins" */
         }
         for (size_t k = 0; k < j; k++) { /* "OX_IDs distinct within a login" */
@@ -91,12 +108,13 @@ static bool apart(const struct jhartupal_login *l, const struct jhartupal_login 
 
 bool well_formed(const struct jhartupal_drive *d) {
     const struct jhartupal_port *p = &d->port;
-    if (d->unit.capacity < JHARTUPAL_LEAST_BLOCKS || d->unit.capacity > JHARTUPAL_MOST_BLOCKS || !valid_address(p->address) || !words_pass(p->accept)) {
+    if (d->unit.capacity < JHARTUPAL_LEAST_BLOCKS || d->unit.capacity > JHARTUPAL_MOST_BLOCKS || d->unit.writable > 1 || !valid_address(p->address)
+        || !words_pass(p->accept)) {
         return false; /* "setup rules hold" */
     }
     for (size_t i = 0; i < JHARTUPAL_LOGINS; i++) {
         const struct jhartupal_login *l = &p->logins[i];
-        if (l->used > 1 || (l->used == 1 && !login_fits(l, p->address)) || !places_fit(l, d->unit.capacity)) {
+        if (l->used > 1 || (l->used == 1 && !login_fits(l, p->address)) || !places_fit(l, &d->unit)) {
             return false;
         }
         for (size_t k = 0; k < i; k++) {

@@ -1,4 +1,4 @@
-/* Frames to the drive and the replies that document 01 asks for, its sentences beside them; "000" has the layouts of the payloads. */
+/* Frames to the drive and the replies that documents 01 and 02 ask for, their sentences beside them; "000" has the layouts of the payloads. */
 #include "check.h"
 
 const uint8_t identity[JHARTUPAL_IDENTITY] = {'J',  'H',  'A',  'R',  'T',  'U',  'P',  'A',  'L',  0xC0, 0xC1, 0xC2, 0xC3, 0xC4,
@@ -152,6 +152,24 @@ struct frame reading(uint8_t host, uint16_t ox_id, uint32_t block, uint16_t coun
     return f;
 }
 
+/* WRITE(10): the same, with bit 0 of byte 11, "write" */
+struct frame writing(uint8_t host, uint16_t ox_id, uint32_t block, uint16_t count, uint32_t dl) {
+    struct frame f = reading(host, ox_id, block, count, dl);
+    f.b[35] = dl > 0 ? 0x01 : 0x00;
+    f.b[36] = 0x2A;
+    return f;
+}
+
+/* "The form rule admits (01h, 08h), with any SEQ_CNT and a fill count within its payload" (02); the last frame of a burst is marked here as none */
+struct frame sending(uint8_t host, uint16_t ox_id, uint16_t count, uint32_t offset, const uint8_t *bytes, size_t n) {
+    uint32_t fill = (uint32_t)((4 - n % 4) % 4);
+    struct frame f = head(0x01, 0x08, 0x000008 + fill, 0x02, OWN, host, ox_id, n + fill);
+    put(f.b + 14, count, 2);
+    put(f.b + 20, offset, 4);
+    memcpy(f.b + 24, bytes, n);
+    return f;
+}
+
 /* "Replies: addresses swapped, OX_ID echoed, RX_ID FFFFh, the rest 0" */
 static struct frame back(const struct frame *f, uint8_t r_ctl, uint8_t type, uint32_t f_ctl, uint8_t seq_id, size_t payload) {
     return head(r_ctl, type, f_ctl, seq_id, f->b[7], f->b[3], (uint16_t)(f->b[16] << 8 | f->b[17]), payload);
@@ -221,6 +239,23 @@ struct frame response(const struct frame *f, uint8_t flags, uint32_t size) {
     struct frame r = back(f, 0x07, 0x08, 0x990000, 0x00, 24);
     r.b[34] = flags;
     put(r.b + 36, size, 4);
+    return r;
+}
+
+/* "FCP_XFER_RDY (R_CTL 05h, F_CTL 890000, 12 bytes: offset, burst, zero)" (02) */
+struct frame transfer_ready(const struct frame *f, uint32_t offset, uint32_t burst) {
+    struct frame r = back(f, 0x05, 0x08, 0x890000, 0x00, 12);
+    put(r.b + 24, offset, 4);
+    put(r.b + 28, burst, 4);
+    return r;
+}
+
+/* "20 response length, then 8 bytes with the code at 3 (flag 01h)" */
+struct frame fault(const struct frame *f, uint8_t code) {
+    struct frame r = back(f, 0x07, 0x08, 0x990000, 0x00, 32);
+    r.b[34] = 0x01;
+    r.b[47] = 8;
+    r.b[51] = code;
     return r;
 }
 

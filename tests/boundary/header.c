@@ -1,4 +1,4 @@
-/* The numbers of the header, each beside the one that document 01 gives, written out by hand: every other file here uses the names alone. */
+/* The numbers of the header, each beside the one that documents 01 and 02 give, written out by hand: every other file here uses the names alone. */
 #include "check.h"
 
 struct number {
@@ -11,7 +11,7 @@ struct number {
 static const struct number numbers[] = {
     /* the base is 1.0, and each request of document 02 is the next minor number */
     NUMBER(VERSION_MAJOR, 1),
-    NUMBER(VERSION_MINOR, 1),
+    NUMBER(VERSION_MINOR, 2),
     /* "Numbers returned for refused calls" */
     NUMBER(SHORT_BUFFER, 1),
     NUMBER(ILL_FORMED, 2),
@@ -23,6 +23,7 @@ static const struct number numbers[] = {
     NUMBER(BAD_SETUP, 8),
     NUMBER(NO_EXCHANGE, 9),
     NUMBER(BAD_WINDOW, 10),
+    NUMBER(NO_WRITE, 11), /* 02, request 2: "11, data frame for no open write" */
     /* "reply buffer under 2,136 bytes", "frame not 24 to 2,136 bytes" */
     NUMBER(REPLY, 2136),
     NUMBER(LEAST_FRAME, 24),
@@ -33,9 +34,10 @@ static const struct number numbers[] = {
     NUMBER(BLOCK, 512),
     NUMBER(IDENTITY, 28),
     NUMBER(ACCEPT, 28 * 4),
-    /* a READ(10)'s count has 16 bits; "at most 65,536 bytes"; "the login's W18 size, 2,048 at most" */
-    NUMBER(MOST_READ, 65535),
+    /* a READ(10)'s or WRITE(10)'s count has 16 bits; "at most 65,536 bytes"; 02: "the bytes left, 65,536 at most"; "the login's W18 size, 2,048 at most" */
+    NUMBER(MOST_COUNT, 65535),
     NUMBER(MOST_WINDOW, 65536),
+    NUMBER(MOST_BURST, 65536),
     NUMBER(MOST_DATA, 2048),
     /* "from 256 to 2,112"; "8 logins at most, each with 8 places"; "names as eight-byte arrays" */
     NUMBER(LEAST_SIZE, 256),
@@ -47,9 +49,9 @@ static const struct number numbers[] = {
     NUMBER(NO_ATTENTION, 0),
     NUMBER(RESET, 0x29),
     NUMBER(CLEARED, 0x2F),
-    /* 01 gives these no numbers: the library's own, of `wantedFits` (crates/formed/specs) and `codeOf` (crates/boundary/specs) */
+    /* the documents give these no numbers: the library's own, of `wantedFits` and `directionFits` (crates/formed/specs) and `codeOf` (crates/boundary/specs) */
     NUMBER(FREE, 0),
-    NUMBER(READ, 1),
+    NUMBER(BLOCKS, 1),
     NUMBER(INQUIRY, 2),
     NUMBER(INQUIRY_OTHER_UNIT, 3),
     NUMBER(READ_CAPACITY, 4),
@@ -57,10 +59,12 @@ static const struct number numbers[] = {
     NUMBER(SENSE_RESET, 6),
     NUMBER(SENSE_CLEARED, 7),
     NUMBER(SENSE_OTHER_UNIT, 8),
+    NUMBER(TO_HOST, 0),
+    NUMBER(FROM_HOST, 1),
     NUMBER(REFUSED, 65536),
     /* what bench/stack reckons for either library, rounded up */
     NUMBER(STACK_MAKE, 5632),
-    NUMBER(STACK_FRAME, 2816),
+    NUMBER(STACK_FRAME, 4224),
     NUMBER(STACK_NEXT, 2560),
     NUMBER(STACK_EVENT, 1280),
 };

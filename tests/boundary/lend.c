@@ -84,9 +84,9 @@ bool same(const struct jhartupal_drive *one, const struct jhartupal_drive *other
 
 /* Each ends where memory begins that nobody may touch. */
 enum { GUARD = 64, GUARD_BYTE = 0xC3, SMALL = PAGE, LARGE = 2 * PAGE };
-static uint8_t *drive_end, *in_end, *reply_end;
+static uint8_t *drive_end, *in_end, *window_end, *reply_end;
 static uint8_t pattern[MOST_ROOM], guards[GUARD];
-const uint8_t *reply;
+const uint8_t *reply, *window_left;
 
 static uint8_t *area(size_t n) {
     uint8_t *at = mmap(0, n + PAGE, READ_WRITE, PRIVATE_MEMORY, -1, 0);
@@ -100,6 +100,7 @@ static uint8_t *area(size_t n) {
 void lend_start(void) {
     drive_end = area(SMALL);
     in_end = area(LARGE);
+    window_end = area(LARGE);
     reply_end = area(SMALL);
     memset(guards, GUARD_BYTE, sizeof guards);
     for (size_t i = 0; i < sizeof pattern; i++) {
@@ -134,7 +135,7 @@ struct call {
 };
 static const struct call make_call = {"jhartupal_make", OF_MAKE, 0, 0, false};
 static const struct call frame_call = {"jhartupal_frame", OF_FRAME, 0, 24 + 4 + JHARTUPAL_ACCEPT, true};
-static const struct call next_call = {"jhartupal_next", OF_NEXT, 28, 24 + JHARTUPAL_MOST_DATA, true};
+static const struct call next_call = {"jhartupal_next", OF_NEXT, 0, 24 + JHARTUPAL_MOST_DATA, true};
 static const struct call event_calls[] = {
     {"jhartupal_loop_reset", OF_EVENT, 0, 0, false}, {"jhartupal_time_over", OF_EVENT, 0, 0, false}, {"jhartupal_power_on", OF_EVENT, 0, 0, false}};
 
@@ -164,9 +165,9 @@ static uint64_t told(const struct call *c, unsigned long long said, struct jhart
     return said;
 }
 
-uint64_t make(struct jhartupal_drive *d, uint64_t capacity, uint32_t address, const uint8_t *id, const uint8_t *words) {
+uint64_t make(struct jhartupal_drive *d, uint64_t capacity, uint32_t address, const uint8_t *id, const uint8_t *words, uint8_t writable) {
     struct jhartupal_drive *lent = lend_drive(d);
-    struct jhartupal_setup setup = {.capacity = capacity, .address = address};
+    struct jhartupal_setup setup = {.capacity = capacity, .address = address, .writable = writable};
     memcpy(setup.identity, id, JHARTUPAL_IDENTITY);
     memcpy(setup.accept, words, JHARTUPAL_ACCEPT);
     uint64_t said = jhartupal_make(lent, (const struct jhartupal_setup *)(const void *)lend(in_end, &setup, sizeof setup));
@@ -174,15 +175,28 @@ uint64_t make(struct jhartupal_drive *d, uint64_t capacity, uint32_t address, co
     return told(&make_call, said, d, 0);
 }
 
-uint64_t frame_in(struct jhartupal_drive *d, const uint8_t *bytes, size_t n, size_t room) {
+uint64_t frame_with(struct jhartupal_drive *d, const uint8_t *bytes, size_t n, const struct window *w, size_t room) {
     struct jhartupal_drive *lent = lend_drive(d), before = *d;
-    uint64_t said = jhartupal_frame(lent, lend(in_end, bytes, n), n, lend(reply_end, pattern, room), room);
+    uint64_t said = jhartupal_frame(lent, lend(in_end, bytes, n), n, w->start, lend(window_end, w->bytes, w->n), w->n, lend(reply_end, pattern, room), room);
+    window_left = window_end - w->n;
     promise(untouched(in_end, bytes, n), "jhartupal_frame: the frame is changed");
+    promise(guarded(window_end, w->n), "jhartupal_frame: wrote before the window");
+    promise((said == 0 && bytes[0] == 0x01) || memcmp(window_left, w->bytes, w->n) == 0, "jhartupal_frame: answers %llu and the window is changed", (unsigned long long)said);
     told(&frame_call, said, d, room);
     if (said < JHARTUPAL_REFUSED) {
         frame_told(&before, d, bytes, said);
     }
+    if (n > 0 && bytes[0] == 0x01 && (said < JHARTUPAL_REFUSED || said == JHARTUPAL_REFUSED + JHARTUPAL_NO_WRITE || said == JHARTUPAL_REFUSED + JHARTUPAL_BAD_WINDOW)) {
+        data_told(&before, d, bytes, n, w, said);
+    } else {
+        promise(said != JHARTUPAL_REFUSED + JHARTUPAL_NO_WRITE && said != JHARTUPAL_REFUSED + JHARTUPAL_BAD_WINDOW, "jhartupal_frame: answers %llu, and it is no data frame",
+                (unsigned long long)said);
+    }
     return said;
+}
+
+uint64_t frame_in(struct jhartupal_drive *d, const uint8_t *bytes, size_t n, size_t room) {
+    return frame_with(d, bytes, n, &(struct window){0, identity, 0}, room);
 }
 
 uint64_t next_out(struct jhartupal_drive *d, uint32_t address, uint16_t ox_id, uint64_t start, const uint8_t *bytes, size_t n, size_t room) {

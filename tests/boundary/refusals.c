@@ -17,19 +17,22 @@ static void setups(void) {
     uint8_t words[4 + JHARTUPAL_ACCEPT];
     struct jhartupal_drive d;
     full(&d);
-    refused("capacity 0", make(&d, JHARTUPAL_LEAST_BLOCKS - 1, OWN, identity, accept_words()), JHARTUPAL_BAD_SETUP);
-    refused("capacity 2^32", make(&d, JHARTUPAL_MOST_BLOCKS + 1, OWN, identity, accept_words()), JHARTUPAL_BAD_SETUP);
-    refused("capacity 2^64 - 1", make(&d, UINT64_MAX, OWN, identity, accept_words()), JHARTUPAL_BAD_SETUP);
+    refused("capacity 0", make(&d, JHARTUPAL_LEAST_BLOCKS - 1, OWN, identity, accept_words(), 1), JHARTUPAL_BAD_SETUP);
+    refused("capacity 2^32", make(&d, JHARTUPAL_MOST_BLOCKS + 1, OWN, identity, accept_words(), 1), JHARTUPAL_BAD_SETUP);
+    refused("capacity 2^64 - 1", make(&d, UINT64_MAX, OWN, identity, accept_words(), 1), JHARTUPAL_BAD_SETUP);
     for (size_t i = 0; i < sizeof addresses / sizeof addresses[0]; i++) {
-        refused("own address", make(&d, 100, addresses[i], identity, accept_words()), JHARTUPAL_BAD_SETUP);
+        refused("own address", make(&d, 100, addresses[i], identity, accept_words(), 1), JHARTUPAL_BAD_SETUP);
     }
     for (size_t i = 0; i < sizeof broken / sizeof broken[0]; i++) {
         memcpy(words + 4, accept_words(), JHARTUPAL_ACCEPT);
         put(words + broken[i].at, broken[i].value, broken[i].n);
-        refused(broken[i].name, make(&d, 100, OWN, identity, words + 4), JHARTUPAL_BAD_SETUP);
+        refused(broken[i].name, make(&d, 100, OWN, identity, words + 4, 1), JHARTUPAL_BAD_SETUP);
     }
-    check(make(&d, JHARTUPAL_LEAST_BLOCKS, 0x01, identity, accept_words()) == 0 && d.unit.capacity == JHARTUPAL_LEAST_BLOCKS
-              && d.port.address == 0x01,
+    refused("writable 2", make(&d, 100, OWN, identity, accept_words(), 2), JHARTUPAL_BAD_SETUP);
+    refused("writable FFh", make(&d, 100, OWN, identity, accept_words(), 0xFF), JHARTUPAL_BAD_SETUP);
+    check(make(&d, 100, OWN, identity, accept_words(), 0) == 0 && d.unit.writable == 0, "a drive that may not be written is made");
+    check(make(&d, JHARTUPAL_LEAST_BLOCKS, 0x01, identity, accept_words(), 1) == 0 && d.unit.capacity == JHARTUPAL_LEAST_BLOCKS
+              && d.unit.writable == 1 && d.port.address == 0x01,
           "a drive of one block is made");
 }
 
@@ -42,7 +45,7 @@ static void breaks(struct jhartupal_drive *d, const char *what, struct frame f, 
     refused(what, take(d, &f), number);
 }
 
-/* "Frame in: 1 to 7 in order" */
+/* "Frame in: 1 to 7 in order", then 11, then 10 (02, request 2) */
 static void frames(void) {
     static const size_t sizes[] = {0, 1, JHARTUPAL_LEAST_FRAME - 4, JHARTUPAL_LEAST_FRAME - 1, JHARTUPAL_LEAST_FRAME + 1, JHARTUPAL_LEAST_FRAME + 2,
                                    JHARTUPAL_LEAST_FRAME + 3, JHARTUPAL_MOST_FRAME + 1, JHARTUPAL_MOST_FRAME + 2, JHARTUPAL_MOST_FRAME + 3, JHARTUPAL_MOST_FRAME + 4};
@@ -76,6 +79,47 @@ static void frames(void) {
     breaks(&d, "PRLI, unproven", prli(hosts[1]), JHARTUPAL_UNPROVEN);
     breaks(&d, "ABTS, unproven", abts(hosts[2], 0x1000), JHARTUPAL_UNPROVEN);
     breaks(&d, "an answer, unproven", answer_frame(hosts[7]), JHARTUPAL_UNPROVEN);
+    breaks(&d, "data, unproven", sending(hosts[0], 0x0999, 0, 0, identity, 4), JHARTUPAL_UNPROVEN);
+}
+
+/* A frame of data with a window of so many bytes from a block on. */
+static void data_breaks(struct jhartupal_drive *d, const char *what, struct frame f, uint64_t start, size_t n, enum jhartupal_refusal number) {
+    refused(what, frame_with(d, f.b, f.n, &(struct window){start, unit_bytes(0, TOO_LONG), n}, ROOM), number);
+}
+
+/* "The form rule admits (01h, 08h), with any SEQ_CNT and a fill count within its payload"; "11, data frame for no open write, after 7; then 10 for its window" */
+static void datas(void) {
+    struct jhartupal_drive d, only;
+    struct frame open = writing(hosts[0], 0x2000, 10, 4, 2048), none = sending(hosts[0], 0x2000, 0, 0, identity, 0), four = sending(hosts[0], 0x2000, 7, 0, identity, 4);
+    made(&d, 100);
+    paired(&d, hosts[0], JHARTUPAL_LEAST_SIZE);
+    paired(&d, hosts[1], JHARTUPAL_LEAST_SIZE);
+    data_breaks(&d, "01h with TYPE 00h", with(four, 8, 0x00), 10, 512, JHARTUPAL_UNKNOWN_FORM);
+    data_breaks(&d, "01h with DF_CTL", with(four, 13, 0x10), 10, 512, JHARTUPAL_UNKNOWN_FORM);
+    for (uint8_t fill = 1; fill <= 3; fill++) {
+        data_breaks(&d, "01h, more fill than payload", with(none, 11, fill), 10, 512, JHARTUPAL_UNKNOWN_FORM);
+        data_breaks(&d, "01h, less fill than payload, no exchange", with(four, 11, fill), 10, 512, JHARTUPAL_NO_WRITE);
+    }
+    data_breaks(&d, "data of no login", sending(0x1B, 0x2000, 0, 0, identity, 4), 10, TOO_LONG, JHARTUPAL_NO_WRITE);
+    data_breaks(&d, "data of no exchange", four, 10, TOO_LONG, JHARTUPAL_NO_WRITE);
+    take(&d, &open);
+    data_breaks(&d, "data of another's exchange", sending(hosts[1], 0x2000, 0, 0, identity, 4), 10, TOO_LONG, JHARTUPAL_NO_WRITE);
+    data_breaks(&d, "data of another OX_ID", sending(hosts[0], 0x2001, 0, 0, identity, 4), 10, TOO_LONG, JHARTUPAL_NO_WRITE);
+    check(next_out(&d, hosts[0], 0x2000, 0, identity, 0, ROOM) == 36, "WRITE: FCP_XFER_RDY");
+    data_breaks(&d, "data, a window of 65,537", four, 10, TOO_LONG, JHARTUPAL_BAD_WINDOW);
+    data_breaks(&d, "data, an empty window", four, 10, 0, JHARTUPAL_BAD_WINDOW);
+    data_breaks(&d, "data, a window a byte too short", four, 10, 3, JHARTUPAL_BAD_WINDOW);
+    data_breaks(&d, "data, a window from the block after", four, 11, 2048, JHARTUPAL_BAD_WINDOW);
+    data_breaks(&d, "data, a window that ends before", four, 9, JHARTUPAL_BLOCK, JHARTUPAL_BAD_WINDOW);
+    data_breaks(&d, "data, a window from the last block of 64 bits", four, UINT64_MAX, JHARTUPAL_MOST_WINDOW, JHARTUPAL_BAD_WINDOW);
+    data_breaks(&d, "no data, a window from the block after", none, 11, 2048, JHARTUPAL_BAD_WINDOW);
+    open = reading(hosts[0], 0x2002, 10, 4, 2048);
+    take(&d, &open);
+    data_breaks(&d, "data of a READ", sending(hosts[0], 0x2002, 0, 0, identity, 4), 10, TOO_LONG, JHARTUPAL_NO_WRITE);
+    memset(&only, 0, sizeof only);
+    check(make(&only, 100, OWN, identity, accept_words(), 0) == 0, "a drive that may not be written");
+    paired(&only, hosts[0], JHARTUPAL_LEAST_SIZE);
+    data_breaks(&only, "data to a unit that may not be written", four, 10, 512, JHARTUPAL_NO_WRITE);
 }
 
 /* "Next frame out: 1, 2, 9, 7, 10" */
@@ -137,6 +181,7 @@ static void no_drive(void) {
 void refusals(void) {
     setups();
     frames();
+    datas();
     nexts();
     one_name_twice();
     no_drive();

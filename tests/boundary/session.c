@@ -22,7 +22,7 @@ static void silent(const char *what, uint64_t said) {
 
 void made(struct jhartupal_drive *d, uint64_t capacity) {
     memset(d, 0xEE, sizeof *d);
-    silent("jhartupal_make", make(d, capacity, OWN, identity, accept_words()));
+    silent("jhartupal_make", make(d, capacity, OWN, identity, accept_words(), 1));
 }
 
 void paired(struct jhartupal_drive *d, uint8_t host, uint16_t size) {
@@ -55,6 +55,7 @@ static void stored(void) {
     memset(&wanted, 0, sizeof wanted);
     wanted.unit.capacity = CAPACITY;
     memcpy(wanted.unit.identity, identity, sizeof identity);
+    wanted.unit.writable = 1;
     wanted.port.address = OWN;
     memcpy(wanted.port.accept, accept_words(), JHARTUPAL_ACCEPT);
     check(same(&d, &wanted), "jhartupal_make: stores its setup, and no logins");
@@ -72,7 +73,7 @@ static void stored(void) {
 /* The exchange that is open at a login's first place. */
 static void stands(const char *what, const struct jhartupal_exchange *e, uint64_t start, uint32_t blocks, uint32_t expected, uint32_t sent, unsigned count) {
     check(e->start == start && e->blocks == blocks && e->wanted == JHARTUPAL_BLOCK * blocks && e->expected == expected && e->sent == sent && e->ox_id == 0x0B01
-              && e->count == count && e->kind == JHARTUPAL_READ,
+              && e->count == count && e->kind == JHARTUPAL_BLOCKS && e->direction == JHARTUPAL_TO_HOST && e->awaited == 0,
           "%s: after %u bytes in %u frames the exchange is %llu, %u, %u, %u, %u, %04X, %u, %u", what, sent, count, (unsigned long long)e->start, e->blocks, e->wanted,
           e->expected, e->sent, e->ox_id, e->count, e->kind);
 }
@@ -207,8 +208,8 @@ static struct frame first_data(uint8_t host, unsigned place) {
 
 /* Every place of every login: what the drive stores there, and that the next frame of an exchange moves it alone. */
 static void every_place(void) {
-    static const uint8_t kinds[JHARTUPAL_PLACES] = {JHARTUPAL_READ,          JHARTUPAL_READ,       JHARTUPAL_INQUIRY,          JHARTUPAL_INQUIRY_OTHER_UNIT,
-                                                  JHARTUPAL_READ_CAPACITY, JHARTUPAL_SENSE_NONE, JHARTUPAL_SENSE_OTHER_UNIT, JHARTUPAL_READ};
+    static const uint8_t kinds[JHARTUPAL_PLACES] = {JHARTUPAL_BLOCKS,        JHARTUPAL_BLOCKS,     JHARTUPAL_INQUIRY,          JHARTUPAL_INQUIRY_OTHER_UNIT,
+                                                  JHARTUPAL_READ_CAPACITY, JHARTUPAL_SENSE_NONE, JHARTUPAL_SENSE_OTHER_UNIT, JHARTUPAL_BLOCKS};
     static const uint32_t wanted[JHARTUPAL_PLACES] = {2048, 2048, 36, 36, 8, 18, 18, 2048};
     struct jhartupal_drive d, after;
     full(&d);
@@ -219,7 +220,7 @@ static void every_place(void) {
             struct frame g = first_data(hosts[i], j);
             uint64_t block = e->start;
             check(e->kind == kinds[j] && e->ox_id == 0x1000 + j && e->wanted == wanted[j] && e->expected == wanted[j] && e->sent == 0 && e->count == 0
-                      && e->start == (kinds[j] == JHARTUPAL_READ ? ACROSS + hosts[i] + j : 0) && e->blocks == (kinds[j] == JHARTUPAL_READ ? 4 : 0),
+                      && e->start == (kinds[j] == JHARTUPAL_BLOCKS ? ACROSS + hosts[i] + j : 0) && e->blocks == (kinds[j] == JHARTUPAL_BLOCKS ? 4 : 0),
                   "exchange %u of login %zu stands at its place", j, i);
             memcpy(&after, &d, sizeof d);
             replies("one of 64", next_out(&after, hosts[i], e->ox_id, block, unit_bytes(block, JHARTUPAL_LEAST_SIZE), JHARTUPAL_LEAST_SIZE, ROOM), &g);

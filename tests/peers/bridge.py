@@ -54,7 +54,7 @@ class Bridge:
             if time.time() >= self.beacon:
                 self.beacon = time.time() + BEACON_TIME
                 self.fip(ALL_VN2VN, PORT_MAC, VN2VN, BEACON, who_we_are())
-            ready = [exchange for exchange in self.port.open if not self.plan.held(exchange)]
+            ready = [exchange for exchange, going in self.port.open.items() if not going.waits and not self.plan.held(exchange)]
             patience = self.plan.patience if ready else max(0.0, min(self.beacon - time.time(), 0.2))
             if select.select([self.wire], [], [], patience)[0]:
                 try:
@@ -111,7 +111,10 @@ class Bridge:
             return
         self.host = e[6:12]
         self.plan.arriving(f, self.port)
-        self.send_fc(self.port.arrives(f))
+        if self.plan.lost(f):
+            self.port.note("lost", f.hex())
+        else:
+            self.send_fc(self.port.arrives(f))
 
     def send_fc(self, f):
         """A frame of the drive: SOF and EOF by its place in the sequence."""

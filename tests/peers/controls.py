@@ -5,17 +5,17 @@ from tshark import WHOLE, as_frames, as_iscsi, decoded
 # The payload bytes that tshark looks at in each kind of reply, and the bits of those that it looks at in part. The others are left to vectors.
 SEEN = {
     "ACC of 4 bytes": "0", "ACC of 20 bytes": "0-6 8-15 18-19", "ACC of 28 bytes": "0 5-23 25-27", "ACC of 116 bytes": "0 6-37 52-53 68-81 84-85 100-115",
-    "LS_RJT": "0 5-7", "LOGO": "0 5-15", "BA_ACC": "0-1 4-11", "BA_RJT": "1-3", "FCP_DATA": "", "FCP_RSP 00": "8-11", "FCP_RSP 04": "8-15",
+    "LS_RJT": "0 5-7", "LOGO": "0 5-15", "BA_ACC": "0-1 4-11", "BA_RJT": "1-3", "FCP_DATA": "", "XFER_RDY": "0-7", "FCP_RSP 00": "8-11", "FCP_RSP 04": "8-15",
     "FCP_RSP 08": "8-15", "FCP_RSP 01": "8-11 20-23 27", "FCP_RSP 02": "8-19 24 26-41", "FCP_RSP 0A": "8-19 24 26-41",
 }
-LENGTH_UNSEEN = ("FCP_DATA", "FCP_RSP 00", "FCP_RSP 01", "FCP_RSP 04", "FCP_RSP 08")
+LENGTH_UNSEEN = ("FCP_DATA", "XFER_RDY", "FCP_RSP 00", "FCP_RSP 01", "FCP_RSP 04", "FCP_RSP 08")
 PARTLY = {24: 0x7F, 26: 0x0F, 39: 0x7F}  # of sense: its first byte, the key, SKSV
 
 
 def kind(f):
     if f[0] == 0x23:
         return "LS_RJT" if f[24] == 0x01 else "ACC of %d bytes" % (len(f) - 24)
-    return "FCP_RSP %02X" % f[34] if f[0] == 0x07 else {0x22: "LOGO", 0x84: "BA_ACC", 0x85: "BA_RJT", 0x01: "FCP_DATA"}[f[0]]
+    return "FCP_RSP %02X" % f[34] if f[0] == 0x07 else {0x22: "LOGO", 0x84: "BA_ACC", 0x85: "BA_RJT", 0x01: "FCP_DATA", 0x05: "XFER_RDY"}[f[0]]
 
 
 def places(text):

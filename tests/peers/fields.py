@@ -1,4 +1,4 @@
-"""The fields of the drive's frames, read off the bytes by document 01's layout ("01") and named and written as tshark does."""
+"""The fields of the drive's frames, read off the bytes by the layout of documents 01 ("01") and 02, and named and written as tshark does."""
 from port import number
 
 
@@ -91,12 +91,14 @@ def response(p):
 
 
 def fields(f):
-    """All of a frame of the drive."""
+    """All of a frame of the drive, or of data of the host, which has a header alone."""
     found = header(f)
     if f[8] == 0x01:
         found.update(service(f[24:]))
     elif f[8] == 0x00:
         found.update(aborted(f))
+    elif f[0] == 0x05:  # 02, 2: "12 bytes: offset, burst, zero"
+        found.update({"fcp.data_ro": str(number(f[24:28])), "fcp.burstlen": str(number(f[28:32]))})
     elif f[0] == 0x07:
         found.update(response(f[24:]))
     return found

@@ -11,8 +11,9 @@ def number(field):
 
 
 def delimited(f, crc=None):
-    """A frame between its delimiters; they say whether it is the first and the last of its sequence."""
-    first, last = f[14:16] == bytes(2) and (f[0] != 0x01 or f[20:24] == bytes(4)), f[9] & 0x08
+    """A frame between its delimiters; they say whether it is the first and the last of its sequence. The drive's SEQ_CNT goes round within one of data."""
+    of_drive = f[0] == 0x01 and f[9] & 0x80
+    first, last = f[14:16] == bytes(2) and (not of_drive or f[20:24] == bytes(4)), f[9] & 0x08
     return (struct.pack(">I", SOF_FIRST if first else SOF_NEXT) + f + struct.pack("<I", zlib.crc32(f) if crc is None else crc)
             + struct.pack(">I", EOF_LAST if last else EOF_NEXT))
 

@@ -7,12 +7,14 @@
 #include <string.h>
 
 enum { HEAD = 5, MOST_BODY = 70000, MOST_ROOM = 4096, FILL = 0x5A };
-enum { SETUP_BODY = 152, FRAME_BODY = 2, NEXT_BODY = 16, EVENT_BODY = 1 }; /* a body's bytes at least: a frame or a window may have none */
+enum { SETUP_BODY = 153, FRAME_BODY = 2, DATA_BODY = 12, NEXT_BODY = 16, EVENT_BODY = 1 }; /* a body's bytes at least: a frame or a window may have none */
 #define NO_CALL (JHARTUPAL_REFUSED + UINT64_C(255)) /* answered as a refusal is */
 
 static struct jhartupal_drive drive;
 static bool made;
 static uint8_t body[MOST_BODY], lent[MOST_ROOM];
+static const uint8_t *window; /* what is told of a window after the call, and how many bytes */
+static size_t length;
 
 /* A number of n bytes, big-endian. */
 static uint64_t number(const uint8_t *at, size_t n) {
@@ -34,6 +36,7 @@ static uint64_t setup_call(size_t n) {
     setup.address = (uint32_t)number(body + 8, 4);
     memcpy(setup.identity, body + 12, sizeof setup.identity);
     memcpy(setup.accept, body + 40, sizeof setup.accept);
+    setup.writable = body[152];
     said = jhartupal_make(&drive, &setup);
     made = made || said == 0;
     return said;
@@ -44,7 +47,19 @@ static uint64_t frame_call(size_t n) {
     if (n < FRAME_BODY || room > MOST_ROOM || !made) {
         return NO_CALL;
     }
-    return jhartupal_frame(&drive, body + FRAME_BODY, n - FRAME_BODY, lent, room);
+    return jhartupal_frame(&drive, body + FRAME_BODY, n - FRAME_BODY, 0, body, 0, lent, room);
+}
+
+/* A frame with a window, which is told after the answer, refused or not. */
+static uint64_t data_call(size_t n) {
+    size_t room = (size_t)number(body, 2), size = (size_t)number(body + 10, 2);
+    uint64_t start = number(body + 2, 8);
+    if (n < DATA_BODY || size > n - DATA_BODY || room > MOST_ROOM || !made) {
+        return NO_CALL;
+    }
+    window = body + DATA_BODY + size;
+    length = n - DATA_BODY - size;
+    return jhartupal_frame(&drive, body + DATA_BODY, size, start, body + DATA_BODY + size, length, lent, room);
 }
 
 static uint64_t next_call(size_t n) {
@@ -80,6 +95,8 @@ static uint64_t call(uint8_t letter, size_t n) {
         return setup_call(n);
     case 'F':
         return frame_call(n);
+    case 'D':
+        return data_call(n);
     case 'N':
         return next_call(n);
     case 'E':
@@ -111,7 +128,7 @@ static bool answer(uint64_t said) {
     line[2] = (uint8_t)n;
     memcpy(line + 3, lent, n);
     line[3 + n] = filled_from(n);
-    return fwrite(line, 1, n + 4, stdout) == n + 4 && fflush(stdout) == 0;
+    return fwrite(line, 1, n + 4, stdout) == n + 4 && fwrite(window, 1, length, stdout) == length && fflush(stdout) == 0;
 }
 
 /* Reads a body of n bytes, of one that is too long its end alone, and answers whether all of it was there. */
@@ -138,6 +155,8 @@ static bool record(unsigned long long which, bool *failed) {
         return false;
     }
     memset(lent, FILL, sizeof lent);
+    window = body;
+    length = 0;
     *failed = !answer(n > MOST_BODY ? NO_CALL : call(head[0], (size_t)n));
     return !*failed;
 }

@@ -31,6 +31,8 @@ mod setup;
 mod side;
 mod table;
 mod time;
+#[path = "../../../tests/model/src/write.rs"]
+mod write;
 
 use time::{Lent, Timed};
 

@@ -1,7 +1,9 @@
 //! What is timed: a state, and a call on it.
 use crate::drive::Event;
 use crate::rule;
-use crate::scene::{logo, plogi, plogi_as, read, target_reset, test_unit_ready, unknown, Both, Call, HOSTS, NEW, ROOM};
+use crate::scene::{
+    data, logo, plogi, plogi_as, read, target_reset, test_unit_ready, unknown, write, Both, Call, BLOCK, HOSTS, NEW, ROOM,
+};
 use crate::side::REFUSED;
 
 pub struct Row {
@@ -12,14 +14,15 @@ pub struct Row {
     pub rounds: usize,
     /// what each of them answers
     pub answer: u64,
-    /// bytes of data in the reply
+    /// bytes of data in the reply, or in the frame
     pub data: usize,
 }
 
-/// Rounds of a call that leaves the state as it is, or a READ with frames to spare.
+/// Rounds of a call that leaves the state as it is, or a READ or WRITE with frames to spare: a burst of 2,048 bytes a frame.
 pub const MANY: usize = 32;
 const SHORT: usize = ROOM - 1;
 const READ: u16 = 0x1000;
+const WRITE: u16 = 0x1000;
 
 impl Row {
     fn new(name: &'static str, from: Both, call: Call, rounds: usize, answer: u64) -> Row {
@@ -29,6 +32,11 @@ impl Row {
     /// A data frame of a READ of 256 blocks.
     fn data(name: &'static str, from: Both, data: usize) -> Row {
         Row { data, ..Row::new(name, from, Call::next(READ), MANY, 24 + data as u64) }
+    }
+
+    /// Data frames of a WRITE of 256 blocks.
+    fn data_in(name: &'static str, from: Both, data: usize) -> Row {
+        Row { data, ..Row::new(name, from, Call::data(WRITE, data, MANY), MANY, 0) }
     }
 
     fn refused(name: &'static str, from: Both, call: Call, number: u64) -> Row {
@@ -44,8 +52,8 @@ impl Row {
     pub fn check(&self) {
         let mut both = self.from.clone();
         assert_eq!(rule::well_formed(&both.drive.unit, &both.drive.port), !self.is_ill_formed(), "{}", self.name);
-        for _ in 0..self.rounds {
-            assert_eq!(both.does(&self.call), self.answer, "{}", self.name);
+        for i in 0..self.rounds {
+            assert_eq!(both.does_round(&self.call, i), self.answer, "{}", self.name);
         }
     }
 }
@@ -68,6 +76,16 @@ fn sent() -> Both {
     one.after(&Call::next(READ))
 }
 
+/// One login with a WRITE open.
+fn writing(size: u16) -> Both {
+    Both::one(size).after(&Call::frame(write(HOSTS[0], WRITE, 256)))
+}
+
+/// Its data are awaited.
+fn awaited(from: Both) -> Both {
+    from.after(&Call::next(WRITE))
+}
+
 fn entries() -> Vec<Row> {
     let host = HOSTS[0];
     vec![
@@ -83,6 +101,13 @@ fn entries() -> Vec<Row> {
         Row::new("FCP_RSP after data", sent(), Call::next(READ), 1, 48),
         Row::data("data frame 2,048, full", Both::full(2048), 2048),
         Row::data("data frame 256, full", Both::full(256), 256),
+        Row::new("WRITE opened", Both::one(2048), Call::frame(write(host, WRITE, 256)), 1, 0),
+        Row::new("FCP_XFER_RDY", writing(2048), Call::next(WRITE), 1, 36),
+        Row::new("next, awaited", awaited(writing(2048)), Call::next(WRITE), MANY, 0),
+        Row::data_in("data in 2,048", awaited(writing(2048)), 2048),
+        Row::data_in("data in 256", awaited(writing(2048)), 256),
+        Row::data_in("data in 2,048, full", awaited(Both::full_writing(2048)), 2048),
+        Row::data_in("data in 256, full", awaited(Both::full_writing(2048)), 256),
         Row::new("loop reset", reading(2048), Call::Event(Event::LoopReset), MANY, 0),
         Row::new("loop reset, full", Both::full(2048), Call::Event(Event::LoopReset), MANY, 0),
         Row::new("time over", reading(2048), Call::Event(Event::TimeOver), MANY, 0),
@@ -94,7 +119,8 @@ fn entries() -> Vec<Row> {
 fn refusals() -> Vec<Row> {
     let host = HOSTS[0];
     let ready = || test_unit_ready(host);
-    let short = Call::Frame { frame: ready(), room: SHORT };
+    let short = Call::Frame { frame: ready(), start: BLOCK, room: SHORT };
+    let beside = Call::Frame { frame: data(host, WRITE, 0, 2048), start: BLOCK + 1, room: ROOM };
     let short_next = Call::Next { address: host, ox_id: READ, room: SHORT };
     vec![
         Row::refused("frame in, refusal 1", reading(2048), short, 1),
@@ -105,6 +131,8 @@ fn refusals() -> Vec<Row> {
         Row::refused("frame in, refusal 7", reading(2048).after(&Call::Event(Event::LoopReset)), Call::frame(ready()), 7),
         Row::refused("next, refusal 7", reading(2048).after(&Call::Event(Event::LoopReset)), Call::next(READ), 7),
         Row::refused("refusal 9", reading(2048), Call::next(READ + 9), 9),
+        Row::refused("data in, refusal 10", awaited(writing(2048)), beside, 10),
+        Row::refused("refusal 11", awaited(writing(2048)), Call::frame(data(host, WRITE + 9, 0, 2048)), 11),
     ]
 }
 

@@ -10,7 +10,9 @@ pub struct Exchange {
     pub sent: u32,
     pub ox_id: u16,
     pub count: u16,
-    pub kind: u32,
+    pub kind: u16,
+    pub direction: u8,
+    pub awaited: u8,
 }
 
 #[repr(C)]
@@ -42,6 +44,7 @@ pub struct Port {
 pub struct Unit {
     pub capacity: u64,
     pub identity: [u8; 28],
+    pub writable: u8,
 }
 
 /// The loop addresses without 00h: bit k of word j stands for 64 j + k.
@@ -99,13 +102,31 @@ impl Exchange {
         }
     }
 
-    fn sent_fits(&self, full: u32) -> bool {
-        let total = self.wanted.min(self.expected);
-        self.sent <= total && (self.sent == total || self.sent % full == 0) && self.count == self.sent.div_ceil(full) as u16
+    fn sent_fits(&self, total: u32, full: u32) -> bool {
+        self.awaited == 0
+            && self.sent <= total
+            && (self.sent == total || self.sent % full == 0)
+            && self.count == self.sent.div_ceil(full) as u16
     }
 
-    fn fine(&self, capacity: u64, full: u32, paired: bool) -> bool {
-        !self.is_open() || paired && self.expected != 0 && self.wanted_fits(capacity) && self.sent_fits(full)
+    /// A WRITE (02, request 2): what came, by bursts.
+    fn taken_fits(&self, total: u32) -> bool {
+        let between = self.sent == total || self.sent % 65_536 == 0;
+        let burst = if self.awaited == 1 { self.sent < total } else { self.awaited == 0 && between };
+        self.sent <= total && burst && self.count == 0
+    }
+
+    fn moved_fits(&self, u: &Unit, full: u32) -> bool {
+        let total = self.wanted.min(self.expected);
+        match self.direction {
+            0 => self.sent_fits(total, full),
+            1 => self.kind == 1 && u.writable == 1 && self.taken_fits(total),
+            _ => false,
+        }
+    }
+
+    fn fine(&self, u: &Unit, full: u32, paired: bool) -> bool {
+        !self.is_open() || paired && self.expected != 0 && self.wanted_fits(u.capacity) && self.moved_fits(u, full)
     }
 }
 
@@ -114,7 +135,7 @@ impl Login {
         self.used == 1
     }
 
-    fn used_fine(&self, capacity: u64, own: u32) -> bool {
+    fn used_fine(&self, u: &Unit, own: u32) -> bool {
         let full = u32::from(self.size.min(2048));
         self.proven <= 1
             && self.paired <= 1
@@ -126,7 +147,7 @@ impl Login {
             && size_fits(self.size)
             && self.concurrent != 0
             && self.sequences != 0
-            && self.places.iter().all(|e| e.fine(capacity, full, self.paired == 1))
+            && self.places.iter().all(|e| e.fine(u, full, self.paired == 1))
             && self.ids_apart()
     }
 
@@ -142,10 +163,10 @@ impl Login {
         self.address != other.address && self.port_name != other.port_name
     }
 
-    fn fine(&self, capacity: u64, own: u32) -> bool {
+    fn fine(&self, u: &Unit, own: u32) -> bool {
         match self.used {
             0 => self.places.iter().all(|e| !e.is_open()),
-            1 => self.used_fine(capacity, own),
+            1 => self.used_fine(u, own),
             _ => false,
         }
     }
@@ -159,8 +180,9 @@ fn logins_apart(logins: &[Login; 8]) -> bool {
 #[inline(never)]
 pub fn well_formed(u: &Unit, p: &Port) -> bool {
     (1..=4294967295).contains(&u.capacity)
+        && u.writable <= 1
         && valid_address(p.address)
         && accept_fits(&p.accept)
-        && p.logins.iter().all(|l| l.fine(u.capacity, p.address))
+        && p.logins.iter().all(|l| l.fine(u, p.address))
         && logins_apart(&p.logins)
 }

@@ -1,6 +1,6 @@
 //! The frames and the drives that are timed. Drive and model go through the same calls, and must answer alike.
 pub use crate::drive::ROOM;
-use crate::drive::{Drive, Event, Window};
+use crate::drive::{Drive, Event, Lent as Space, Window};
 use crate::setup::Setup;
 use crate::side::{Side, State, Tested};
 
@@ -9,7 +9,7 @@ pub const OWN: u32 = 0xEF;
 pub const HOSTS: [u32; 8] = [0x01, 0x02, 0x04, 0x08, 0x0F, 0x10, 0x17, 0x18];
 /// An address that no host has at first.
 pub const NEW: u32 = 0x1B;
-/// The window that is lent starts at this block, and so does every READ.
+/// The window that is lent starts at this block, and so does every READ and WRITE.
 pub const BLOCK: u64 = 1000;
 const CAPACITY: u64 = 71_132_959;
 
@@ -94,6 +94,21 @@ pub fn read(from: u32, ox_id: u16, blocks: u16) -> Vec<u8> {
     command(from, ox_id, &[0x28, 0, a, b, c, d, 0, hi, lo, 0], 512 * u32::from(blocks))
 }
 
+/// WRITE(10), likewise.
+pub fn write(from: u32, ox_id: u16, blocks: u16) -> Vec<u8> {
+    let mut f = read(from, ox_id, blocks);
+    f[24 + 11] = 1;
+    f[24 + 12] = 0x2A;
+    f
+}
+
+/// Data of a WRITE: so many bytes at this offset.
+pub fn data(from: u32, ox_id: u16, offset: u32, n: usize) -> Vec<u8> {
+    let mut f = frame(0x01, 0x08, from, ox_id, &vec![0xC3; n]);
+    f[20..24].copy_from_slice(&offset.to_be_bytes());
+    f
+}
+
 /// INQUIRY, READ CAPACITY and REQUEST SENSE, each with its own OX_ID.
 fn made_data(from: u32) -> [Vec<u8>; 3] {
     let inquiry = command(from, 0x1000, &[0x12, 0, 0, 0, 36, 0], 36);
@@ -104,7 +119,7 @@ fn made_data(from: u32) -> [Vec<u8>; 3] {
 
 /// A frame that the drive does not take: refusal 6.
 pub fn unknown(from: u32) -> Vec<u8> {
-    frame(0x01, 0x08, from, 0x0300, &[0; 32])
+    frame(0x05, 0x08, from, 0x0300, &[0; 32])
 }
 
 /// Drive and model in the same state.
@@ -118,7 +133,7 @@ impl Both {
     /// A drive with no login.
     pub fn empty() -> Both {
         let (identity, accept) = ([0x20; 28], words(OWN as u8, 2112));
-        let setup = Setup { capacity: CAPACITY, address: OWN, identity, accept };
+        let setup = Setup { capacity: CAPACITY, address: OWN, identity, accept, writable: 1 };
         Both { drive: State::make(CAPACITY, OWN, &identity, &accept), model: Tested(Drive::new(setup).unwrap()) }
     }
 
@@ -131,11 +146,20 @@ impl Both {
 
     /// A drive with eight logins of this size, each with eight READs open.
     pub fn full(size: u16) -> Both {
+        Both::full_by(size, read)
+    }
+
+    /// The same with WRITEs.
+    pub fn full_writing(size: u16) -> Both {
+        Both::full_by(size, write)
+    }
+
+    fn full_by(size: u16, command: fn(u32, u16, u16) -> Vec<u8>) -> Both {
         let mut b = Both::empty();
         for host in HOSTS {
             b.log_in(host, size);
             for ox_id in 0..8 {
-                b.does(&Call::frame(read(host, 0x1000 + ox_id, 256)));
+                b.does(&Call::frame(command(host, 0x1000 + ox_id, 256)));
             }
         }
         b
@@ -162,13 +186,18 @@ impl Both {
         self
     }
 
-    /// Both sides do a call; the answers and all bytes of the reply buffers must be the same.
     pub fn does(&mut self, call: &Call) -> u64 {
+        self.does_round(call, 0)
+    }
+
+    /// Both sides do a call of this round; the answers and all bytes of the reply buffers and of the windows must be the same.
+    pub fn does_round(&mut self, call: &Call, round: usize) -> u64 {
         let (mut ours, mut theirs) = ([0x5A; ROOM], [0x5A; ROOM]);
-        let window = window();
-        let answer = call.done(&mut self.drive, &window, &mut ours);
-        assert_eq!(answer, call.done(&mut self.model, &window, &mut theirs), "the answers differ");
+        let (mut lent, mut other) = (window(), window());
+        let answer = call.done(&mut self.drive, round, &mut lent, &mut ours);
+        assert_eq!(answer, call.done(&mut self.model, round, &mut other, &mut theirs), "the answers differ");
         assert!(ours == theirs, "the replies differ");
+        assert!(lent == other, "the windows differ");
         answer
     }
 }
@@ -180,23 +209,39 @@ pub fn window() -> Vec<u8> {
 
 /// A call, the same for both sides.
 pub enum Call {
-    Frame { frame: Vec<u8>, room: usize },
-    Next { address: u32, ox_id: u16, room: usize },
+    Frame {
+        frame: Vec<u8>,
+        start: u64,
+        room: usize,
+    },
+    /// the data of a WRITE, so many bytes a frame: a frame for each round
+    Data(Vec<Vec<u8>>),
+    Next {
+        address: u32,
+        ox_id: u16,
+        room: usize,
+    },
     Event(Event),
 }
 
 impl Call {
     pub fn frame(frame: Vec<u8>) -> Call {
-        Call::Frame { frame, room: ROOM }
+        Call::Frame { frame, start: BLOCK, room: ROOM }
+    }
+
+    /// The first frames of this many bytes of the WRITE of an OX_ID.
+    pub fn data(ox_id: u16, n: usize, rounds: usize) -> Call {
+        Call::Data((0..rounds).map(|i| data(HOSTS[0], ox_id, (i * n) as u32, n)).collect())
     }
 
     pub fn next(ox_id: u16) -> Call {
         Call::Next { address: HOSTS[0], ox_id, room: ROOM }
     }
 
-    fn done(&self, side: &mut impl Side, window: &[u8], reply: &mut [u8]) -> u64 {
+    fn done(&self, side: &mut impl Side, round: usize, window: &mut [u8], reply: &mut [u8]) -> u64 {
         match self {
-            Call::Frame { frame, room } => side.frame(frame, &mut reply[..*room]),
+            Call::Frame { frame, start, room } => side.frame(frame, Space { start: *start, bytes: window }, &mut reply[..*room]),
+            Call::Data(frames) => side.frame(&frames[round], Space { start: BLOCK, bytes: window }, reply),
             Call::Next { address, ox_id, room } => {
                 side.next(*address, *ox_id, Window { start: BLOCK, bytes: window }, &mut reply[..*room])
             }

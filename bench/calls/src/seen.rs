@@ -1,5 +1,5 @@
 //! The drive again with every copy of its code counted: the same archive, to each of whose names bench/run put `seen_`.
-use crate::drive::{Event, Window};
+use crate::drive::{Event, Lent as Space, Window};
 use crate::side::{Side, State};
 use std::cell::Cell;
 
@@ -13,7 +13,16 @@ thread_local! {
 }
 
 extern "C" {
-    fn seen_jhartupal_frame(d: &mut State, frame: *const u8, n: usize, reply: *mut u8, room: usize) -> u64;
+    fn seen_jhartupal_frame(
+        d: &mut State,
+        frame: *const u8,
+        n: usize,
+        start: u64,
+        window: *mut u8,
+        length: usize,
+        reply: *mut u8,
+        room: usize,
+    ) -> u64;
     fn seen_jhartupal_next(
         d: &mut State,
         address: u32,
@@ -60,8 +69,11 @@ pub fn copied() -> (usize, usize) {
 
 // SAFETY of the three: as in `side`
 impl Side for Seen {
-    fn frame(&mut self, frame: &[u8], reply: &mut [u8]) -> u64 {
-        unsafe { seen_jhartupal_frame(&mut self.0, frame.as_ptr(), frame.len(), reply.as_mut_ptr(), reply.len()) }
+    fn frame(&mut self, frame: &[u8], w: Space, reply: &mut [u8]) -> u64 {
+        let (window, n) = (w.bytes.as_mut_ptr(), w.bytes.len());
+        unsafe {
+            seen_jhartupal_frame(&mut self.0, frame.as_ptr(), frame.len(), w.start, window, n, reply.as_mut_ptr(), reply.len())
+        }
     }
 
     fn next(&mut self, address: u32, ox_id: u16, w: Window, reply: &mut [u8]) -> u64 {

@@ -1,12 +1,12 @@
 //! What is timed: the proved drive by its C boundary, and the model of document 01, behind one trait.
-use crate::drive::{Drive, Event, Window, ROOM};
+use crate::drive::{Drive, Event, Lent as Space, Window, ROOM};
 use crate::rule::{Port, Unit};
 
 /// From here on an answer is a refusal: this plus its number.
 pub const REFUSED: u64 = 65_536;
 
 pub trait Side: Clone {
-    fn frame(&mut self, frame: &[u8], reply: &mut [u8]) -> u64;
+    fn frame(&mut self, frame: &[u8], w: Space, reply: &mut [u8]) -> u64;
     fn next(&mut self, address: u32, ox_id: u16, window: Window, reply: &mut [u8]) -> u64;
     fn event(&mut self, event: Event) -> u64;
 }
@@ -26,11 +26,21 @@ struct Setup {
     address: u32,
     identity: [u8; 28],
     accept: [u8; 112],
+    writable: u8,
 }
 
 extern "C" {
     fn jhartupal_make(d: &mut State, setup: &Setup) -> u64;
-    fn jhartupal_frame(d: &mut State, frame: *const u8, n: usize, reply: *mut u8, room: usize) -> u64;
+    fn jhartupal_frame(
+        d: &mut State,
+        frame: *const u8,
+        n: usize,
+        start: u64,
+        window: *mut u8,
+        length: usize,
+        reply: *mut u8,
+        room: usize,
+    ) -> u64;
     fn jhartupal_next(
         d: &mut State,
         address: u32,
@@ -47,8 +57,9 @@ extern "C" {
 }
 
 impl State {
+    /// A drive whose unit may be written.
     pub fn make(capacity: u64, own: u32, identity: &[u8; 28], accept: &[u8; 112]) -> State {
-        let setup = Setup { capacity, address: own, identity: *identity, accept: *accept };
+        let setup = Setup { capacity, address: own, identity: *identity, accept: *accept, writable: 1 };
         // SAFETY: any bytes are a state, zeros too
         unsafe {
             let mut d = std::mem::zeroed();
@@ -61,8 +72,9 @@ impl State {
 // SAFETY of the three: the slices are as long as is said, and lent to this call alone
 impl Side for State {
     #[inline(always)]
-    fn frame(&mut self, frame: &[u8], reply: &mut [u8]) -> u64 {
-        unsafe { jhartupal_frame(self, frame.as_ptr(), frame.len(), reply.as_mut_ptr(), reply.len()) }
+    fn frame(&mut self, frame: &[u8], w: Space, reply: &mut [u8]) -> u64 {
+        let (window, n) = (w.bytes.as_mut_ptr(), w.bytes.len());
+        unsafe { jhartupal_frame(self, frame.as_ptr(), frame.len(), w.start, window, n, reply.as_mut_ptr(), reply.len()) }
     }
 
     #[inline(always)]
@@ -93,8 +105,8 @@ fn code(answer: Result<usize, u8>) -> u64 {
 
 impl Side for Bare {
     #[inline(never)]
-    fn frame(&mut self, frame: &[u8], reply: &mut [u8]) -> u64 {
-        code(self.0.frame_in(frame, reply))
+    fn frame(&mut self, frame: &[u8], w: Space, reply: &mut [u8]) -> u64 {
+        code(self.0.frame_in(frame, w, reply))
     }
 
     #[inline(never)]
@@ -125,11 +137,11 @@ impl Tested {
 
 impl Side for Tested {
     #[inline(never)]
-    fn frame(&mut self, frame: &[u8], reply: &mut [u8]) -> u64 {
+    fn frame(&mut self, frame: &[u8], w: Space, reply: &mut [u8]) -> u64 {
         if self.refused(reply.len()) {
             return REFUSED + 2;
         }
-        code(self.0.frame_in(frame, reply))
+        code(self.0.frame_in(frame, w, reply))
     }
 
     #[inline(never)]
@@ -161,7 +173,7 @@ extern "C" fn nothing(d: &mut Nothing) -> u64 {
 }
 
 impl Side for Nothing {
-    fn frame(&mut self, _: &[u8], _: &mut [u8]) -> u64 {
+    fn frame(&mut self, _: &[u8], _: Space, _: &mut [u8]) -> u64 {
         nothing(self)
     }
 

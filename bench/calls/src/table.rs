@@ -1,6 +1,6 @@
 //! One table: each row timed, all sides in turn, and printed.
 use crate::count::Counts;
-use crate::drive::Event;
+use crate::drive::{Event, Lent as Space};
 use crate::rows::{Row, MANY};
 use crate::rule;
 use crate::scene::{Both, Call};
@@ -117,10 +117,10 @@ fn formed() {
     println!("well_formed in plain Rust over references (rule.rs): empty {empty:.1} ns, full {full:.1} ns.");
 }
 
-/// Every byte of a full drive, and of one with made data to send, is changed in turn: drive and `rule` must agree whether it is still well formed.
+/// Every byte of a drive full of READs, of one full of WRITEs, and of one with made data to send, is changed in turn: drive and `rule` must agree whether it is still well formed.
 /// How many were tried.
 fn changed() -> usize {
-    changed_from(Both::full(2048).drive) + changed_from(Both::made(2048).drive)
+    changed_from(Both::full(2048).drive) + changed_from(Both::full_writing(2048).drive) + changed_from(Both::made(2048).drive)
 }
 
 fn changed_from(good: State) -> usize {
@@ -131,7 +131,7 @@ fn changed_from(good: State) -> usize {
             // SAFETY: any bytes are a state
             unsafe { *(&raw mut d).cast::<u8>().add(at) = value };
             let fine = rule::well_formed(&d.unit, &d.port);
-            let answer = d.frame(&[], &mut [0; 2136]);
+            let answer = d.frame(&[], Space { start: 0, bytes: &mut [] }, &mut [0; 2136]);
             assert_eq!(answer, REFUSED + if fine { 3 } else { 2 }, "byte {at} as {value:02X}h");
             tried += 1;
         }

@@ -1,5 +1,5 @@
 //! Batches of a call over eight states, which are put back outside the time that is taken.
-use crate::drive::Window;
+use crate::drive::{Lent as Space, Window};
 use crate::rows::Row;
 use crate::scene::{window, Call, BLOCK, ROOM};
 use crate::side::Side;
@@ -24,27 +24,36 @@ impl Lent {
 /// Every state does the call so many times; the sum of the answers.
 #[inline(never)]
 pub fn batch<S: Side>(states: &mut [S], call: &Call, rounds: usize, lent: &mut Lent) -> u64 {
-    let window = Window { start: BLOCK, bytes: &lent.window };
     let mut sum = 0;
     match call {
-        Call::Frame { frame, room } => {
-            let reply = &mut lent.reply[..*room];
-            each(states, rounds, |s| sum += s.frame(black_box(frame), black_box(&mut *reply)));
+        Call::Frame { frame, start, room } => {
+            let (window, reply) = (&mut lent.window[..], &mut lent.reply[..*room]);
+            each(states, rounds, |s, _| {
+                sum += s.frame(black_box(frame), black_box(Space { start: *start, bytes: &mut *window }), black_box(&mut *reply))
+            });
+        }
+        Call::Data(frames) => {
+            let (window, reply) = (&mut lent.window[..], &mut lent.reply[..]);
+            each(states, rounds, |s, i| {
+                sum +=
+                    s.frame(black_box(&frames[i]), black_box(Space { start: BLOCK, bytes: &mut *window }), black_box(&mut *reply))
+            });
         }
         Call::Next { address, ox_id, room } => {
+            let window = Window { start: BLOCK, bytes: &lent.window };
             let reply = &mut lent.reply[..*room];
-            each(states, rounds, |s| sum += s.next(*address, *ox_id, black_box(window), black_box(&mut *reply)));
+            each(states, rounds, |s, _| sum += s.next(*address, *ox_id, black_box(window), black_box(&mut *reply)));
         }
-        Call::Event(event) => each(states, rounds, |s| sum += s.event(*event)),
+        Call::Event(event) => each(states, rounds, |s, _| sum += s.event(*event)),
     }
     sum
 }
 
 #[inline(always)]
-fn each<S>(states: &mut [S], rounds: usize, mut call: impl FnMut(&mut S)) {
-    for _ in 0..black_box(rounds) {
+fn each<S>(states: &mut [S], rounds: usize, mut call: impl FnMut(&mut S, usize)) {
+    for i in 0..black_box(rounds) {
         for s in &mut *states {
-            call(black_box(s));
+            call(black_box(s), i);
         }
     }
 }

@@ -1,18 +1,20 @@
-// What arrived: a frame in is refused by the first of the numbers 2 to 7 that fits it, or it is of one of four forms.
+// What arrived: a frame in is refused by the first of the numbers 2 to 7 that fits it, or it is of one of five forms.
 use address::valid_address;
 use frame::Header;
 use refusal::Refusal;
 use wire::byte_at;
+use wire::less;
 ghost use mathlib.Core.Path.{_≡_};
 ghost use mathlib.Core.Bool.{_&&_, not};
-ghost use Rattle.arrival.specs.Arrival.{badSize, badSource, knownPair, unknownForm, spared, formOf, judgedBy};
+ghost use Rattle.arrival.specs.Arrival.{badSize, badSource, knownPair, badSequence, unknownForm, spared, formOf, judgedBy};
 
-// The forms of the frames that are taken: a request to the link services, the answer to one, ABTS, and FCP_CMND.
+// The forms of the frames that are taken: a request to the link services, the answer to one, ABTS, FCP_CMND, and FCP_DATA.
 pub enum Form {
     Link,
     Done,
     Abort,
     Command,
+    Data,
 }
 
 pub enum Judged {
@@ -79,11 +81,12 @@ fn known_pair(r_ctl: u8, protocol: u8) -> bool
         0x23 => protocol == 0x01,
         0x81 => protocol == 0x00,
         0x06 => protocol == 0x08,
+        0x01 => protocol == 0x08,
         _ => false,
     }
 }
 
-// Another pair; DF_CTL, SEQ_CNT or the low two bits of F_CTL not 0; a 22h frame without payload.
+// Another pair; DF_CTL not 0; SEQ_CNT or fill that do not fit the form; a 22h frame without payload.
 fn unknown_form(h: Header, size: usize) -> bool
     ensures { λ r. ⌜ r ≡ unknownForm h size ⌝ }
 {
@@ -91,16 +94,27 @@ fn unknown_form(h: Header, size: usize) -> bool
         if h.df_ctl != 0 {
             return true;
         }
-        if h.seq_cnt != 0 {
-            return true;
-        }
-        if h.f_ctl % 4 != 0 {
+        if bad_sequence(h, size) {
             return true;
         }
         if h.r_ctl == 0x22 { size <= 24 } else { false }
     } else {
         true
     }
+}
+
+// SEQ_CNT or the fill count in the low two bits of F_CTL not 0; of a data frame more fill than payload.
+fn bad_sequence(h: Header, size: usize) -> bool
+    ensures { λ r. ⌜ r ≡ badSequence h size ⌝ }
+{
+    let fill = (h.f_ctl % 4) as usize;
+    if h.r_ctl == 0x01 {
+        return less(size, Header::LEAST_FRAME) < fill;
+    }
+    if h.seq_cnt != 0 {
+        return true;
+    }
+    fill != 0
 }
 
 // The sender's login is unproven, and the frame is none of PLOGI, PDISC, ADISC, LOGO.
@@ -138,6 +152,7 @@ pub fn form_of(r_ctl: u8) -> Form
         0x22 => Form::Link,
         0x23 => Form::Done,
         0x81 => Form::Abort,
+        0x01 => Form::Data,
         _ => Form::Command,
     }
 }

@@ -6,6 +6,7 @@ use Rattle.belief.proofs.Heard.{own-heard, others-unheard}
 use Rattle.belief.proofs.Instance.{others-change-nothing, demand-3}
 use Rattle.belief.proofs.Histories.{not-empty, left-behind}
 use Rattle.belief.proofs.Marked.{marked}
+use Rattle.belief.proofs.Written.{written}
 
 pub demand-three : Drive3
 demand-three =
@@ -19,4 +20,5 @@ demand-three =
       not-empty = not-empty;
       left-behind = left-behind;
       marked = marked;
+      written = written;
     }

@@ -12,14 +12,14 @@ use Rattle.reply.specs.Reply.{answerHead, logoutHead, filled, bytesOf}
 use Rattle.link.specs.Link.{sizeOf, newLogin, outcomeOf, plogiOf, pageFine, pairFine, prliOf, serviceOf, linkOf}
 use Rattle.link.specs.Record.{recordOf}
 use Rattle.command.specs.Command.{loggedOut, commandOf}
-use Rattle.arrival.specs.Arrival.{badSize, badSource, knownPair, unknownForm, spared, unprovenLogin, formOf}
+use Rattle.arrival.specs.Arrival.{badSize, badSource, knownPair, badSequence, unknownForm, spared, unprovenLogin, formOf}
 use Rattle.drive.specs.Drive.{madeFrom, afterEvent, eventAnswer}
 use Rattle.drive.specs.Entry.{replyBytes, frameIn, frameInBuffer}
 use Rattle.belief.specs.Frames.{logs-in, pairs, asks, strangerLogsIn}
 use Rattle.belief.specs.Histories.{NotEmpty, LeftBehind}
 
 pub not-empty : NotEmpty
-unfolding frameIn frameInBuffer replyBytes headerOf headerBytes badSize badSource knownPair unknownForm spared unprovenLogin formOf validAddress madeFrom wellFormed setupRules setupOf setupPasses paramsOf sizeFails zeroName verdictOf loginFine usedFine flagsFine addressFine paramsFine exchangeFine apartId apartLogin findLogin freeLogin findExchange hasAddress hasId loginAt withLogin endedOf hostEnded hasName nameOf changedAll bytesOf filled onto answerHead logoutHead shortBytes loginBytes pairBytes logoutBytes linkOf sizeOf plogiOf outcomeOf newLogin serviceOf prliOf pairFine pageFine commandOf loggedOut recordOf ownOf eventAnswer afterEvent freedOf unproven verified logs-in pairs asks
+unfolding frameIn frameInBuffer replyBytes headerOf headerBytes badSize badSource knownPair badSequence unknownForm spared unprovenLogin formOf validAddress madeFrom wellFormed setupRules setupOf setupPasses paramsOf sizeFails zeroName verdictOf loginFine usedFine flagsFine addressFine paramsFine exchangeFine apartId apartLogin findLogin freeLogin findExchange hasAddress hasId loginAt withLogin endedOf hostEnded hasName nameOf changedAll bytesOf filled onto answerHead logoutHead shortBytes loginBytes pairBytes logoutBytes linkOf sizeOf plogiOf outcomeOf newLogin serviceOf prliOf pairFine pageFine commandOf loggedOut recordOf ownOf eventAnswer afterEvent freedOf unproven verified logs-in pairs asks
 not-empty =
     record {
       keeps = (tt, (tt, (tt, (tt, tt))));
@@ -35,7 +35,7 @@ not-empty =
     }
 
 pub left-behind : LeftBehind
-unfolding frameIn frameInBuffer replyBytes headerOf headerBytes badSize badSource knownPair unknownForm spared unprovenLogin formOf validAddress madeFrom wellFormed setupRules setupOf setupPasses paramsOf sizeFails zeroName verdictOf loginFine usedFine flagsFine addressFine paramsFine exchangeFine apartId apartLogin findLogin freeLogin findExchange hasAddress hasId loginAt withLogin endedOf hostEnded hasName nameOf changedAll bytesOf filled onto answerHead logoutHead shortBytes loginBytes pairBytes logoutBytes linkOf sizeOf plogiOf outcomeOf newLogin serviceOf prliOf pairFine pageFine commandOf loggedOut recordOf ownOf eventAnswer afterEvent freedOf unproven verified logs-in pairs asks strangerLogsIn
+unfolding frameIn frameInBuffer replyBytes headerOf headerBytes badSize badSource knownPair badSequence unknownForm spared unprovenLogin formOf validAddress madeFrom wellFormed setupRules setupOf setupPasses paramsOf sizeFails zeroName verdictOf loginFine usedFine flagsFine addressFine paramsFine exchangeFine apartId apartLogin findLogin freeLogin findExchange hasAddress hasId loginAt withLogin endedOf hostEnded hasName nameOf changedAll bytesOf filled onto answerHead logoutHead shortBytes loginBytes pairBytes logoutBytes linkOf sizeOf plogiOf outcomeOf newLogin serviceOf prliOf pairFine pageFine commandOf loggedOut recordOf ownOf eventAnswer afterEvent freedOf unproven verified logs-in pairs asks strangerLogsIn
 left-behind =
     record {
       keeps = (tt, (tt, tt));

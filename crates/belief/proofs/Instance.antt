@@ -15,9 +15,8 @@ use Rattle.frame.specs.Head.{headerOf}
 use Rattle.params.specs.Words.{paramsOf}
 use Rattle.refusal.specs.declared.Refusal.the-variants.{ShortBuffer, IllFormed}
 use Rattle.state.specs.declared.Login.{Login}
-use Rattle.state.specs.declared.Port.{Port}
 use Rattle.state.specs.Changes.{isUsed, hasName}
-use Rattle.state.specs.Tables.{findLogin, freeLogin, loginOf}
+use Rattle.state.specs.Tables.{freeLogin, loginOf}
 use Rattle.state.proofs.Places.{open-place}
 use Rattle.formed.specs.Formed.{wellFormed}
 use Rattle.formed.proofs.Parts.{formed-parts}
@@ -27,7 +26,7 @@ use Rattle.link.specs.Record.{Record, out, held, keptFrom, recordAt, recordOf, 
 use Rattle.link.proofs.Exactly.{accepts}
 use Rattle.link.proofs.Moved.{moved-out}
 use Rattle.link.proofs.Room.{full-unnamed}
-use Rattle.link.proofs.Records.{recordIn, record-is, expired, found-record, power-record, reset-record, over-record}
+use Rattle.link.proofs.Records.{recordIn, record-is, expired, power-record, reset-record, over-record}
 use Rattle.serve.specs.Next.{nextOf}
 use Rattle.serve.specs.Whole.{isSent}
 use Rattle.serve.proofs.Moving.{next-only}
@@ -45,17 +44,14 @@ use Rattle.drive.proofs.Keeping.{frame-kept, next-frame-kept, event-fine}
 use Rattle.drive.proofs.Others.{others-record, own-record}
 use Rattle.belief.specs.Host.{none, other, received}
 use Rattle.demands.proofs.Ending.{moved-or-not}
-use Rattle.belief.specs.Side.{OwnRecord, Foreign, Held, Unasked, Laws}
+use Rattle.belief.specs.Side.{OwnRecord, NotOwn, Held, Unasked, Laws}
 use Rattle.belief.specs.Demand3.{pass, World, arrives, step, Demand3}
 use Rattle.belief.specs.Wire.{heardNext, Named, PlogiOf, Others, frame, answer, next, elsewhere, ToOthers, others, othersHeard, Ending, power-on, time-over, afterEnding, ends, theDrive}
 use Rattle.belief.proofs.Keep.{demand3}
 use Rattle.belief.proofs.Heard.{elsewhere-refused, own-heard, others-unheard}
-use Rattle.belief.proofs.Takes.{host-takes}
+use Rattle.belief.proofs.Takes.{found-held, host-takes}
 
 -- a next frame comes out only where there is a login
-found-held : (p : Port) (a i : ℕ) → findLogin p a ≡ At i → Held (recordOf p a)
-found-held p a i e = subst Held (sym (found-record p a i e)) tt
-
 sent-held : (d : Drive) (a x start : ℕ) (W : List ℕ) (room : ℕ) → isSent (nextFrame d a x start W room .said) ≡ true → Held (recordOf (d .port) a)
 unfolding nextFrame
 sent-held d a x start W room = by (shortBuffer room) (wellFormed (d .unit) (d .port))
@@ -79,9 +75,9 @@ call-unasked a d w x start W l =
     rw (own-heard a d w x start W l) (given-unasked (isSent (nextFrame d a x start W (length l) .said)) _ _ (sent-held d a x start W (length l)) (own-record d a x start W (length l)))
 
 -- a login by whose end its host moved is that of another port name than the host's
-moved-foreign : (a name : ℕ) (d : Drive) (f : List ℕ) → (PlogiOf name f → ⊥) → Moves (d .port) a (headerOf f) f → Foreign (Named name) (recordOf (d .port) a)
+moved-not-own : (a name : ℕ) (d : Drive) (f : List ℕ) → (PlogiOf name f → ⊥) → Moves (d .port) a (headerOf f) f → NotOwn (Named name) (recordOf (d .port) a)
 unfolding hasName
-moved-foreign a name d f unused m own =
+moved-not-own a name d f unused m own =
     unused (record { form = record { routing = m .link; source = refl }; coded = m .plogi; sized = m .size }, its (recordOf (d .port) a) (record-is (d .port) a) own)
   where
     l : Login
@@ -100,14 +96,14 @@ moved-foreign a name d f unused m own =
     its r e o = sym same ∙ subst (OwnRecord (Named name)) (e ∙ stands) o
 
 -- and where the PLOGI is not refused, it is accepted, and no record is left
-moved-record : (a : ℕ) (d : Drive) (f l : List ℕ) → wellFormed (d .unit) (d .port) ≡ true → (headerOf f .«s_id» ≡ a → ⊥) → Moves (d .port) a (headerOf f) f
-    → (recordOf (frameIn d f (length l) .drive .port) a ≡ recordOf (d .port) a) ⊎ (recordOf (frameIn d f (length l) .drive .port) a ≡ out)
+moved-record : (a : ℕ) (d : Drive) (f : List ℕ) (start : ℕ) (W : List ℕ) (room : ℕ) → wellFormed (d .unit) (d .port) ≡ true → (headerOf f .«s_id» ≡ a → ⊥) → Moves (d .port) a (headerOf f) f
+    → (recordOf (frameIn d f start W room .drive .port) a ≡ recordOf (d .port) a) ⊎ (recordOf (frameIn d f start W room .drive .port) a ≡ out)
 unfolding formOf
-moved-record a d f l w n m =
-    frame-cases d f (length l) (λ (r : Answer). (recordOf (r .drive .port) a ≡ recordOf (d .port) a) ⊎ (recordOf (r .drive .port) a ≡ out)) (λ _ _. inl refl)
+moved-record a d f start W room w n m =
+    frame-cases d f start W room (λ (r : Answer). (recordOf (r .drive .port) a ≡ recordOf (d .port) a) ⊎ (recordOf (r .drive .port) a ≡ out)) (λ _ _. inl refl)
     (λ _. inr (ap (λ (r : Decided). recordOf (r .port) a) linked ∙ by (freeLogin (hostGone (d .port) (headerOf f) f)) refl))
   where
-    linked : decidedIn d f ≡ linkOf (d .port) (headerOf f) f
+    linked : decidedIn d f start (length W) ≡ linkOf (d .port) (headerOf f) f
     linked = rw (m .link)
 
     by : (g : Found) → freeLogin (hostGone (d .port) (headerOf f) f) ≡ g → recordOf (linkOf (d .port) (headerOf f) f .port) a ≡ out
@@ -118,40 +114,40 @@ moved-record a d f l w n m =
 
 -- this host's record stays, or it is another's and has ended
 abbrev StaysOr : ℕ → ℕ → Drive → Drive → Type 0
-StaysOr a name d e = (recordOf (e .port) a ≡ recordOf (d .port) a) ⊎ (Foreign (Named name) (recordOf (d .port) a) × (recordOf (e .port) a ≡ out))
+StaysOr a name d e = (recordOf (e .port) a ≡ recordOf (d .port) a) ⊎ (NotOwn (Named name) (recordOf (d .port) a) × (recordOf (e .port) a ≡ out))
 
 -- so it is, whatever other ports send, and whatever is sent to them
 pass-record : (a name : ℕ) (d : Drive) (x : Others a name) → wellFormed (d .unit) (d .port) ≡ true → ToOthers d x → StaysOr a name d (others d x)
-pass-record a name d (frame f l known n o) w m =
+pass-record a name d (frame f start W l known n o) w m =
     elim (moved-or-not (d .port) a (headerOf f) f) [
-      | yes moves ↦ by (moved-record a d f l w n moves) (moved-foreign a name d f o moves)
-      | no still ↦ inl (others-record d w (calls.frame f (length l) (λ e. n (sym e))) still)
+      | yes moves ↦ by (moved-record a d f start W (length l) w n moves) (moved-not-own a name d f o moves)
+      | no still ↦ inl (others-record d w (calls.frame f start W (length l) (λ e. n (sym e))) still)
     ]
   where
-    by : (recordOf (frameIn d f (length l) .drive .port) a ≡ recordOf (d .port) a) ⊎ (recordOf (frameIn d f (length l) .drive .port) a ≡ out) → Foreign (Named name) (recordOf (d .port) a)
-        → StaysOr a name d (frameIn d f (length l) .drive)
+    by : (recordOf (frameIn d f start W (length l) .drive .port) a ≡ recordOf (d .port) a) ⊎ (recordOf (frameIn d f start W (length l) .drive .port) a ≡ out) → NotOwn (Named name) (recordOf (d .port) a)
+        → StaysOr a name d (frameIn d f start W (length l) .drive)
     by (inl e) g = inl e
     by (inr e) g = inr (g, e)
-pass-record a name d (answer f l known r) w m = inl (others-record d w (calls.done f (length l) r) tt)
+pass-record a name d (answer f start W l known r) w m = inl (others-record d w (calls.done f start W (length l) r) tt)
 pass-record a name d (next b ox start W l n) w m = inl (others-record d w (calls.next b ox start W (length l) (λ e. n (sym e))) tt)
-pass-record a name d (elsewhere f l) w m = inl (ap (λ (e : Drive). recordOf (e .port) a) (elsewhere-refused a d f l m .0))
+pass-record a name d (elsewhere f start W l) w m = inl (ap (λ (e : Drive). recordOf (e .port) a) (elsewhere-refused a d f start W l m .0))
 
 pass-fine : (a name : ℕ) (d : Drive) (x : Others a name) → wellFormed (d .unit) (d .port) ≡ true → ToOthers d x → wellFormed (others d x .unit) (others d x .port) ≡ true
-pass-fine a name d (frame f l known n o) w m = frame-kept d f (length l) known w
-pass-fine a name d (answer f l known r) w m = frame-kept d f (length l) known w
+pass-fine a name d (frame f start W l known n o) w m = frame-kept d f start W (length l) known w
+pass-fine a name d (answer f start W l known r) w m = frame-kept d f start W (length l) known w
 pass-fine a name d (next b ox start W l n) w m = next-frame-kept d b ox start W (length l) w
-pass-fine a name d (elsewhere f l) w m = rw (elsewhere-refused a d f l m .0) w
+pass-fine a name d (elsewhere f start W l) w m = rw (elsewhere-refused a d f start W l m .0) w
 
 -- and the host hears nothing of it
 pass-unasked : (a name : ℕ) (d : Drive) (x : Others a name) → wellFormed (d .unit) (d .port) ≡ true → ToOthers d x
-    → Unasked (recordOf (d .port) a) (othersHeard d x) (recordOf (others d x .port) a) ⊎ (Foreign (Named name) (recordOf (d .port) a) × (othersHeard d x ≡ none))
+    → Unasked (recordOf (d .port) a) (othersHeard d x) (recordOf (others d x .port) a) ⊎ (NotOwn (Named name) (recordOf (d .port) a) × (othersHeard d x ≡ none))
 pass-unasked a name d x w m = by (pass-record a name d x w m)
   where
     quiet : othersHeard d x ≡ none
     quiet = others-unheard a name d w x m
 
     by : StaysOr a name d (others d x)
-        → Unasked (recordOf (d .port) a) (othersHeard d x) (recordOf (others d x .port) a) ⊎ (Foreign (Named name) (recordOf (d .port) a) × (othersHeard d x ≡ none))
+        → Unasked (recordOf (d .port) a) (othersHeard d x) (recordOf (others d x .port) a) ⊎ (NotOwn (Named name) (recordOf (d .port) a) × (othersHeard d x ≡ none))
     by (inl e) = inl (rw quiet e)
     by (inr (n, e)) = inr (n, quiet)
 
@@ -182,13 +178,13 @@ reset-doubts a d w = ap (λ (y : Answer). recordOf (y .drive .port) a) (event-an
 pub drive-laws : (a name : ℕ) → Laws (theDrive a name)
 drive-laws a name =
     record {
-      take-wf = λ d f w. frame-kept d (f .bytes) (length (f .buffer)) (f .known) w;
+      take-wf = λ d f w. frame-kept d (f .bytes) (f .start) (f .window) (length (f .buffer)) (f .known) w;
       call-wf = λ d c w. next-frame-kept d a (c .ox) (c .start) (c .window) (length (c .buffer)) w;
       pass-wf = λ d x w m. pass-fine a name d x w m;
       reset-wf = λ d w. event-fine d LoopReset w;
       lapse-wf = λ d x w. ending-fine d x w;
       owns = λ f. f .named;
-      takes = λ d f w. host-takes a d w (f .bytes) (f .buffer) (f .request) (f .makes);
+      takes = λ d f w. host-takes a d w (f .bytes) (f .start) (f .window) (f .buffer) (f .request) (f .makes);
       calls = λ d c w. call-unasked a d w (c .ox) (c .start) (c .window) (c .buffer);
       passes = λ d x w m. pass-unasked a name d x w m;
       resets = λ d w. reset-doubts a d w;

@@ -5,9 +5,9 @@ use mathlib.Core.Bool.{Bool, true, false, cond, false≢true}
 use mathlib.Core.List.{List, [], _∷_}
 use mathlib.Core.Logic.{_⊎_, inl, inr}
 use Rattle.link.specs.Record.{Kept, Record, out, held, proved, paired, unpaired, doubted}
-use Rattle.belief.specs.Host.{Belief, unsure, sure, Request, plogi, pdisc, logo, adisc, prli, prlo, rrq, command, abts}
-use Rattle.belief.specs.Host.{Answer, none, acc, rjt, dlogo, other, same, think, May, MayOut, hears, afterPlogi, afterLogo, afterLink, received}
-use Rattle.belief.specs.Side.{Side, Laws, OwnRecord, Foreign, OwnIn, Held, Paired, OnPlogi, OnLogo, OnLink, OnCommand, Meets, Unasked}
+use Rattle.belief.specs.Host.{Belief, unsure, sure, Request, plogi, pdisc, logo, adisc, prli, prlo, rrq, command, abts, fcp-data}
+use Rattle.belief.specs.Host.{Answer, none, acc, rjt, dlogo, other, same, think, May, SurePaired, sure-paired, MayOut, hears, afterPlogi, afterLogo, afterLink, received}
+use Rattle.belief.specs.Side.{Side, Laws, OwnRecord, NotOwn, OwnIn, Held, Paired, OnPlogi, OnLogo, OnLink, OnCommand, Meets, Unasked}
 use Rattle.belief.specs.Demand3.{Fate, lost, mute, heard, Event, send, next, pass, foreign, reset, lapse, forget, World, sees, arrives, step, run, Follows, Keeps, loss, Free, NoLapse, Agrees, Fine, some, reachesHost, start, History, Demand3}
 
 -- The invariant. d: a loss of memory may have come since the last frame that reached the host.
@@ -104,12 +104,27 @@ module _ where
   pairing (held false true l) m = m
   pairing (held true true l) m = tt
 
+  -- and so is who may send ABTS
   abort : (b : Belief) → May b abts → May b command
   abort unsure m = m
   abort (sure out) m = m
   abort (sure (held p false l)) m = m
   abort (sure (held false true l)) m = m
   abort (sure (held true true l)) m = m
+
+  -- and a data frame
+  pub paired-gives : (b : Belief) → May b fcp-data → SurePaired b
+  paired-gives unsure m = absurd m
+  paired-gives (sure out) m = absurd m
+  paired-gives (sure (held p false l)) m = absurd m
+  paired-gives (sure (held false true l)) m = absurd m
+  paired-gives (sure (held true true l)) m = sure-paired l
+
+  gives : (b : Belief) → May b fcp-data → May b command
+  gives b m = by (paired-gives b m)
+    where
+      by : {c : Belief} → SurePaired c → May c command
+      by (sure-paired l) = tt
 
   commanded : (a : Answer) (d : Bool) (b : Belief) (r r′ : Record) → May b command → OnCommand r a r′ → Fits d b r → Fits (clear (some a) d) (received a b) r′
   commanded a d unsure r r′ m h p = absurd m
@@ -130,6 +145,7 @@ module _ where
   both-arrive rrq a d b r r′ m h p = on-link same a d b r r′ h p
   both-arrive command a d b r r′ m h p = commanded a d b r r′ m h p
   both-arrive abts a d b r r′ m h p = commanded a d b r r′ (abort b m) h p
+  both-arrive fcp-data a d b r r′ m h p = commanded a d b r r′ (gives b m) h p
 
   -- the request arrives, and its answer is lost
   answer-lost : (q : Request) (a : Answer) (d : Bool) (b : Belief) (r r′ : Record) → May b q → Meets r q a r′ → Fits d b r → Fits d (hears q none b) r′
@@ -142,6 +158,7 @@ module _ where
   answer-lost rrq a d b r r′ m h p = tt
   answer-lost command a d b r r′ m h p = muted a d b r r′ m h p
   answer-lost abts a d b r r′ m h p = muted a d b r r′ (abort b m) h p
+  answer-lost fcp-data a d b r r′ m h p = muted a d b r r′ (gives b m) h p
 
   -- the request is lost
   request-lost : (q : Request) (d : Bool) (b : Belief) (r : Record) → Fits d b r → Fits d (hears q none b) r
@@ -154,6 +171,7 @@ module _ where
   request-lost rrq d b r p = tt
   request-lost command d b r p = p
   request-lost abts d b r p = p
+  request-lost fcp-data d b r p = p
 
   -- a frame that the host did not ask for: it leaves the record, lost or not
   unasked-stays : (a : Answer) (r r′ : Record) → Unasked r a r′ → r′ ≡ r
@@ -194,6 +212,7 @@ module _ where
   silence rrq = refl
   silence command = refl
   silence abts = refl
+  silence fcp-data = refl
 
   Known : Belief → Type 0
   Known unsure = ⊥
@@ -236,6 +255,7 @@ module _ where
   settles rrq a b r r′ m t h = absurd m
   settles command a b r r′ m t h = absurd m
   settles abts a b r r′ m t h = absurd m
+  settles fcp-data a b r r′ m t h = absurd m
 
 -- a host that is sure believes a login under its own port name, or none
 module _ (Own : Kept → Type 0) where
@@ -290,12 +310,13 @@ module _ (Own : Kept → Type 0) where
   hears-ours rrq a b k o = linked-ours same (tt, λ p v x e. e) a b o
   hears-ours command a b k o = received-ours a b o
   hears-ours abts a b k o = received-ours a b o
+  hears-ours fcp-data a b k o = received-ours a b o
 
   -- so a host at whose address another's login stands is unsure, whatever becomes of that login
-  foreign-fits : (d : Bool) (b : Belief) (r r′ : Record) → Foreign Own r → Ours b → Fits d b r → Fits d b r′
-  foreign-fits d unsure r r′ n o p = tt
-  foreign-fits d (sure x) r r′ n o (inl e) = absurd (n (subst (OwnRecord Own) e o))
-  foreign-fits d (sure x) r r′ n o (inr e) = absurd (n (subst (OwnRecord Own) (sym (e .1)) tt))
+  not-own-fits : (d : Bool) (b : Belief) (r r′ : Record) → NotOwn Own r → Ours b → Fits d b r → Fits d b r′
+  not-own-fits d unsure r r′ n o p = tt
+  not-own-fits d (sure x) r r′ n o (inl e) = absurd (n (subst (OwnRecord Own) e o))
+  not-own-fits d (sure x) r r′ n o (inr e) = absurd (n (subst (OwnRecord Own) (sym (e .1)) tt))
 
 -- where the drive neither powers on nor its verification time runs out, no memory is lost
 pub free-without-lapse : (D : Side) (h : List (Event D)) (w : World D) → NoLapse D h → Free D w h
@@ -337,7 +358,7 @@ module _ (D : Side) (laws : Laws D) where
 
   -- all else: the record stays, or it is another's
   passing : (x : D .Else) (b d : Bool) (w : World D) → Good d w → D .Wf (D .pass (w .drive) x)
-      → Unasked (D .login (w .drive)) (D .says (w .drive) x) (D .login (D .pass (w .drive) x)) ⊎ (Foreign (D .Own) (D .login (w .drive)) × (D .says (w .drive) x ≡ none)) → Good (later w d (pass x b)) (step D w (pass x b))
+      → Unasked (D .login (w .drive)) (D .says (w .drive) x) (D .login (D .pass (w .drive) x)) ⊎ (NotOwn (D .Own) (D .login (w .drive)) × (D .says (w .drive) x ≡ none)) → Good (later w d (pass x b)) (step D w (pass x b))
   passing x b d w g k (inl u) = record {
     formed = k;
     fits = on-unasked b (D .says (w .drive) x) d (w .belief) (D .login (w .drive)) (D .login (D .pass (w .drive) x)) u (g .fits);
@@ -345,7 +366,7 @@ module _ (D : Side) (laws : Laws D) where
   }
   passing x b d w g k (inr (n, e)) = record {
     formed = k;
-    fits = subst (λ (y : Answer). Fits (clear (some (arrives b y)) d) (received (arrives b y) (w .belief)) (D .login (D .pass (w .drive) x))) (sym e) (unheard b (foreign-fits (D .Own) d (w .belief) (D .login (w .drive)) (D .login (D .pass (w .drive) x)) n (g .ours) (g .fits)));
+    fits = subst (λ (y : Answer). Fits (clear (some (arrives b y)) d) (received (arrives b y) (w .belief)) (D .login (D .pass (w .drive) x))) (sym e) (unheard b (not-own-fits (D .Own) d (w .belief) (D .login (w .drive)) (D .login (D .pass (w .drive) x)) n (g .ours) (g .fits)));
     ours = received-ours (D .Own) (arrives b (D .says (w .drive) x)) (w .belief) (g .ours);
   }
     where

@@ -5,5 +5,7 @@ pub mod Heard
 pub mod Takes
 pub mod Instance
 pub mod Histories
+pub mod Moments
 pub mod Marked
+pub mod Written
 pub mod Drive3

@@ -1,139 +1,79 @@
 -- The history of `specs/Marked.antt`, by computation. Assumes nothing.
 use Prim.Native.Nat.{ℕ}
-use mathlib.Core.Path.{_≡_, refl, sym, ap, _∙_, subst}
-use mathlib.Core.Bool.{true, false}
-use mathlib.Core.List.{[], _∷_, _++_}
+use mathlib.Core.Path.{_≡_, refl, ap, _∙_}
+use mathlib.Core.Bool.{true}
+use mathlib.Core.List.{[]}
 use native.Mathlib.Omega.{arith}
-use lib.ListN.{replicate}
 use Rattle.wire.specs.Bytes.{nameOf, onto}
 use Rattle.frame.specs.Head.{headerOf, headerBytes}
 use Rattle.address.specs.Address.{validAddress}
 use Rattle.params.specs.Words.{paramsOf, sizeFails, zeroName, verdictOf, setupPasses}
 use Rattle.state.specs.declared.Exchange.{Exchange}
-use Rattle.state.specs.declared.Login.{Login}
-use Rattle.state.specs.Kinds.{kindRead}
+use Rattle.state.specs.Kinds.{kindBlocks, toHost}
 use Rattle.state.specs.Changes.{emptyExchange, emptyLogin, ownOf, loginAt, exchangeAt, withLogin, withExchange, hasAddress, hasName, freedOf, endedOf, hostEnded, unproven, verified, changedAll}
 use Rattle.state.specs.Tables.{hasId, findLogin, freeLogin, findExchange, freeExchange, loginOf, lookupOf}
-use Rattle.formed.specs.Formed.{setupRules, setupOf, readFits, wantedFits, sentFits, exchangeFine, apartId, paramsFine, flagsFine, addressFine, usedFine, loginFine, apartLogin, wellFormed}
+use Rattle.formed.specs.Formed.{setupRules, setupOf, blocksFit, wantedFits, directionFits, sentFits, movedFits, exchangeFine, apartId, paramsFine, flagsFine, addressFine, usedFine, loginFine, apartLogin, wellFormed}
 use Rattle.reply.specs.Payload.{shortBytes, loginBytes, pairBytes, rejectBytes, statusBytes, codeBytes, senseBytes, logoutBytes}
 use Rattle.reply.specs.Reply.{answerHead, logoutHead, dataHead, filled, bytesOf}
 use Rattle.residual.specs.Residual.{residualOf}
 use Rattle.link.specs.Link.{sizeOf, newLogin, outcomeOf, plogiOf, namesDiffer, pdiscOf, pageFine, pairFine, prliOf, serviceOf, linkOf}
-use Rattle.link.specs.Record.{Record, out, held, recordOf}
+use Rattle.link.specs.Record.{out, recordOf}
 use Rattle.command.specs.Cmnd.{cmndOf, malformed, taskFor, taskOf}
 use Rattle.command.specs.Cdb.{inquiryField, capacityField, range10, decodedOf}
-use Rattle.command.specs.Tests.{otherUnit, attends, beyond, testedBy, askedOf}
-use Rattle.command.specs.Command.{loggedOut, refusedWith, toldOf, openedOf, executeOf, commandedAt, commandOf}
+use Rattle.command.specs.Tests.{otherUnit, attends, protected, beyond, testedBy, askedOf}
+use Rattle.command.specs.Command.{loggedOut, refusedWith, toldOf, bitFor, openedOf, executeOf, commandedAt, commandOf}
 use Rattle.cover.specs.Cover.{coverOf}
 use Rattle.serve.specs.Next.{hasMore, readsMore, placeOf, frameOf, nextReply, nextExchange, sourceOf, windowPlace, askedBy, openStep, stepOf, frameBytes, movedOn, nextOf, nextBuffer}
-use Rattle.arrival.specs.Arrival.{badSize, badSource, knownPair, unknownForm, spared, unprovenLogin, formOf}
+use Rattle.arrival.specs.Arrival.{badSize, badSource, knownPair, badSequence, unknownForm, spared, unprovenLogin, formOf}
 use Rattle.drive.specs.Drive.{madeFrom, afterEvent, eventAnswer}
 use Rattle.drive.specs.Entry.{replyBytes, frameIn, frameInBuffer, nextFrame, nextFrameBuffer}
-use Rattle.demands.specs.Numbers.{words, made}
-use Rattle.belief.specs.Host.{Belief, unsure, sure, dlogo}
-use Rattle.belief.specs.Demand3.{Event, lost, mute, heard, send, next, pass, foreign, reset, lapse, World, step, run, Follows, Keeps, loss, reachesHost, start}
+use Rattle.demands.specs.Numbers.{made}
+use Rattle.belief.specs.Host.{unsure, sure, dlogo}
+use Rattle.belief.specs.Demand3.{lost, mute, heard, send, next, pass, foreign, reset, lapse, loss, reachesHost, start}
 use Rattle.belief.specs.Wire.{time-over, theDrive}
-use Rattle.belief.specs.Frames.{sentKept, hostName, logs-in, pairs, asks, verifies, reads, itsFrame, strangerAsks, strangerLogsIn, hostToStranger}
-use Rattle.belief.specs.Marked.{Day, doubtful, pairing, visited, opened, served, answered, doubted, provenAgain, late, forgotten, corrected, At, Marked}
-
--- The moments, spelt out, so that each event is computed from them and not from the first one on.
-abbrev Moment : Type 0
-Moment = World (theDrive 0x01 hostName)
-
--- a login of this address with these flags, attention and first exchange
-abbrev seat : (address proven paired attention : ℕ) → Exchange → Login
-seat address proven paired attention e =
-    record {
-      used = 1;
-      proven = proven;
-      paired = paired;
-      attention = attention;
-      concurrent = 1;
-      sequences = 1;
-      size = 2048;
-      address = address;
-      «port_name» = replicate 7 0x5a ++ (address ∷ []);
-      «node_name» = replicate 8 0x5a;
-      places = e ∷ replicate 7 emptyExchange;
-    }
-
--- the host believes this, and the drive has these two logins
-abbrev moment : Belief → Login → Login → Moment
-moment b l m =
-    record {
-      drive = record { unit = record { capacity = 100; identity = replicate 28 0x20 }; port = record { address = 0xef; accept = words 0xef 2048; logins = l ∷ m ∷ replicate 6 emptyLogin } };
-      belief = b;
-    }
+use Rattle.belief.specs.Frames.{hostName, logs-in, pairs, asks, verifies, reads, itsFrame, strangerAsks, strangerLogsIn, hostToStranger}
+use Rattle.belief.specs.Marked.{doubtful, pairing, visited, opened, served, answered, doubted, provenAgain, late, forgotten, corrected, Marked}
+use Rattle.belief.proofs.Moments.{Moment, seat, moment, in-held, paired-held, doubted-held, By, more, Reach, at-end}
 
 -- the READ after so many bytes and frames
 abbrev reading : (sent count : ℕ) → Exchange
-reading sent count = record { start = 0; blocks = 1; wanted = 512; expected = 512; sent = sent; «ox_id» = 0x0004; count = count; kind = kindRead }
-
--- what is held of the host: logged in, paired, and paired to verify
-abbrev in-held : Record
-in-held = held false true sentKept
-
-abbrev paired-held : Record
-paired-held = held true true sentKept
-
-abbrev doubted-held : Record
-doubted-held = held true false sentKept
+reading sent count = record { start = 0; blocks = 1; wanted = 512; expected = 512; sent = sent; «ox_id» = 0x0004; count = count; kind = kindBlocks; direction = toHost; awaited = 0 }
 
 abbrev m₀ : Moment
-m₀ = moment unsure emptyLogin emptyLogin
+m₀ = moment 0 unsure emptyLogin emptyLogin
 
 abbrev m₁ : Moment
-m₁ = moment unsure (seat 1 1 0 0x29 emptyExchange) emptyLogin
+m₁ = moment 0 unsure (seat 1 1 0 0x29 emptyExchange) emptyLogin
 
 abbrev m₂ : Moment
-m₂ = moment (sure in-held) (seat 1 1 0 0x29 emptyExchange) emptyLogin
+m₂ = moment 0 (sure in-held) (seat 1 1 0 0x29 emptyExchange) emptyLogin
 
 abbrev m₃ : Moment
-m₃ = moment (sure paired-held) (seat 1 1 1 0x29 emptyExchange) emptyLogin
+m₃ = moment 0 (sure paired-held) (seat 1 1 1 0x29 emptyExchange) emptyLogin
 
 abbrev m₄ : Moment
-m₄ = moment (sure paired-held) (seat 1 1 1 0x29 emptyExchange) (seat 2 1 0 0x29 emptyExchange)
+m₄ = moment 0 (sure paired-held) (seat 1 1 1 0x29 emptyExchange) (seat 2 1 0 0x29 emptyExchange)
 
 abbrev m₅ : Moment
-m₅ = moment (sure paired-held) (seat 1 1 1 0 emptyExchange) (seat 2 1 0 0x29 emptyExchange)
+m₅ = moment 0 (sure paired-held) (seat 1 1 1 0 emptyExchange) (seat 2 1 0 0x29 emptyExchange)
 
 abbrev m₆ : Moment
-m₆ = moment (sure paired-held) (seat 1 1 1 0 (reading 0 0)) (seat 2 1 0 0x29 emptyExchange)
+m₆ = moment 0 (sure paired-held) (seat 1 1 1 0 (reading 0 0)) (seat 2 1 0 0x29 emptyExchange)
 
 abbrev m₇ : Moment
-m₇ = moment (sure paired-held) (seat 1 1 1 0 (reading 512 1)) (seat 2 1 0 0x29 emptyExchange)
+m₇ = moment 0 (sure paired-held) (seat 1 1 1 0 (reading 512 1)) (seat 2 1 0 0x29 emptyExchange)
 
 abbrev m₈ : Moment
-m₈ = moment (sure doubted-held) (seat 1 0 1 0 emptyExchange) (seat 2 0 0 0x29 emptyExchange)
+m₈ = moment 0 (sure doubted-held) (seat 1 0 1 0 emptyExchange) (seat 2 0 0 0x29 emptyExchange)
 
 abbrev m₉ : Moment
-m₉ = moment (sure paired-held) (seat 1 1 1 0 emptyExchange) (seat 2 0 0 0x29 emptyExchange)
+m₉ = moment 0 (sure paired-held) (seat 1 1 1 0 emptyExchange) (seat 2 0 0 0x29 emptyExchange)
 
 abbrev m₁₀ : Moment
-m₁₀ = moment (sure doubted-held) emptyLogin emptyLogin
+m₁₀ = moment 0 (sure doubted-held) emptyLogin emptyLogin
 
 abbrev m₁₁ : Moment
-m₁₁ = moment (sure out) emptyLogin emptyLogin
-
--- a host that keeps its rules comes from one to the other
-record Leads (w : Moment) (h : Day) (v : Moment) : Type 0 where
-  keeps : Keeps (theDrive 0x01 hostName) w h
-  ends : run (theDrive 0x01 hostName) w h ≡ v
-
--- by one event
-record By (v : Moment) (e : Event (theDrive 0x01 hostName)) (u : Moment) : Type 0 where
-  follows : Follows (theDrive 0x01 hostName) v e
-  goes : step (theDrive 0x01 hostName) v e ≡ u
-
--- one event after others
-after : (w v u : Moment) (h : Day) (e : Event (theDrive 0x01 hostName)) → Leads w h v → By v e u → Leads w (h ++ (e ∷ [])) u
-after w v u [] e l b = record { keeps = (subst (λ (x : Moment). Follows (theDrive 0x01 hostName) x e) (sym (l .ends)) (b .follows), tt); ends = ap (λ (x : Moment). step (theDrive 0x01 hostName) x e) (l .ends) ∙ b .goes }
-after w v u (f ∷ h) e l b =
-    let r = after (step (theDrive 0x01 hostName) w f) v u h e record { keeps = l .keeps .1; ends = l .ends } b in
-    record { keeps = (l .keeps .0, r .keeps); ends = r .ends }
-
-more : {w v u : Moment} {h : Day} {e : Event (theDrive 0x01 hostName)} → Leads w h v → By v e u → Leads w (h ++ (e ∷ [])) u
-more {w} {v} {u} {h} {e} l b = after w v u h e l b
+m₁₁ = moment 0 (sure out) emptyLogin emptyLogin
 
 -- what is computed: the events, each from the moment before it
 record Steps : Type 0 where
@@ -168,7 +108,7 @@ record Steps : Type 0 where
   lost-memory : loss (theDrive 0x01 hostName) m₈ (lapse time-over) ≡ true
 
 steps : Steps
-unfolding frameIn frameInBuffer replyBytes headerOf headerBytes badSize badSource knownPair unknownForm spared unprovenLogin formOf validAddress madeFrom wellFormed setupRules setupOf setupPasses paramsOf sizeFails zeroName verdictOf loginFine usedFine flagsFine addressFine paramsFine exchangeFine apartId apartLogin wantedFits readFits sentFits findLogin freeLogin findExchange freeExchange loginOf hasAddress hasId loginAt exchangeAt withLogin withExchange endedOf hostEnded hasName nameOf freedOf unproven verified changedAll bytesOf filled onto answerHead logoutHead dataHead shortBytes loginBytes pairBytes rejectBytes statusBytes codeBytes senseBytes logoutBytes residualOf linkOf sizeOf plogiOf namesDiffer pdiscOf outcomeOf newLogin serviceOf prliOf pairFine pageFine cmndOf malformed taskFor taskOf otherUnit attends inquiryField capacityField range10 decodedOf beyond testedBy askedOf loggedOut refusedWith toldOf openedOf executeOf commandedAt commandOf nextFrame nextFrameBuffer lookupOf hasMore readsMore coverOf placeOf frameOf nextReply nextExchange sourceOf windowPlace ownOf askedBy openStep stepOf frameBytes movedOn nextOf nextBuffer recordOf eventAnswer afterEvent logs-in pairs asks verifies reads strangerAsks strangerLogsIn
+unfolding frameIn frameInBuffer replyBytes headerOf headerBytes badSize badSource knownPair badSequence unknownForm spared unprovenLogin formOf validAddress madeFrom wellFormed setupRules setupOf setupPasses paramsOf sizeFails zeroName verdictOf loginFine usedFine flagsFine addressFine paramsFine exchangeFine apartId apartLogin wantedFits blocksFit directionFits sentFits movedFits findLogin freeLogin findExchange freeExchange loginOf hasAddress hasId loginAt exchangeAt withLogin withExchange endedOf hostEnded hasName nameOf freedOf unproven verified changedAll bytesOf filled onto answerHead logoutHead dataHead shortBytes loginBytes pairBytes rejectBytes statusBytes codeBytes senseBytes logoutBytes residualOf linkOf sizeOf plogiOf namesDiffer pdiscOf outcomeOf newLogin serviceOf prliOf pairFine pageFine cmndOf malformed taskFor taskOf otherUnit attends inquiryField capacityField range10 decodedOf protected beyond testedBy askedOf loggedOut refusedWith toldOf bitFor openedOf executeOf commandedAt commandOf nextFrame nextFrameBuffer lookupOf hasMore readsMore coverOf placeOf frameOf nextReply nextExchange sourceOf windowPlace ownOf askedBy openStep stepOf frameBytes movedOn nextOf nextBuffer recordOf eventAnswer afterEvent logs-in pairs asks verifies reads strangerAsks strangerLogsIn
 steps =
     record {
       begins = refl;
@@ -201,49 +141,41 @@ steps =
       lost-memory = refl;
     }
 
--- from the start to each marked moment
-abbrev Reach : Day → Moment → Type 0
-Reach h v = Leads (start (theDrive 0x01 hostName) (made 100)) h v
-
-begun : Reach [] m₀
+begun : Reach (made 100) [] m₀
 begun = record { keeps = tt; ends = steps .begins }
 
-to-doubtful : Reach doubtful m₁
+to-doubtful : Reach (made 100) doubtful m₁
 to-doubtful = more (more begun (steps .e₁)) (steps .e₂)
 
-to-pairing : Reach pairing m₃
+to-pairing : Reach (made 100) pairing m₃
 to-pairing = more (more to-doubtful (steps .e₃)) (steps .e₄)
 
-to-visited : Reach visited m₄
+to-visited : Reach (made 100) visited m₄
 to-visited = more (more (more (more to-pairing (steps .e₅)) (steps .e₆)) (steps .e₇)) (steps .e₈)
 
-to-opened : Reach opened m₆
+to-opened : Reach (made 100) opened m₆
 to-opened = more (more to-visited (steps .e₉)) (steps .e₁₀)
 
-to-served : Reach served m₇
+to-served : Reach (made 100) served m₇
 to-served = more to-opened (steps .e₁₁)
 
-to-answered : Reach answered m₅
+to-answered : Reach (made 100) answered m₅
 to-answered = more to-served (steps .e₁₂)
 
-to-doubted : Reach doubted m₈
+to-doubted : Reach (made 100) doubted m₈
 to-doubted = more to-answered (steps .e₁₃)
 
-to-proven : Reach provenAgain m₉
+to-proven : Reach (made 100) provenAgain m₉
 to-proven = more to-doubted (steps .e₁₄)
 
-to-late : Reach late m₈
+to-late : Reach (made 100) late m₈
 to-late = more to-proven (steps .e₁₅)
 
-to-forgotten : Reach forgotten m₁₀
+to-forgotten : Reach (made 100) forgotten m₁₀
 to-forgotten = more to-late (steps .e₁₆)
 
-to-corrected : Reach corrected m₁₁
+to-corrected : Reach (made 100) corrected m₁₁
 to-corrected = more to-forgotten (steps .e₁₇)
-
--- what holds at a moment holds at the end of the history that leads to it
-at-end : {h : Day} {v : Moment} → Reach h v → (r : Record) → recordOf (v .drive .port) 0x01 ≡ r → At h (v .belief) r
-at-end l r e = record { belief = ap (λ (x : Moment). x .belief) (l .ends); record-is = ap (λ (x : Moment). recordOf (x .drive .port) 0x01) (l .ends) ∙ e }
 
 pub marked : Marked
 marked =

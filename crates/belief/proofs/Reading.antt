@@ -1,7 +1,7 @@
 -- What the host reads off the front of the buffer is the kind of the reply, and whom it is for the sender that it answers. Assumes nothing.
 use Prim.Native.Nat.{ℕ, _+_, _≤_, _<_}
 use mathlib.Core.Path.{_≡_, refl, ap, _∙_}
-use mathlib.Core.Bool.{Bool, true, false, cond}
+use mathlib.Core.Bool.{Bool, true, false, cond, not}
 use mathlib.Core.List.{List, [], _++_}
 use native.Mathlib.Decide.{decLe}
 use native.Mathlib.Omega.{arith}
@@ -21,7 +21,8 @@ use Rattle.reply.specs.declared.Accepted.the-variants as accepted
 use Rattle.reply.specs.declared.Reply.{Reply}
 use Rattle.reply.specs.declared.Reply.the-variants as reply
 use Rattle.reply.specs.Payload.{shortBytes, loginBytes, addressBytes, pairBytes, unpairBytes, acceptedBytes, rejectBytes}
-use Rattle.reply.specs.Reply.{answerHead, logoutHead, dataHead, filled, bytesOf}
+use Rattle.reply.specs.Reply.{answerHead, logoutHead, dataHead, filled, silent, bytesOf}
+use Rattle.serve.specs.Whole.{isSent}
 use Rattle.belief.specs.Host.{Answer, none, acc, rjt, dlogo, other}
 use Rattle.belief.specs.Wire.{soundOf, heardOf}
 
@@ -45,6 +46,7 @@ sounds reply.AbortAccept = other
 sounds reply.AbortReject = other
 sounds (reply.Respond x) = other
 sounds (reply.Data x) = other
+sounds (reply.Ready x y) = other
 
 -- by the bytes 0 and 24 of a reply that has more than 24, or by that it has 24
 module _ (B l : List ℕ) (room : 2136 ≤ length l) (some : 24 ≤ length B) where
@@ -136,3 +138,13 @@ reads a o h reply.AbortAccept source l room small = framed-named _ _ l room a sm
 reads a o h reply.AbortReject source l room small = framed-named _ _ l room a small other (framed-other _ _ l room 0x85 refl refl refl)
 reads a o h (reply.Respond x) source l room small = framed-named _ _ l room a small other (framed-other _ _ l room 0x07 refl refl refl)
 reads a o h (reply.Data x) source l room small = framed-named _ _ l room a small other (framed-other _ _ l room 0x01 refl refl refl)
+reads a o h (reply.Ready x y) source l room small = framed-named _ _ l room a small other (framed-other _ _ l room 0x05 refl refl refl)
+
+-- a reply is sent where it is not silent, since it has a header then
+head-sent : (b : Bool) (g : Header) (P : List ℕ) → isSent (Sent (length (cond b [] (headerBytes g ++ P)))) ≡ not b
+head-sent true g P = refl
+head-sent false g P = let q = head-length g P in rw (ne-eqb (length (headerBytes g ++ P)) 0 (λ e. absurd (omega arith)))
+
+pub sent-is : (o : Own) (h : Header) (r : Reply) (source : List ℕ) → isSent (Sent (length (bytesOf o h r source))) ≡ not (silent r)
+unfolding bytesOf
+sent-is o h r source = head-sent (silent r) _ _

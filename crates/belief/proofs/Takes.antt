@@ -21,6 +21,7 @@ use Rattle.state.specs.declared.Port.{Port}
 use Rattle.state.specs.declared.Change.the-variants.{EndLogin}
 use Rattle.state.specs.Changes.{loginAt, changedAll}
 use Rattle.state.specs.Tables.{findLogin, loginIn, loginOf}
+use Rattle.state.proofs.Places.{open-place}
 use Rattle.formed.specs.Formed.{apartLogin, wellFormed}
 use Rattle.formed.proofs.Parts.{formed-parts}
 use Rattle.reply.specs.declared.Reply.{Reply}
@@ -30,20 +31,24 @@ use Rattle.calls.specs.Turn.{Decided, decidedAs}
 use Rattle.link.specs.Link.{sizeOf, logoOf, linkOf, abtsOf}
 use Rattle.link.specs.Record.{Kept, Record, out, held, keptFrom, recordAt, recordOf}
 use Rattle.link.proofs.Ways.{is-logo}
-use Rattle.link.proofs.Records.{recordIn, record-is, end-record}
+use Rattle.link.proofs.Records.{recordIn, record-is, found-record, end-record}
 use Rattle.link.proofs.Services.{AfterPlogi, AfterService, AfterAbort, effectOf}
 use Rattle.link.proofs.Requests.{link-plogi, link-service, link-out, abts-reply, abts-record}
 use Rattle.command.specs.Command.{loggedOut, commandOf}
 use Rattle.command.proofs.Logins.{Alike, alike, Spoken, silent, responds, command-paired, command-spoken, command-unpaired}
+use Rattle.taking.specs.declared.Step.{Step}
+use Rattle.taking.specs.declared.Step.the-variants as step
+use Rattle.taking.specs.Taking.{stepIn, dataDecided}
+use Rattle.taking.proofs.Others.{Exchanged, exchanged, data-exchanges}
+use Rattle.taking.proofs.Silent.{replyBy, data-reply, data-fault}
 use Rattle.arrival.specs.declared.Form.{Form}
 use Rattle.arrival.specs.Arrival.{formOf}
-use Rattle.arrival.proofs.Passes.{Passes, passes}
 use Rattle.drive.specs.declared.Drive.{Drive}
 use Rattle.drive.specs.Entry.{decidedOf, decidedIn, frameIn}
-use Rattle.drive.proofs.Ways.{frame-cases}
+use Rattle.drive.proofs.Ways.{PassesIn, passes-in, frame-cases}
 use Rattle.demands.proofs.Refusals.{frame-refuses, frame-answers}
-use Rattle.belief.specs.Host.{Request, plogi, pdisc, logo, adisc, prli, prlo, rrq, command, abts, none}
-use Rattle.belief.specs.Side.{OnPlogi, OnLogo, OnLink, OnCommand, Meets}
+use Rattle.belief.specs.Host.{Request, plogi, pdisc, logo, adisc, prli, prlo, rrq, command, abts, fcp-data, none}
+use Rattle.belief.specs.Side.{Held, OnPlogi, OnLogo, OnLink, OnCommand, Meets}
 use Rattle.belief.specs.Wire.{Linked, Makes, heardIn}
 use Rattle.belief.proofs.Reading.{sounds}
 use Rattle.belief.proofs.Heard.{passed-heard}
@@ -58,6 +63,7 @@ after-plogi q k e reply.AbortAccept r h = h
 after-plogi q k e reply.AbortReject r h = h
 after-plogi q k e (reply.Respond x) r h = h
 after-plogi q k e (reply.Data x) r h = h
+after-plogi q k e (reply.Ready x y) r h = h
 
 held-service : (g : Record → Record) (p v : Bool) (k : Kept) (x : Reply) (r : Record) → AfterService g (held p v k) x r → OnLink g (held p v k) (sounds x) r
 held-service g p v k reply.Nothing r h = tt
@@ -68,6 +74,7 @@ held-service g p v k reply.AbortAccept r h = h
 held-service g p v k reply.AbortReject r h = h
 held-service g p v k (reply.Respond y) r h = h
 held-service g p v k (reply.Data y) r h = h
+held-service g p v k (reply.Ready y z) r h = h
 
 after-service : (g : Record → Record) (o : Record) (x : Reply) (r : Record) → AfterService g o x r → (o ≡ out → x ≡ reply.Logout) → OnLink g o (sounds x) r
 after-service g out x r h none-there =
@@ -84,6 +91,7 @@ held-abort p v k reply.AbortAccept r h e = (tt, e)
 held-abort p v k reply.AbortReject r h e = (tt, e)
 held-abort p v k (reply.Respond y) r h e = absurd h
 held-abort p v k (reply.Data y) r h e = absurd h
+held-abort p v k (reply.Ready y z) r h e = absurd h
 
 out-abort : (x : Reply) (r : Record) → AfterAbort out x → r ≡ out → OnCommand out (sounds x) r
 out-abort reply.Nothing r h e = e
@@ -94,6 +102,7 @@ out-abort reply.AbortAccept r h e = absurd (h refl)
 out-abort reply.AbortReject r h e = absurd (h refl)
 out-abort (reply.Respond y) r h e = absurd h
 out-abort (reply.Data y) r h e = absurd h
+out-abort (reply.Ready y z) r h e = absurd h
 
 after-abort : (o : Record) (x : Reply) (r : Record) → AfterAbort o x → r ≡ o → OnCommand o (sounds x) r
 after-abort out x r h e = out-abort x r h e
@@ -119,6 +128,14 @@ alike-record p q a x = record-is q a ∙ by x ∙ sym (record-is p a)
     by : {l m : Login} → Alike l m → recordIn m ≡ recordIn l
     by (alike n es) = refl
 
+-- so has one with other exchanges alone
+exchanged-alike : {l m : Login} → Exchanged l m → Alike l m
+exchanged-alike {l} (exchanged es) = alike (l .attention) es
+
+-- where a login is found, its record is held
+pub found-held : (p : Port) (a i : ℕ) → findLogin p a ≡ At i → Held (recordOf p a)
+found-held p a i e = subst Held (sym (found-record p a i e)) tt
+
 paired-command : (o : Record) (x : Reply) (r : Record) → isPaired o ≡ true → Spoken x → r ≡ o → OnCommand o (sounds x) r
 paired-command out x r n s e = bools.apart n refl
 paired-command (held p v k) x r n silent e = e
@@ -140,8 +157,9 @@ refused-meets r prlo = tt
 refused-meets r rrq = tt
 refused-meets r command = refl
 refused-meets r abts = refl
+refused-meets r fcp-data = refl
 
-module _ (d : Drive) (w : wellFormed (d .unit) (d .port) ≡ true) (f l : List ℕ) where
+module _ (d : Drive) (w : wellFormed (d .unit) (d .port) ≡ true) (f : List ℕ) (start : ℕ) (W l : List ℕ) where
   abbrev p : Port
   p = d .port
 
@@ -151,12 +169,15 @@ module _ (d : Drive) (w : wellFormed (d .unit) (d .port) ≡ true) (f l : List �
   abbrev from : ℕ
   from = headerOf f .«s_id»
 
+  abbrev len : ℕ
+  len = length W
+
   apart : pairs apartLogin (d .port .logins) ≡ true
   apart = formed-parts w .distinct
 
   -- what comes back of a frame that passes, and the port after it
-  passed-hears : Passes (d .unit) p h f (length l) → (heardIn from d f l ≡ sounds (decidedIn d f .reply)) × (frameIn d f (length l) .drive .port ≡ decidedIn d f .port)
-  passed-hears s = (passed-heard from d f l s ∙ rw (eq-eqb from from refl), rw (frame-answers d f l (passes (d .unit) p h f (length l) s) .0))
+  passed-hears : PassesIn d f start len (length l) → (heardIn from d f start W l ≡ sounds (decidedIn d f start len .reply)) × (frameIn d f start W (length l) .drive .port ≡ decidedIn d f start len .port)
+  passed-hears s = (passed-heard from d f start W l s ∙ rw (eq-eqb from from refl), rw (frame-answers d f start W l (passes-in d f start len (length l) s) .0))
 
   -- a link request
   module _ (code size : ℕ) (is : Linked from f code size) (right : sizeOf code ≡ size) where
@@ -199,8 +220,25 @@ module _ (d : Drive) (w : wellFormed (d .unit) (d .port) ≡ true) (f l : List �
           (alike-record p (commanded .port) from (command-paired (d .unit) p h f apart r from))
       by false r = rw (command-unpaired (d .unit) p h f r) (unpaired-command (recordOf p from) _ (paired-record p from ∙ r) (end-record p apart from))
 
+  -- a data frame: no record changes; only a fault is answered, and then its sender has a login
+  abbrev given : Decided
+  given = dataDecided p h (length f) start len
+
+  data-meets : OnCommand (recordOf p from) (sounds (given .reply)) (recordOf (given .port) from)
+  data-meets = rw (data-reply p h (length f) start len) (by (stepIn (loginOf p from) h (length f) start len) refl)
+    where
+      same : recordOf (given .port) from ≡ recordOf p from
+      same = alike-record p (given .port) from (exchanged-alike (data-exchanges p h (length f) start len from))
+
+      by : (s : Step) → stepIn (loginOf p from) h (length f) start len ≡ s → OnCommand (recordOf p from) (sounds (replyBy s)) (recordOf (given .port) from)
+      by step.NoWrite e = same
+      by (step.Fault j code) e = let t = data-fault p h (length f) start len j code e in (found-held p from (t .i) (open-place p from (h .«ox_id») (t .i) j (t .stood)), same)
+      by step.Uncovered e = same
+      by (step.Take j k) e = same
+
   -- each request in its own kind of frame
-  decided-meets : (q : Request) (k : Form) → k ≡ formOf (h .«r_ctl») → Makes from f q → Meets (recordOf p from) q (sounds (decidedOf (d .unit) p h k f .reply)) (recordOf (decidedOf (d .unit) p h k f .port) from)
+  decided-meets : (q : Request) (k : Form) → k ≡ formOf (h .«r_ctl») → Makes from f q
+      → Meets (recordOf p from) q (sounds (decidedOf (d .unit) p h k f start len .reply)) (recordOf (decidedOf (d .unit) p h k f start len .port) from)
   unfolding formOf sizeOf effectOf
   decided-meets (plogi m) k e x = rw (e ∙ ap formOf (x .0 .form .routing)) (plogi-meets m x)
   decided-meets (pdisc m) k e x = rw (e ∙ ap formOf (x .0 .form .routing)) (service-meets 0x50 116 (x .0) refl (λ z. absurd (omega arith)) (λ z. absurd (omega arith)) (λ z. absurd (omega arith)))
@@ -212,11 +250,12 @@ module _ (d : Drive) (w : wellFormed (d .unit) (d .port) ≡ true) (f l : List �
   decided-meets command k e x = rw (e ∙ ap formOf (x .routing)) command-meets
   decided-meets abts k e x =
       rw (e ∙ ap formOf (x .routing)) (after-abort (recordOf p from) (abtsOf p from (h .«ox_id») (h .«rx_id») .reply) (recordOf (abtsOf p from (h .«ox_id») (h .«rx_id») .port) from) (abts-reply p from (h .«ox_id») (h .«rx_id»)) (abts-record p from (h .«ox_id») (h .«rx_id»)))
+  decided-meets fcp-data k e x = rw (e ∙ ap formOf (x .routing)) data-meets
 
-  frame-meets : (q : Request) → Makes from f q → Meets (recordOf p from) q (heardIn from d f l) (recordOf (frameIn d f (length l) .drive .port) from)
+  frame-meets : (q : Request) → Makes from f q → Meets (recordOf p from) q (heardIn from d f start W l) (recordOf (frameIn d f start W (length l) .drive .port) from)
   frame-meets q x =
-      frame-cases d f (length l) (λ _. Meets (recordOf p from) q (heardIn from d f l) (recordOf (frameIn d f (length l) .drive .port) from))
-      (λ y i. rw (frame-refuses d f l y i .0) (refused-meets (recordOf p from) q)) (λ s. let t = passed-hears s in rw (t .0, t .1) (decided-meets q (formOf (h .«r_ctl»)) refl x))
+      frame-cases d f start W (length l) (λ _. Meets (recordOf p from) q (heardIn from d f start W l) (recordOf (frameIn d f start W (length l) .drive .port) from))
+      (λ y i. rw (frame-refuses d f start W l y i .0) (refused-meets (recordOf p from) q)) (λ s. let t = passed-hears s in rw (t .0, t .1) (decided-meets q (formOf (h .«r_ctl»)) refl x))
 
 -- whose frame it is
 source-of : (a : ℕ) (f : List ℕ) (q : Request) → Makes a f q → headerOf f .«s_id» ≡ a
@@ -229,11 +268,12 @@ source-of a f prlo m = m .form .source
 source-of a f rrq m = m .form .source
 source-of a f command m = m .source
 source-of a f abts m = m .source
+source-of a f fcp-data m = m .source
 
 -- the law of a host's frame
-pub host-takes : (a : ℕ) (d : Drive) → wellFormed (d .unit) (d .port) ≡ true → (f l : List ℕ) (q : Request) → Makes a f q
-    → Meets (recordOf (d .port) a) q (heardIn a d f l) (recordOf (frameIn d f (length l) .drive .port) a)
-host-takes a d w f l q m =
+pub host-takes : (a : ℕ) (d : Drive) → wellFormed (d .unit) (d .port) ≡ true → (f : List ℕ) (start : ℕ) (W l : List ℕ) (q : Request) → Makes a f q
+    → Meets (recordOf (d .port) a) q (heardIn a d f start W l) (recordOf (frameIn d f start W (length l) .drive .port) a)
+host-takes a d w f start W l q m =
     let s = source-of a f q m in
-    subst (λ (x : ℕ). Meets (recordOf (d .port) x) q (heardIn x d f l) (recordOf (frameIn d f (length l) .drive .port) x)) s
-    (frame-meets d w f l q (subst (λ (x : ℕ). Makes x f q) (sym s) m))
+    subst (λ (x : ℕ). Meets (recordOf (d .port) x) q (heardIn x d f start W l) (recordOf (frameIn d f start W (length l) .drive .port) x)) s
+    (frame-meets d w f start W l q (subst (λ (x : ℕ). Makes x f q) (sym s) m))

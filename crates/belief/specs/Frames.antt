@@ -1,8 +1,8 @@
--- The frames of the histories of `Histories.antt` and `Marked.antt`, as they arrive: of the host, whose address is 01h, and of another port, whose address is 02h.
+-- The frames of the histories of `Histories.antt`, `Marked.antt` and `Written.antt`, as they arrive: of the host, whose address is 01h, and of another port, whose address is 02h.
 use Prim.Native.Nat.{ℕ}
 use mathlib.Core.Path.{_≡_, refl}
 use mathlib.Core.Bool.{true}
-use mathlib.Core.List.{List, _∷_, _++_}
+use mathlib.Core.List.{List, [], _∷_, _++_}
 use native.Mathlib.Decide.{decLe}
 use native.Mathlib.Omega.{arith}
 use lib.Dec.{ltb}
@@ -46,6 +46,8 @@ logs-in =
     record {
       request = host.plogi sentKept;
       bytes = numbers.plogi 0x01 2048;
+      start = 0;
+      window = [];
       buffer = buffer;
       known = bytes-known (numbers.plogi 0x01 2048) refl;
       makes = (record { form = record { routing = refl; source = refl }; coded = refl; sized = refl }, refl);
@@ -59,6 +61,8 @@ pairs =
     record {
       request = host.prli;
       bytes = numbers.prli 0x01;
+      start = 0;
+      window = [];
       buffer = buffer;
       known = bytes-known (numbers.prli 0x01) refl;
       makes = record { form = record { routing = refl; source = refl }; coded = refl; sized = refl };
@@ -72,6 +76,8 @@ asks =
     record {
       request = host.command;
       bytes = numbers.ready 0x01;
+      start = 0;
+      window = [];
       buffer = buffer;
       known = bytes-known (numbers.ready 0x01) refl;
       makes = record { routing = refl; source = refl };
@@ -88,6 +94,8 @@ verifies =
     record {
       request = host.pdisc sentKept;
       bytes = pdisc;
+      start = 0;
+      window = [];
       buffer = buffer;
       known = bytes-known pdisc refl;
       makes = (record { form = record { routing = refl; source = refl }; coded = refl; sized = refl }, refl);
@@ -101,6 +109,8 @@ reads =
     record {
       request = host.command;
       bytes = numbers.read 0x01 0x0004 0 1 512;
+      start = 0;
+      window = [];
       buffer = buffer;
       known = bytes-known (numbers.read 0x01 0x0004 0 1 512) refl;
       makes = record { routing = refl; source = refl };
@@ -111,16 +121,56 @@ reads =
 abbrev pub itsFrame : ForHost
 itsFrame = record { ox = 0x0004; start = 0; window = replicate 512 0xa5; buffer = buffer }
 
+-- its WRITE of the first block: CDB code 2Ah, the write bit set
+abbrev pub writing : List ℕ
+writing = numbers.frame 0x06 0x08 0x01 0x0005 (replicate 11 0 ++ (0x01 ∷ 0x2a ∷ 0x00 ∷ bytes 4 0) ++ (0x00 ∷ bytes 2 1) ++ replicate 7 0 ++ bytes 4 512)
+
+unfoldable pub writes : FromHost 0x01 hostName
+unfolding headerOf headerBytes
+writes =
+    record {
+      request = host.command;
+      bytes = writing;
+      start = 0;
+      window = [];
+      buffer = buffer;
+      known = bytes-known writing refl;
+      makes = record { routing = refl; source = refl };
+      named = tt;
+    }
+
+-- the block that it writes, at offset 0, with a window for it
+abbrev pub block : List ℕ
+block = numbers.frame 0x01 0x08 0x01 0x0005 (replicate 512 0xa5)
+
+unfoldable pub gives : FromHost 0x01 hostName
+unfolding headerOf headerBytes
+gives =
+    record {
+      request = host.fcp-data;
+      bytes = block;
+      start = 0;
+      window = replicate 512 0x00;
+      buffer = buffer;
+      known = bytes-known block refl;
+      makes = record { routing = refl; source = refl };
+      named = tt;
+    }
+
+-- the WRITE's next frame, which takes no window's bytes
+abbrev pub itsWord : ForHost
+itsWord = record { ox = 0x0005; start = 0; window = []; buffer = buffer }
+
 -- another port sends a command without a login, and is answered with a LOGO
 unfoldable pub strangerAsks : Others 0x01 hostName
 unfolding headerOf headerBytes
-strangerAsks = frame (numbers.ready 0x02) buffer (bytes-known (numbers.ready 0x02) refl) (λ e. let z : _≡_ {A = ℕ} 2 1 = e in omega arith) (λ m. let z : _≡_ {A = ℕ} 0x06 0x22 = m .0 .form .routing in omega arith)
+strangerAsks = frame (numbers.ready 0x02) 0 [] buffer (bytes-known (numbers.ready 0x02) refl) (λ e. let z : _≡_ {A = ℕ} 2 1 = e in omega arith) (λ m. let z : _≡_ {A = ℕ} 0x06 0x22 = m .0 .form .routing in omega arith)
 
 -- and logs in
 unfoldable pub strangerLogsIn : Others 0x01 hostName
 unfolding headerOf headerBytes paramsOf nameOf
 strangerLogsIn =
-    frame (numbers.plogi 0x02 2048) buffer (bytes-known (numbers.plogi 0x02 2048) refl) (λ e. let z : _≡_ {A = ℕ} 2 1 = e in omega arith)
+    frame (numbers.plogi 0x02 2048) 0 [] buffer (bytes-known (numbers.plogi 0x02 2048) refl) (λ e. let z : _≡_ {A = ℕ} 2 1 = e in omega arith)
     (λ m. let z : _≡_ {A = ℕ} 0x5a5a5a5a5a5a5a02 0x5a5a5a5a5a5a5a01 = m .1 in omega arith)
 
 -- the PLOGI of an address with the names of another
@@ -129,4 +179,4 @@ loginAs from named = numbers.frame 0x22 0x01 from 1 (0x03 ∷ 0x00 ∷ 0x00 ∷ 
 
 -- the host's own frame to that port
 abbrev pub hostToStranger : Others 0x01 hostName
-hostToStranger = elsewhere (0x22 ∷ bytes 3 0x02 ++ (0x00 ∷ bytes 3 0x01) ++ replicate 16 0) buffer
+hostToStranger = elsewhere (0x22 ∷ bytes 3 0x02 ++ (0x00 ∷ bytes 3 0x01) ++ replicate 16 0) 0 [] buffer

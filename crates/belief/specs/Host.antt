@@ -14,10 +14,10 @@ pub data Belief : Type 0 where
 pub data Request : Type 0 where
   plogi pdisc : Kept → Request
   logo adisc prli prlo rrq : Request
-  command abts : Request
+  command abts fcp-data : Request
 
 -- What can come back. `none`: nothing comes back, since the drive refused the frame or took it in silence.
--- `dlogo`: a LOGO by the drive. `other`: BA_ACC, BA_RJT, FCP_DATA, FCP_RSP.
+-- `dlogo`: a LOGO by the drive. `other`: BA_ACC, BA_RJT, FCP_DATA, FCP_XFER_RDY, FCP_RSP.
 pub data Answer : Type 0 where
   none acc rjt dlogo other : Answer
 
@@ -41,6 +41,7 @@ MayOut prlo = ⊥
 MayOut rrq = ⊥
 MayOut command = ⊥
 MayOut abts = ⊥
+MayOut fcp-data = ⊥
 
 -- "To verify: only PLOGI, LOGO, PDISC, ADISC"; "PDISC repeats the login's parameters"
 abbrev pub MayVerify : Kept → Request → Type 0
@@ -53,6 +54,7 @@ MayVerify l prlo = ⊥
 MayVerify l rrq = ⊥
 MayVerify l command = ⊥
 MayVerify l abts = ⊥
+MayVerify l fcp-data = ⊥
 
 -- "in adds PRLI, PDISC, ADISC"
 abbrev pub MayIn : Kept → Request → Type 0
@@ -65,8 +67,9 @@ MayIn l prlo = ⊥
 MayIn l rrq = ⊥
 MayIn l command = ⊥
 MayIn l abts = ⊥
+MayIn l fcp-data = ⊥
 
--- "paired adds PRLO, commands, ABTS, RRQ but not PRLI"
+-- "paired adds PRLO, commands, ABTS, RRQ but not PRLI"; "The host's rules let paired send data frames" (02, 2)
 abbrev pub MayPaired : Kept → Request → Type 0
 MayPaired l (plogi m) = Unit {0}
 MayPaired l logo = Unit {0}
@@ -77,6 +80,7 @@ MayPaired l prlo = Unit {0}
 MayPaired l rrq = Unit {0}
 MayPaired l command = Unit {0}
 MayPaired l abts = Unit {0}
+MayPaired l fcp-data = Unit {0}
 
 -- what the host may send, by its belief
 abbrev pub May : Belief → Request → Type 0
@@ -85,6 +89,10 @@ May (sure out) q = MayOut q
 May (sure (held p false l)) q = MayVerify l q
 May (sure (held false true l)) q = MayIn l q
 May (sure (held true true l)) q = MayPaired l q
+
+-- a host that is sure of a pairing, with nothing to verify
+pub data SurePaired : Belief → Type 0 where
+  sure-paired : (l : Kept) → SurePaired (sure (held true true l))
 
 -- What the host believes after an answer, by the kind of its request. `none` is also what a lost request or answer is to it.
 -- "PLOGI ACC: in; LS_RJT: out"
@@ -111,7 +119,7 @@ afterLink f rjt b = b
 afterLink f dlogo b = sure out
 afterLink f other b = b
 
--- A frame that answers no link request: "LOGO .. received: out"; "other frames .. change nothing". After a command or ABTS silence says nothing.
+-- A frame that answers no link request: "LOGO .. received: out"; "other frames .. change nothing". After a command, ABTS or a data frame silence says nothing.
 -- (That a host may also grow unsure at any time is the event `forget`.)
 abbrev pub received : Answer → Belief → Belief
 received none b = b
@@ -131,3 +139,4 @@ hears prlo a b = afterLink unpaired a b
 hears rrq a b = afterLink same a b
 hears command a b = received a b
 hears abts a b = received a b
+hears fcp-data a b = received a b

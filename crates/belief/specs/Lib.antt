@@ -6,4 +6,5 @@ pub mod Wire
 pub mod Frames
 pub mod Histories
 pub mod Marked
+pub mod Written
 pub mod Drive3

@@ -3,12 +3,13 @@ use mathlib.Core.Path.{_≡_}
 use mathlib.Core.Bool.{true, false}
 use mathlib.Core.List.{List, [], _∷_, _++_}
 use Rattle.link.specs.Record.{Record, out, held, recordOf}
+use Rattle.drive.specs.declared.Drive.{Drive}
 use Rattle.demands.specs.Numbers.{made}
 use Rattle.belief.specs.Host.{Belief, unsure, sure, dlogo}
 use Rattle.belief.specs.Demand3.{Event, lost, mute, heard, send, next, pass, foreign, reset, lapse, Keeps, loss, reachesHost, start}
 use Rattle.belief.specs.Wire.{time-over, theDrive}
 use Rattle.belief.specs.Frames.{sentKept, hostName, logs-in, pairs, asks, verifies, reads, itsFrame, strangerAsks, strangerLogsIn, hostToStranger}
-use Rattle.belief.specs.Histories.{world}
+use Rattle.belief.specs.Histories.{world, from}
 
 -- a history of the host of address 01h
 abbrev pub Day : Type 0
@@ -56,10 +57,13 @@ forgotten = late ++ (lapse time-over ∷ [])
 abbrev pub corrected : Day
 corrected = forgotten ++ (send verifies heard ∷ [])
 
--- what the host believes, and what the drive's record for it is
-pub record At (h : Day) (b : Belief) (r : Record) : Type 0 where
-  pub belief : world h .belief ≡ b
-  pub record-is : recordOf (world h .drive .port) 0x01 ≡ r
+-- what the host believes, and what the drive's record for it is, after a history from a drive on
+pub record AtFrom (d : Drive) (h : Day) (b : Belief) (r : Record) : Type 0 where
+  pub belief : from d h .belief ≡ b
+  pub record-is : recordOf (from d h .drive .port) 0x01 ≡ r
+
+abbrev pub At : Day → Belief → Record → Type 0
+At = AtFrom (made 100)
 
 pub record Marked : Type 0 where
   -- the host keeps its rules throughout

@@ -5,7 +5,7 @@ use mathlib.Core.Path.{_≡_}
 use mathlib.Core.Bool.{Bool, true, false, cond}
 use mathlib.Core.Logic.{_⊎_}
 use Rattle.link.specs.Record.{Kept, Record, out, held, proved, paired, unpaired, doubted}
-use Rattle.belief.specs.Host.{Request, plogi, pdisc, logo, adisc, prli, prlo, rrq, command, abts, Answer, none, acc, rjt, dlogo, other, same}
+use Rattle.belief.specs.Host.{Request, plogi, pdisc, logo, adisc, prli, prlo, rrq, command, abts, fcp-data, Answer, none, acc, rjt, dlogo, other, same}
 
 pub record Side : Type 1 where
   pub State : Type 0
@@ -41,8 +41,8 @@ OwnRecord Own out = Unit {0}
 OwnRecord Own (held p v k) = Own k
 
 -- a login under another port name: what an earlier user of the address left
-abbrev pub Foreign : (Kept → Type 0) → Record → Type 0
-Foreign Own r = OwnRecord Own r → ⊥
+abbrev pub NotOwn : (Kept → Type 0) → Record → Type 0
+NotOwn Own r = OwnRecord Own r → ⊥
 
 -- the host logs in under its own port name; of no other request is anything asked
 abbrev pub OwnIn : (Kept → Type 0) → Request → Type 0
@@ -55,6 +55,7 @@ OwnIn Own prlo = Unit {0}
 OwnIn Own rrq = Unit {0}
 OwnIn Own command = Unit {0}
 OwnIn Own abts = Unit {0}
+OwnIn Own fcp-data = Unit {0}
 
 abbrev pub Held : Record → Type 0
 Held out = ⊥
@@ -104,6 +105,7 @@ Meets r prlo a r′ = OnLink unpaired r a r′
 Meets r rrq a r′ = OnLink same r a r′
 Meets r command a r′ = OnCommand r a r′
 Meets r abts a r′ = OnCommand r a r′
+Meets r fcp-data a r′ = OnCommand r a r′
 
 -- What a call that is no frame of the host may leave for it: nothing changes, and what is sent goes to a host that is logged in, or is a LOGO to one that is out, since the loop may lose it.
 abbrev pub Unasked : Record → Answer → Record → Type 0
@@ -123,9 +125,9 @@ pub record Laws (D : Side) : Type 0 where
   pub owns : (f : D .Sent) → OwnIn (D .Own) (D .asks f)
   -- a frame of the host
   pub takes : (s : D .State) (f : D .Sent) → D .Wf s → Meets (D .login s) (D .asks f) (D .answer s f) (D .login (D .take s f))
-  -- a next frame, and all else: a login under another port name may also end, and the host hears nothing of it
+  -- a next frame, and all else: of a login under another port name no more is asked than that the host hears nothing
   pub calls : (s : D .State) (c : D .Call) → D .Wf s → Unasked (D .login s) (D .speaks s c) (D .login (D .call s c))
-  pub passes : (s : D .State) (x : D .Else) → D .Wf s → D .Aside s x → Unasked (D .login s) (D .says s x) (D .login (D .pass s x)) ⊎ (Foreign (D .Own) (D .login s) × (D .says s x ≡ none))
+  pub passes : (s : D .State) (x : D .Else) → D .Wf s → D .Aside s x → Unasked (D .login s) (D .says s x) (D .login (D .pass s x)) ⊎ (NotOwn (D .Own) (D .login s) × (D .says s x ≡ none))
   pub resets : (s : D .State) → D .Wf s → D .login (D .reset s) ≡ doubted (D .login s)
   -- a loss of memory ends the login, and what is none leaves the record as it was
   pub lapses : (s : D .State) (x : D .Lapse) → D .Wf s → D .login (D .lapse s x) ≡ cond (D .loses s x) out (D .login s)

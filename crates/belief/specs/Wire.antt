@@ -1,4 +1,4 @@
--- The drive itself as demand 3 sees it: its entries' definitions of record over bytes, for the host of one address and one port name (document 01, "The host's rules"; document 02, request 1).
+-- The drive itself as demand 3 sees it: its entries' definitions of record over bytes, for the host of one address and one port name (document 01, "The host's rules"; document 02, requests 1 and 2).
 use Prim.Native.Nat.{ℕ, _+_}
 use mathlib.Core.Path.{_≡_}
 use mathlib.Core.Bool.{Bool, true, false, cond, not}
@@ -17,7 +17,7 @@ use Rattle.drive.specs.declared.Drive.{Drive}
 use Rattle.drive.specs.declared.Event.the-variants.{LoopReset, TimeOver, PowerOn}
 use Rattle.drive.specs.Drive.{eventAnswer}
 use Rattle.drive.specs.Entry.{frameIn, frameInBuffer, nextFrame, nextFrameBuffer}
-use Rattle.belief.specs.Host.{Request, plogi, pdisc, logo, adisc, prli, prlo, rrq, command, abts, Answer, none, acc, rjt, dlogo, other}
+use Rattle.belief.specs.Host.{Request, plogi, pdisc, logo, adisc, prli, prlo, rrq, command, abts, fcp-data, Answer, none, acc, rjt, dlogo, other}
 use Rattle.belief.specs.Side.{Side, OwnIn}
 
 -- a frame of the host of address a with this R_CTL; one whose other fields are wrong is refused, "and a frame the drive refuses counts as lost"
@@ -42,6 +42,7 @@ Makes a f prlo = Linked a f 0x21 20
 Makes a f rrq = Linked a f 0x12 44
 Makes a f command = Framed a f 0x06
 Makes a f abts = Framed a f 0x81
+Makes a f fcp-data = Framed a f 0x01
 
 -- "no other port uses this host's port name": names and parameters with this port name
 abbrev pub Named : ℕ → Kept → Type 0
@@ -51,10 +52,12 @@ Named name k = nameOf (k .«port_name») ≡ name
 abbrev pub PlogiOf : ℕ → List ℕ → Type 0
 PlogiOf name f = Linked (headerOf f .«s_id») f 0x03 116 × Named name (keptFrom (paramsOf f 28))
 
--- a frame of the host as it arrives, with the buffer that the port lends, of any size and contents; "its own names": its PLOGIs carry its port name
+-- a frame of the host as it arrives, with the window and the buffer that the port lends, of any size and contents; "its own names": its PLOGIs carry its port name
 pub record FromHost (a name : ℕ) : Type 0 where
   pub request : Request
   pub bytes : List ℕ
+  pub start : ℕ
+  pub window : List ℕ
   pub buffer : List ℕ
   pub known : AllBytes bytes
   pub makes : Makes a bytes request
@@ -70,8 +73,8 @@ heardOf a (Sent n) l = cond (eqb (num 3 l 1) a) (soundOf n l) none
 heardOf a (Refused x) l = none
 
 -- of a frame in, and of a next frame of the exchange of address b and OX_ID x
-abbrev pub heardIn : ℕ → Drive → List ℕ → List ℕ → Answer
-heardIn a d f l = heardOf a (frameIn d f (length l) .said) (frameInBuffer d f l)
+abbrev pub heardIn : ℕ → Drive → List ℕ → ℕ → List ℕ → List ℕ → Answer
+heardIn a d f start W l = heardOf a (frameIn d f start W (length l) .said) (frameInBuffer d f start W l)
 
 abbrev pub heardNext : ℕ → Drive → ℕ → ℕ → ℕ → List ℕ → List ℕ → Answer
 heardNext a d b x start W l = heardOf a (nextFrame d b x start W (length l) .said) (nextFrameBuffer d b x start W l)
@@ -86,30 +89,30 @@ pub record ForHost : Type 0 where
 -- what else happens: "other ports sending what they like" under other addresses, but a PLOGI of right size with the host's port name; next frames to these, answers (23h) of any port, and frames to
 -- other ports, of this host too
 pub data Others (a name : ℕ) : Type 0 where
-  frame : (f buffer : List ℕ) → AllBytes f → (headerOf f .«s_id» ≡ a → ⊥) → (PlogiOf name f → ⊥) → Others a name
-  answer : (f buffer : List ℕ) → AllBytes f → headerOf f .«r_ctl» ≡ 0x23 → Others a name
+  frame : (f : List ℕ) (start : ℕ) (window buffer : List ℕ) → AllBytes f → (headerOf f .«s_id» ≡ a → ⊥) → (PlogiOf name f → ⊥) → Others a name
+  answer : (f : List ℕ) (start : ℕ) (window buffer : List ℕ) → AllBytes f → headerOf f .«r_ctl» ≡ 0x23 → Others a name
   next : (b ox start : ℕ) (window buffer : List ℕ) → (b ≡ a → ⊥) → Others a name
-  elsewhere : (f buffer : List ℕ) → Others a name
+  elsewhere : (f : List ℕ) (start : ℕ) (window buffer : List ℕ) → Others a name
 
 -- a frame to another port has another D_ID than the drive's address
 abbrev pub ToOthers : {a name : ℕ} → Drive → Others a name → Type 0
-ToOthers d (frame f l k n m) = Unit {0}
-ToOthers d (answer f l k r) = Unit {0}
+ToOthers d (frame f start W l k n m) = Unit {0}
+ToOthers d (answer f start W l k r) = Unit {0}
 ToOthers d (next b x start W l n) = Unit {0}
-ToOthers d (elsewhere f l) = headerOf f .«d_id» ≡ d .port .address → ⊥
+ToOthers d (elsewhere f start W l) = headerOf f .«d_id» ≡ d .port .address → ⊥
 
 abbrev pub others : {a name : ℕ} → Drive → Others a name → Drive
-others d (frame f l k n m) = frameIn d f (length l) .drive
-others d (answer f l k r) = frameIn d f (length l) .drive
+others d (frame f start W l k n m) = frameIn d f start W (length l) .drive
+others d (answer f start W l k r) = frameIn d f start W (length l) .drive
 others d (next b x start W l n) = nextFrame d b x start W (length l) .drive
-others d (elsewhere f l) = frameIn d f (length l) .drive
+others d (elsewhere f start W l) = frameIn d f start W (length l) .drive
 
 -- what the host hears of it
 abbrev pub othersHeard : {a name : ℕ} → Drive → Others a name → Answer
-othersHeard {a} d (frame f l k n m) = heardIn a d f l
-othersHeard {a} d (answer f l k r) = heardIn a d f l
+othersHeard {a} d (frame f start W l k n m) = heardIn a d f start W l
+othersHeard {a} d (answer f start W l k r) = heardIn a d f start W l
 othersHeard {a} d (next b x start W l n) = heardNext a d b x start W l
-othersHeard {a} d (elsewhere f l) = heardIn a d f l
+othersHeard {a} d (elsewhere f start W l) = heardIn a d f start W l
 
 -- the events that end logins: "until the drive powers on or its verification time runs out"
 pub data Ending : Type 0 where
@@ -135,8 +138,8 @@ theDrive a name =
       Own = Named name;
       Sent = FromHost a name;
       asks = λ f. f .request;
-      answer = λ d f. heardIn a d (f .bytes) (f .buffer);
-      take = λ d f. frameIn d (f .bytes) (length (f .buffer)) .drive;
+      answer = λ d f. heardIn a d (f .bytes) (f .start) (f .window) (f .buffer);
+      take = λ d f. frameIn d (f .bytes) (f .start) (f .window) (length (f .buffer)) .drive;
       Call = ForHost;
       speaks = λ d c. heardNext a d a (c .ox) (c .start) (c .window) (c .buffer);
       call = λ d c. nextFrame d a (c .ox) (c .start) (c .window) (length (c .buffer)) .drive;

@@ -38,7 +38,7 @@ use Rattle.drive.specs.declared.Answer.{Answer}
 use Rattle.drive.specs.declared.Drive.{Drive}
 use Rattle.drive.specs.declared.Event.{Event}
 use Rattle.drive.specs.Drive.{refused, nothingSent, changeOf, afterEvent, eventAnswer}
-use Rattle.drive.specs.Entry.{frameIn, frameInBuffer, nextFrame}
+use Rattle.drive.specs.Entry.{frameIn, frameInBuffer, frameInWindow, nextFrame}
 use Rattle.drive.specs.Turn.{refusalOf, passedTurn, nextOutTurn, answerTo}
 use Rattle.drive.proofs.Turns.{passed-formed, frame-turn, RefusedBy, frame-refused, next-out-turn, next-out-keeps}
 use Rattle.boundary.specs.Boundary.{codeOf, Tells}
@@ -98,22 +98,23 @@ turn-told d t e is = (ap (λ (z : Answer). codeOf (z .said)) is, ap (withPort d)
 abbrev seen : Drive → ℕ → View
 seen d x = viewOf (d .unit) (d .port) x
 
--- a frame whose refusal has a number is refused with it, and the buffer left as it was; one that passes comes to the turn of one that passed
-module _ (d : Drive) (f : List ℕ) where
+-- a frame whose refusal has a number is refused with it, the buffer and the window left as they were; one that passes comes to the turn of one that passed
+module _ (d : Drive) (f : List ℕ) (start : ℕ) (W : List ℕ) where
   abbrev number : ℕ
-  number = refusalOf (seen d (headerOf f .«s_id»)) (headerOf f) f
+  number = refusalOf (seen d (headerOf f .«s_id»)) (headerOf f) f start (length W)
 
   module _ (some : T (not (eqb number 0))) where
-    by-number : RefusedBy d f number
-    by-number = frame-refused d f (λ z. subst (λ (n : ℕ). T (not (eqb n 0))) z some)
+    by-number : RefusedBy d f start W number
+    by-number = frame-refused d f start W (λ z. subst (λ (n : ℕ). T (not (eqb n 0))) z some)
 
     pub number-fits : 65536 + number < 2 ^ 64
     number-fits = let few = numbers (by-number .refusal) .1 in omega (arith, few, by-number .number)
 
-    pub frame-numbered : (l : List ℕ) → shortBuffer (length l) ≡ false → Tells (frameIn d f (length l)) (65536 + number) d × (l ≡ frameInBuffer d f l)
+    pub frame-numbered : (l : List ℕ) → shortBuffer (length l) ≡ false → Tells (frameIn d f start W (length l)) (65536 + number) d × (l ≡ frameInBuffer d f start W l) × (W ≡ frameInWindow d f start W (length l))
     frame-numbered l long = (
-      subst (λ (n : ℕ). Tells (frameIn d f (length l)) (65536 + n) d) (by-number .number) (refusal-told (by-number .answer (length l) long)),
+      subst (λ (n : ℕ). Tells (frameIn d f start W (length l)) (65536 + n) d) (by-number .number) (refusal-told (by-number .answer (length l) long)),
       sym (by-number .buffer l long),
+      sym (by-number .window (length l) long),
     )
 
   pub passed-by : T (not (not (eqb number 0))) → number ≡ 0
@@ -125,13 +126,13 @@ module _ (d : Drive) (f : List ℕ) where
 
   module _ (zero : number ≡ 0) (room : ℕ) where
     abbrev turn : Turn
-    turn = passedTurn (seen d (headerOf f .«s_id»)) (headerOf f) f room
+    turn = passedTurn (seen d (headerOf f .«s_id»)) (headerOf f) f start (length W) room
 
-    pub frame-settles : shortBuffer room ≡ false → Tells (frameIn d f room) (codeOf (turn .said)) (settled d (seen d (headerOf f .«s_id») .keys) turn)
+    pub frame-settles : shortBuffer room ≡ false → Tells (frameIn d f start W room) (codeOf (turn .said)) (settled d (seen d (headerOf f .«s_id») .keys) turn)
     frame-settles long =
         turn-told d turn
-        (ap (λ (ks : List Key). settledOf (d .port) ks turn) (view-keys (d .unit) (d .port) (headerOf f .«s_id»)) ∙ settled-answer (d .unit) (d .port) (passed-formed d f zero) turn)
-        (frame-turn d f zero room long)
+        (ap (λ (ks : List Key). settledOf (d .port) ks turn) (view-keys (d .unit) (d .port) (headerOf f .«s_id»)) ∙ settled-answer (d .unit) (d .port) (passed-formed d f start W zero) turn)
+        (frame-turn d f start W zero room long)
 
 -- a next frame changes no login but the one it stores
 module _ (d : Drive) (a x start : ℕ) (W : List ℕ) (room : ℕ) where

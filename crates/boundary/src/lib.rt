@@ -9,7 +9,6 @@ use drive::Answer;
 use drive::Drive;
 use drive::Event;
 use drive::change_of;
-use drive::passed_turn;
 use drive::refusal_number;
 use formed::Key;
 use formed::key_named;
@@ -26,6 +25,7 @@ use state::Unit;
 use state::changed;
 use tables::Found;
 use window::next_turn;
+use window::passed_turn;
 ghost use mathlib.Core.Path.{_≡_};
 ghost use Prim.Native.Nat.{_<_, _≤_};
 ghost use lib.ListN.{length};
@@ -35,7 +35,7 @@ ghost use Rattle.drive.specs.declared.Event.the-variants.{LoopReset, TimeOver, 
 ghost use Rattle.calls.specs.View.{sightOf, viewOf};
 ghost use Rattle.calls.specs.Turn.{storedAt, AtBelow};
 ghost use Rattle.drive.specs.Drive.{changeOf, eventAnswer};
-ghost use Rattle.drive.specs.Entry.{frameIn, frameInBuffer, nextFrame, nextFrameBuffer};
+ghost use Rattle.drive.specs.Entry.{frameIn, frameInBuffer, frameInWindow, nextFrame, nextFrameBuffer};
 ghost use Rattle.boundary.specs.Boundary.{codeOf, Tells, makeAnswer};
 ghost use Rattle.boundary.specs.Settled.{reaches, marksOf, sparedMarks, NextMarked, reachedOf, settledOf, happenedSaid, happenedOf};
 
@@ -49,22 +49,29 @@ pub extern "C" fn jhartupal_make(d: &mut Drive, setup: &Setup) -> u64
     code(a.said)
 }
 
-// A frame in.
+// A frame in, with a window for the data of a WRITE.
 #[no_mangle]
-pub extern "C" fn jhartupal_frame(d: &mut Drive, frame: &[u8], reply: &mut [u8]) -> u64
-    ensures { λ r. ⌜ Tells (frameIn (now (d .entry)) (now (frame .entry)) (length (now (reply .entry)))) r (now (d .exit))
-        × (now (reply .exit) ≡ frameInBuffer (now (d .entry)) (now (frame .entry)) (now (reply .entry))) ⌝ }
+pub extern "C" fn jhartupal_frame(
+    d: &mut Drive,
+    frame: &[u8],
+    start: u64,
+    window: &mut [u8],
+    reply: &mut [u8],
+) -> u64
+    ensures { λ r. ⌜ Tells (frameIn (now (d .entry)) (now (frame .entry)) start (now (window .entry)) (length (now (reply .entry)))) r (now (d .exit))
+        × (now (reply .exit) ≡ frameInBuffer (now (d .entry)) (now (frame .entry)) start (now (window .entry)) (now (reply .entry)))
+        × (now (window .exit) ≡ frameInWindow (now (d .entry)) (now (frame .entry)) start (now (window .entry)) (length (now (reply .entry)))) ⌝ }
 {
     if reply.len() < Header::MOST_FRAME {
         return code(Said::Refused(Refusal::ShortBuffer));
     } else {
         let h = read_header(frame);
         let v = view(&mut d.port, d.unit, h.s_id);
-        let x = refusal_number(v, h, frame);
+        let x = refusal_number(v, h, frame, start, window.len());
         if x != 0 {
             return 65536 + x;
         } else {
-            let t = passed_turn(v, h, frame, reply);
+            let t = passed_turn(v, h, frame, start, window, reply);
             return settle(&mut d.port, v.keys, t);
         }
     }

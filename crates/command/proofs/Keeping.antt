@@ -34,7 +34,7 @@ use Rattle.command.specs.Cmnd.{cmndOf, taskOf}
 use Rattle.command.specs.Cdb.{range10, decodedOf, Countable}
 use Rattle.command.specs.Command.{executeOf, doneAs, commandedAt, loggedOut, commandOf}
 use Rattle.command.proofs.Moves.{operationOf, Moves, same, ends, tells, opens, execute-moves}
-use Rattle.command.proofs.Opens.{New, exchange-new, sent-none, wants-opens}
+use Rattle.command.proofs.Opens.{New, exchange-new, moved-none, wants-opens}
 
 -- what a command on a paired login makes of it is fine
 module _ (u : Unit) (own : ℕ) (l : Login) (pair : eqb (l .paired) 1 ≡ true) (ox : ℕ) (c : Cmnd) (few : Countable (operationOf c)) where
@@ -43,7 +43,7 @@ module _ (u : Unit) (own : ℕ) (l : Login) (pair : eqb (l .paired) 1 ≡ true) 
     unfolding exchangeFine
     fine h =
         let least : 256 ≤ l .size = stored-size l (h .params) in
-        rw (pair, may, sent-none (fullFrame (l .size)) e (omega arith) (new .sent) (new .count)) (or-true (isClosed e))
+        rw (pair, may, moved-none (fullFrame (l .size)) e (omega arith) new) (or-true (isClosed e))
 
     opened : (b : Bool) (j : ℕ) → Keeps u own l (withExchange (cond b (withAttention l 0) l) j e)
     unfolding withExchange findExchange
@@ -59,7 +59,7 @@ module _ (u : Unit) (own : ℕ) (l : Login) (pair : eqb (l .paired) 1 ≡ true) 
       opened e (rw (p .is) (exchange-new (operationOf c) (l .attention) ox (c .lun) (c .expected))) (could n) (sym at ∙ none) b j
     where
       could : (total e ≡ 0 → ⊥) → openable u e ≡ true
-      could = rw (p .is) (wants-opens u (operationOf c) (l .attention) ox (c .lun) (c .expected) few (p .within))
+      could = rw (p .is) (wants-opens u (operationOf c) (l .attention) ox (c .lun) (c .expected) few (p .allowed) (p .within))
 
 -- a CDB's count of blocks is two bytes
 abbrev Small : Decoded → Type 0
@@ -74,7 +74,7 @@ countable cdb few =
     (on-cond Small (eqb code 0x12) tt
     (on-cond Small (eqb code 0x25) tt
     (on-cond Small (eqb code 0x28) few
-    (on-cond Small (eqb code 0x2a) tt tt)))))
+    (on-cond Small (eqb code 0x2a) few tt)))))
 
 module _ (u : Unit) (p : Port) (h : Header) (f : List ℕ) (known : AllBytes f) (w : wellFormed u p ≡ true) where
   abbrev from : ℕ

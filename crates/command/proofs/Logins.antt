@@ -37,9 +37,9 @@ use Rattle.command.specs.declared.Task.{Task}
 use Rattle.command.specs.declared.Task.the-variants as task
 use Rattle.command.specs.declared.Asked.{Asked}
 use Rattle.command.specs.declared.Asked.the-variants as asked
-use Rattle.command.specs.Cmnd.{cmndOf, readBit, malformed, taskFor, taskOf}
+use Rattle.command.specs.Cmnd.{cmndOf, malformed, taskFor, taskOf}
 use Rattle.command.specs.Tests.{askedOf}
-use Rattle.command.specs.Command.{refusedWith, openedOf, answeredAs, executeOf, doneAs, commandedAt, loggedOut, commandOf}
+use Rattle.command.specs.Command.{refusedWith, bitFor, openedOf, answeredAs, executeOf, doneAs, commandedAt, loggedOut, commandOf}
 use Rattle.command.specs.Turn.{taskTurn, commandedTurn, commandTurn}
 use Rattle.command.proofs.Moves.{Moves, same, ends, tells, opens, execute-moves}
 
@@ -131,7 +131,7 @@ execute-spoken u l place ox c = on-found Says place _ _ (λ j _. responds _) (λ
     by : (a : Asked) → Says (answeredAs a l c)
     by (asked.Refused key sense) = responds _
     by asked.Attention = responds _
-    by (asked.Wants e) = on-cond Says (eqb (total e) 0) (responds _) (on-cond Says (readBit (c .bits)) (on-found Says (freeExchange l) _ _ (λ j _. silent) (λ _. responds _)) (responds _))
+    by (asked.Wants e) = on-cond Says (eqb (total e) 0) (responds _) (on-cond Says (bitFor e (c .bits)) (on-found Says (freeExchange l) _ _ (λ j _. silent) (λ _. responds _)) (responds _))
 
 module _ (u : Unit) (p : Port) (h : Header) (f : List ℕ) where
   abbrev from : ℕ

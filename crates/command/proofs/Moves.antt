@@ -23,18 +23,18 @@ use Rattle.command.specs.declared.Cmnd.{Cmnd}
 use Rattle.command.specs.declared.Operation.{Operation}
 use Rattle.command.specs.declared.Asked.{Asked}
 use Rattle.command.specs.declared.Asked.the-variants as asked
-use Rattle.command.specs.Cmnd.{readBit}
 use Rattle.command.specs.Cdb.{decodedOf}
-use Rattle.command.specs.Tests.{otherUnit, attends, unknown, writes, outside, exchangeFor, testedBy, askedOf}
-use Rattle.command.specs.Command.{refusedWith, reports, toldOf, openedOf, answeredAs, executeOf}
+use Rattle.command.specs.Tests.{otherUnit, attends, unknown, protected, outside, exchangeFor, testedBy, askedOf}
+use Rattle.command.specs.Command.{refusedWith, reports, toldOf, bitFor, openedOf, answeredAs, executeOf}
 
 -- what a command's CDB asks for
 abbrev pub operationOf : Cmnd → Operation
 operationOf c = decodedOf (c .cdb) .operation
 
--- a wanted exchange is the command's own, and test 7 let it through
+-- a wanted exchange is the command's own, and tests 5 and 7 let it through
 pub record Passed (u : Unit) (attention ox : ℕ) (c : Cmnd) (e : Exchange) : Type 0 where
   pub is : e ≡ exchangeFor (operationOf c) attention ox (c .lun) (c .expected)
+  pub allowed : protected u (operationOf c) ≡ false
   pub within : outside u (operationOf c) ≡ false
 
 passed-cond : (b : Bool) (x y : Asked) (e : Exchange) {A : Type 0} → (b ≡ true → x ≡ asked.Wants e → A) → (b ≡ false → y ≡ asked.Wants e → A) → cond b x y ≡ asked.Wants e → A
@@ -58,10 +58,10 @@ wants-passed u attention ox c e =
     passed-cond (otherUnit o (c .lun)) _ _ e (λ _. refused-not 0x05 0x25 e)
     (λ _. passed-cond (attends o attention) _ _ e (λ _. attention-not e)
     (λ _. passed-cond (unknown o) _ _ e (λ _. refused-not 0x05 0x20 e)
-    (λ _. passed-cond (writes o) _ _ e (λ _. refused-not 0x07 0x27 e)
-    (λ _. passed-cond (decodedOf (c .cdb) .«wrong_field») _ _ e (λ _. refused-not 0x05 0x24 e)
+    (λ _. passed-cond (protected u o) _ _ e (λ _. refused-not 0x07 0x27 e)
+    (λ a. passed-cond (decodedOf (c .cdb) .«wrong_field») _ _ e (λ _. refused-not 0x05 0x24 e)
     (λ _. passed-cond (outside u o) _ _ e (λ _. refused-not 0x05 0x21 e)
-    (λ w h. record { is = same-exchange _ e h; within = w }))))))
+    (λ w h. record { is = same-exchange _ e h; allowed = a; within = w }))))))
 
 -- by the place where test 1 found the OX_ID
 module _ (u : Unit) (l : Login) (place : Found) (ox : ℕ) (c : Cmnd) where
@@ -77,7 +77,7 @@ module _ (u : Unit) (l : Login) (place : Found) (ox : ℕ) (c : Cmnd) where
 
   answer-moves : (e : Exchange) → Passed u (l .attention) ox c e → place ≡ Nothing → Moved (openedOf l (c .bits) e)
   unfolding openedOf toldOf
-  answer-moves e p none = by (eqb (total e) 0) (readBit (c .bits)) (freeExchange l) _ _ _ refl
+  answer-moves e p none = by (eqb (total e) 0) (bitFor e (c .bits)) (freeExchange l) _ _ _ refl
     where
       opened : ℕ → Served
       opened j = servedAs reply.Nothing (withExchange (cond (reports (e .kind)) (withAttention l 0) l) j e)

@@ -28,9 +28,9 @@ use Rattle.command.specs.declared.Task.{Task}
 use Rattle.command.specs.declared.Task.the-variants as task
 use Rattle.command.specs.declared.Asked.{Asked}
 use Rattle.command.specs.declared.Asked.the-variants as asked
-use Rattle.command.specs.Cmnd.{cmndOf, readBit, taskOf}
+use Rattle.command.specs.Cmnd.{cmndOf, taskOf}
 use Rattle.command.specs.Tests.{exchangeFor, askedOf}
-use Rattle.command.specs.Command.{refusedWith, toldOf, openedOf, answeredAs, executeOf, doneAs, commandedAt, loggedOut, commandOf}
+use Rattle.command.specs.Command.{refusedWith, toldOf, bitFor, openedOf, answeredAs, executeOf, doneAs, commandedAt, loggedOut, commandOf}
 use Rattle.command.proofs.Moves.{operationOf, wants-passed}
 
 -- the exchange that a command asks of a login
@@ -50,7 +50,7 @@ module _ (u : Unit) (l : Login) (place : Found) (ox : ℕ) (c : Cmnd) where
 
   opened-silent : (e : Exchange) → e ≡ wishOf l ox c → place ≡ Nothing → Silent (openedOf l (c .bits) e)
   unfolding openedOf
-  opened-silent e is none = by (eqb (total e) 0) (readBit (c .bits)) (freeExchange l) refl _ _ _ refl refl refl
+  opened-silent e is none = by (eqb (total e) 0) (bitFor e (c .bits)) (freeExchange l) refl _ _ _ refl refl refl
     where
       by : (z b : Bool) (g : Found) → freeExchange l ≡ g → (x y w : Reply) → silent x ≡ false → silent y ≡ false → silent w ≡ false
           → Silent (cond z (servedAs x l) (cond b (onFound g (λ j. servedAs reply.Nothing (withExchange (toldOf l (e .kind)) j e)) (servedAs y l)) (servedAs w l)))

@@ -28,10 +28,10 @@ use Rattle.command.specs.declared.Task.the-variants as task
 use Rattle.command.specs.declared.Decoded.{Decoded}
 use Rattle.command.specs.declared.Asked.{Asked}
 use Rattle.command.specs.declared.Asked.the-variants as asked
-use Rattle.command.specs.Cmnd.{cmndOf, readBit, taskOf}
+use Rattle.command.specs.Cmnd.{cmndOf, taskOf}
 use Rattle.command.specs.Cdb.{decodedOf}
 use Rattle.command.specs.Tests.{testedBy, askedOf}
-use Rattle.command.specs.Command.{refusedWith, toldOf, openedOf, executeOf}
+use Rattle.command.specs.Command.{refusedWith, toldOf, bitFor, openedOf, executeOf}
 use Rattle.command.specs.Turn.{commandedTurn, loggedOutTurn, commandTurn}
 
 module _ (l : Login) (bits : ℕ) (e : Exchange) (d : Served) where
@@ -40,11 +40,11 @@ module _ (l : Login) (bits : ℕ) (e : Exchange) (d : Served) where
   answer-good x z ex ed = rw (eq-eqb (total e) 0 z) (ed ∙ ap (λ r. servedAs (reply.Respond (response.Status 0 r)) l) ex)
 
   module _ (n : total e ≡ 0 → ⊥) where
-    pub answer-unread : readBit bits ≡ false → d ≡ servedAs (reply.Respond (response.Code 2)) l → d ≡ openedOf l bits e
+    pub answer-bitless : bitFor e bits ≡ false → d ≡ servedAs (reply.Respond (response.Code 2)) l → d ≡ openedOf l bits e
     unfolding openedOf
-    answer-unread b ed = rw (ne-eqb (total e) 0 n, b) ed
+    answer-bitless b ed = rw (ne-eqb (total e) 0 n, b) ed
 
-    module _ (b : readBit bits ≡ true) where
+    module _ (b : bitFor e bits ≡ true) where
       pub answer-full : (x : Residual) → freeExchange l ≡ Nothing → x ≡ residualOf 0 (e .expected) → d ≡ servedAs (reply.Respond (response.Status 0x28 x)) l → d ≡ openedOf l bits e
       unfolding openedOf
       answer-full x f ex ed = rw (ne-eqb (total e) 0 n, b, f) (ed ∙ ap (λ r. servedAs (reply.Respond (response.Status 0x28 r)) l) ex)

@@ -13,7 +13,7 @@ use Rattle.state.specs.declared.Port.{Port}
 use Rattle.state.specs.declared.Unit.{Unit}
 use Rattle.state.specs.declared.Change.the-variants.{EndLogin}
 use Rattle.state.specs.Changes.{loginAt, withAttention, withExchange, endedAt, changedAll}
-use Rattle.state.specs.Kinds.{kindSenseReset, kindSenseCleared}
+use Rattle.state.specs.Kinds.{kindSenseReset, kindSenseCleared, isWrite}
 use Rattle.state.specs.Tables.{findLogin, freeExchange, soughtIn}
 use Rattle.formed.specs.Formed.{total}
 use Rattle.reply.specs.declared.Reply.the-variants as reply
@@ -27,7 +27,7 @@ use Rattle.command.specs.declared.Task.{Task}
 use Rattle.command.specs.declared.Task.the-variants as task
 use Rattle.command.specs.declared.Asked.{Asked}
 use Rattle.command.specs.declared.Asked.the-variants as asked
-use Rattle.command.specs.Cmnd.{cmndOf, readBit, taskOf}
+use Rattle.command.specs.Cmnd.{cmndOf, lowBit, readBit, taskOf}
 use Rattle.command.specs.Tests.{askedOf}
 
 -- CHECK CONDITION with this key and code; wanted is "0 when refused"
@@ -43,11 +43,15 @@ reports kind = eqb kind kindSenseReset || eqb kind kindSenseCleared
 unfoldable pub toldOf : Login → ℕ → Login
 toldOf l kind = cond (reports kind) (withAttention l 0) l
 
+-- "11 bit 1 read and bit 0 write"; "test 8 asks the write bit for a write" (02, 2)
+unfoldable pub bitFor : Exchange → ℕ → Bool
+bitFor e bits = cond (isWrite e) (lowBit bits) (readBit bits)
+
 -- "Nothing to send: FCP_RSP at once"; "(8) bytes to send without the read bit, RSP_CODE 02; (9) bytes to send, eight open, status 28h"; "Else the exchange opens silently"
 unfoldable pub openedOf : Login → ℕ → Exchange → Served
 openedOf l bits e =
     cond (eqb (total e) 0) (servedAs (reply.Respond (response.Status 0x00 (residualOf (e .wanted) (e .expected)))) l)
-    (cond (readBit bits)
+    (cond (bitFor e bits)
     (onFound (freeExchange l) (λ j. servedAs reply.Nothing (withExchange (toldOf l (e .kind)) j e)) (servedAs (reply.Respond (response.Status 0x28 (residualOf 0 (e .expected)))) l))
     (servedAs (reply.Respond (response.Code 0x02)) l))
 

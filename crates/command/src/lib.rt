@@ -62,7 +62,7 @@ pub enum Operation {
     Inquiry(u8),
     ReadCapacity,
     Read(Range),
-    Write,
+    Write(Range),
     Unknown,
 }
 
@@ -85,7 +85,7 @@ pub enum Asked {
     Refused(u8, u8),
     // the login's attention is reported, and cleared
     Attention,
-    // the exchange that would send what is wanted
+    // the exchange that would send or take what is wanted
     Wants(Exchange),
 }
 

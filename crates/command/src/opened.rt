@@ -1,6 +1,7 @@
 // What a command wants, and the exchange that opens (document 01, "Wanted").
 use crate::Operation;
 use crate::Range;
+use crate::tasks::low_bit;
 use crate::tasks::read_bit;
 use calls::Served;
 use calls::serve_as;
@@ -16,12 +17,12 @@ use state::set_attention;
 use tables::Found;
 ghost use mathlib.Core.Path.{_≡_};
 ghost use Prim.Native.Nat.{_*_, _≤_, min};
-ghost use Rattle.state.specs.Kinds.{kindRead};
+ghost use Rattle.state.specs.Kinds.{kindBlocks, toHost};
 ghost use Rattle.command.specs.Cdb.{Countable};
 ghost use Rattle.command.specs.Tests.{senseKind, inquiryKind, fresh, exchangeFor};
-ghost use Rattle.command.specs.Command.{toldOf, openedOf};
+ghost use Rattle.command.specs.Command.{toldOf, bitFor, openedOf};
 
-// The exchange that would send what a command wants; one that wants nothing opens none.
+// The exchange that would send or take what a command wants; one that wants nothing opens none.
 pub(crate) fn exchange_for(
     o: Operation,
     attention: u8,
@@ -47,16 +48,16 @@ pub(crate) fn exchange_for(
             smaller(36, most as u32),
         ),
         Operation::ReadCapacity => made_exchange(ox_id, expected, Exchange::READ_CAPACITY, 8),
-        Operation::Read(r) => read_exchange(ox_id, expected, r),
-        Operation::Write => made_exchange(ox_id, expected, Exchange::FREE, 0),
+        Operation::Read(r) => blocks_exchange(ox_id, expected, Exchange::TO_HOST, r),
+        Operation::Write(r) => blocks_exchange(ox_id, expected, Exchange::FROM_HOST, r),
         Operation::Unknown => made_exchange(ox_id, expected, Exchange::FREE, 0),
     }
 }
 
-// READ: 512 bytes for each block.
-fn read_exchange(ox_id: u16, expected: u32, r: Range) -> Exchange
+// READ and WRITE: 512 bytes for each block.
+fn blocks_exchange(ox_id: u16, expected: u32, direction: u8, r: Range) -> Exchange
     requires { ⌜ r .blocks ≤ 65535 ⌝ }
-    ensures { λ e. ⌜ e ≡ fresh «ox_id» expected kindRead (512 * r .blocks) (r .start) (r .blocks) ⌝ }
+    ensures { λ e. ⌜ e ≡ fresh «ox_id» expected direction kindBlocks (512 * r .blocks) (r .start) (r .blocks) ⌝ }
 {
     Exchange {
         start: r.start,
@@ -66,13 +67,15 @@ fn read_exchange(ox_id: u16, expected: u32, r: Range) -> Exchange
         sent: 0,
         ox_id: ox_id,
         count: 0,
-        kind: Exchange::READ,
+        kind: Exchange::BLOCKS,
+        direction: direction,
+        awaited: 0,
     }
 }
 
 // An exchange of made data: of no blocks.
-fn made_exchange(ox_id: u16, expected: u32, kind: u32, wanted: u32) -> Exchange
-    ensures { λ r. ⌜ r ≡ fresh «ox_id» expected kind wanted 0 0 ⌝ }
+fn made_exchange(ox_id: u16, expected: u32, kind: u16, wanted: u32) -> Exchange
+    ensures { λ r. ⌜ r ≡ fresh «ox_id» expected toHost kind wanted 0 0 ⌝ }
 {
     Exchange {
         start: 0,
@@ -83,11 +86,13 @@ fn made_exchange(ox_id: u16, expected: u32, kind: u32, wanted: u32) -> Exchange
         ox_id: ox_id,
         count: 0,
         kind: kind,
+        direction: Exchange::TO_HOST,
+        awaited: 0,
     }
 }
 
 // What REQUEST SENSE reports, as the kind of its exchange.
-fn sense_kind(lun: u64, attention: u8) -> u32
+fn sense_kind(lun: u64, attention: u8) -> u16
     ensures { λ r. ⌜ r ≡ senseKind lun attention ⌝ }
 {
     if lun != 0 {
@@ -103,7 +108,7 @@ fn sense_kind(lun: u64, attention: u8) -> u32
     }
 }
 
-fn inquiry_kind(lun: u64) -> u32
+fn inquiry_kind(lun: u64) -> u16
     ensures { λ r. ⌜ r ≡ inquiryKind lun ⌝ }
 {
     if lun == 0 {
@@ -119,7 +124,7 @@ fn smaller(a: u32, b: u32) -> u32
     if a < b { a } else { b }
 }
 
-// Nothing to send is answered at once; else tests 8 and 9, and the exchange opens.
+// Nothing to send or take is answered at once; else tests 8 and 9, and the exchange opens.
 pub(crate) fn answer(l: Login, bits: u8, e: Exchange) -> Served
     ensures { λ r. ⌜ r ≡ openedOf l bits e ⌝ }
 {
@@ -129,7 +134,7 @@ pub(crate) fn answer(l: Login, bits: u8, e: Exchange) -> Served
         let good = Response::Status(0x00, residual_of(wanted, expected));
         return serve_as(Reply::Respond(good), l);
     }
-    if read_bit(bits) {
+    if data_bit(e, bits) {
         let Found::At(j) = free_exchange(l) else {
             let full = Response::Status(0x28, residual_of(0, expected));
             return serve_as(Reply::Respond(full), l);
@@ -141,8 +146,19 @@ pub(crate) fn answer(l: Login, bits: u8, e: Exchange) -> Served
     }
 }
 
+// The bit that test 8 asks for: the write bit of a WRITE, else the read bit.
+fn data_bit(e: Exchange, bits: u8) -> bool
+    ensures { λ r. ⌜ r ≡ bitFor e bits ⌝ }
+{
+    if e.direction == Exchange::FROM_HOST {
+        low_bit(bits)
+    } else {
+        read_bit(bits)
+    }
+}
+
 // An attention is cleared as the exchange that reports it opens.
-fn told(l: Login, kind: u32) -> Login
+fn told(l: Login, kind: u16) -> Login
     ensures { λ r. ⌜ r ≡ toldOf l kind ⌝ }
 {
     if kind == Exchange::SENSE_RESET {

@@ -13,7 +13,7 @@ use wire::be32;
 ghost use mathlib.Core.Path.{_≡_};
 ghost use Prim.Native.Nat.{_≤_};
 ghost use Rattle.command.specs.Cdb.{decodedAs, decodedOf, range10, inquiryField, capacityField, Countable};
-ghost use Rattle.command.specs.Tests.{skips, otherUnit, attends, unknown, writes, beyond, outside, askedOf};
+ghost use Rattle.command.specs.Tests.{skips, otherUnit, attends, unknown, writes, protected, beyond, outside, askedOf};
 
 // Tests 2 to 7, the first that fails.
 pub(crate) fn tested(u: Unit, attention: u8, ox_id: u16, c: Cmnd) -> Asked
@@ -31,7 +31,7 @@ pub(crate) fn tested(u: Unit, attention: u8, ox_id: u16, c: Cmnd) -> Asked
     if is_unknown(o) {
         return Asked::Refused(0x05, 0x20);
     }
-    if is_write(o) {
+    if write_protected(u, o) {
         return Asked::Refused(0x07, 0x27);
     }
     if d.wrong_field {
@@ -54,7 +54,7 @@ fn decode(cdb: [u8; 16]) -> Decoded
         0x12 => decoded_as(Operation::Inquiry(most), inquiry_field(cdb)),
         0x25 => decoded_as(Operation::ReadCapacity, capacity_field(cdb)),
         0x28 => decoded_as(Operation::Read(range_10(cdb)), low_bit(cdb[1])),
-        0x2a => decoded_as(Operation::Write, false),
+        0x2a => decoded_as(Operation::Write(range_10(cdb)), low_bit(cdb[1])),
         _ => decoded_as(Operation::Unknown, false),
     }
 }
@@ -122,7 +122,7 @@ fn skips_two(o: Operation) -> bool
         Operation::Inquiry(_) => true,
         Operation::ReadCapacity => false,
         Operation::Read(_) => false,
-        Operation::Write => false,
+        Operation::Write(_) => false,
         Operation::Unknown => false,
     }
 }
@@ -137,12 +137,18 @@ fn is_unknown(o: Operation) -> bool
         Operation::Inquiry(_) => false,
         Operation::ReadCapacity => false,
         Operation::Read(_) => false,
-        Operation::Write => false,
+        Operation::Write(_) => false,
         Operation::Unknown => true,
     }
 }
 
-// Test 5: the unit is read only.
+// Test 5: WRITE(10) on a unit that may not be written.
+fn write_protected(u: Unit, o: Operation) -> bool
+    ensures { λ r. ⌜ r ≡ protected u o ⌝ }
+{
+    if is_write(o) { u.writable != 1 } else { false }
+}
+
 fn is_write(o: Operation) -> bool
     ensures { λ r. ⌜ r ≡ writes o ⌝ }
 {
@@ -152,7 +158,7 @@ fn is_write(o: Operation) -> bool
         Operation::Inquiry(_) => false,
         Operation::ReadCapacity => false,
         Operation::Read(_) => false,
-        Operation::Write => true,
+        Operation::Write(_) => true,
         Operation::Unknown => false,
     }
 }
@@ -167,7 +173,7 @@ fn is_outside(u: Unit, o: Operation) -> bool
         Operation::Inquiry(_) => false,
         Operation::ReadCapacity => false,
         Operation::Read(r) => is_beyond(u, r),
-        Operation::Write => false,
+        Operation::Write(r) => is_beyond(u, r),
         Operation::Unknown => false,
     }
 }

@@ -1,14 +1,14 @@
 -- When a window holds bytes of the unit, by differences of blocks, so that no number wraps. Assumes nothing.
 use mathlib.Core.Path.{_≡_}
-use mathlib.Core.Bool.{cond}
+use mathlib.Core.Bool.{true, false, cond}
 use Prim.Native.Nat.{ℕ, _+_, _-_, _*_, _≤_, _<_}
 use native.Mathlib.Decide.{decLe}
 use native.Mathlib.Omega.{arith}
 use lib.Dec.{leb}
-use borrow.Author.Tests.{le-leb, lt-leb}
+use borrow.Author.Tests.{ltb-true, ltb-false, le-leb, lt-leb}
 use Rattle.tables.specs.declared.Found.{Found}
 use Rattle.tables.specs.declared.Found.the-variants.{At, Nothing}
-use Rattle.cover.specs.Cover.{positionOf, fitsAt, coverOf}
+use Rattle.cover.specs.Cover.{positionOf, fitsAt, coverOf, tooLong, lentPlace}
 
 pub fits : (k n len : ℕ) → k + n ≤ len → At k ≡ fitsAt k n len
 unfolding fitsAt
@@ -50,3 +50,24 @@ module _ (blocks offset n len : ℕ) {r : Found} where
 
   pub before-fits : 512 * blocks ≤ offset → r ≡ fitsAt (offset - 512 * blocks) n len → r ≡ cond (leb (512 * blocks) offset) (fitsAt (offset - 512 * blocks) n len) Nothing
   before-fits h e = rw (le-leb (512 * blocks) offset h) e
+
+-- a lent window
+module _ (at n start len : ℕ) where
+  pub lent-too-long : tooLong len ≡ true → Nothing ≡ lentPlace at n start len
+  unfolding lentPlace
+  lent-too-long t = rw t
+
+  -- more bytes than a window may have are in none
+  pub lent-too-many : tooLong len ≡ false → tooLong n ≡ true → Nothing ≡ lentPlace at n start len
+  unfolding lentPlace coverOf
+  lent-too-many t m =
+      let few = ltb-false 65536 len t in
+      let many = ltb-true 65536 n m in
+      elim (decLe (512 * start) at) [
+        | yes l ↦ rw (t, le-leb (512 * start) at l, lt-leb (at + n) (512 * start + len) (omega (arith, few, many, l)))
+        | no l ↦ rw (t, lt-leb (512 * start) at (omega (arith, l)))
+      ]
+
+  pub lent-is : {r : Found} → tooLong len ≡ false → r ≡ coverOf at n start len → r ≡ lentPlace at n start len
+  unfolding lentPlace
+  lent-is t e = rw t e

@@ -2,7 +2,7 @@
 use Prim.Native.Nat.{ℕ, _+_, _-_, _*_}
 use mathlib.Core.Bool.{Bool, cond, _&&_}
 use mathlib.Core.List.{List}
-use lib.Dec.{leb}
+use lib.Dec.{leb, ltb}
 use lib.ListN.{take, drop}
 use Rattle.tables.specs.declared.Found.{Found}
 use Rattle.tables.specs.declared.Found.the-variants.{At, Nothing}
@@ -26,3 +26,11 @@ holds at n start len = leb (512 * start) at && leb (at + n) (512 * start + len)
 -- where they begin in it, or that it does not hold them: "not covering"
 unfoldable pub coverOf : ℕ → ℕ → ℕ → ℕ → Found
 coverOf at n start len = cond (holds at n start len) (At (at - 512 * start)) Nothing
+
+-- "a window: .. at most 65,536 bytes"
+abbrev pub tooLong : ℕ → Bool
+tooLong len = ltb 65536 len
+
+-- where they begin in it, in a window that is too long nowhere
+unfoldable pub lentPlace : ℕ → ℕ → ℕ → ℕ → Found
+lentPlace at n start len = cond (tooLong len) Nothing (coverOf at n start len)

@@ -5,7 +5,31 @@ ghost use mathlib.Core.Bool.{cond};
 ghost use Prim.Native.Nat.{_+_, _-_, _*_};
 ghost use lib.Dec.{leb};
 ghost use Rattle.tables.specs.declared.Found.the-variants.{Nothing};
-ghost use Rattle.cover.specs.Cover.{positionOf, fitsAt, coverOf};
+ghost use Rattle.cover.specs.Cover.{positionOf, fitsAt, coverOf, tooLong, lentPlace};
+
+// The bytes of a window at most.
+const MOST_WINDOW: usize = 65536;
+
+// Whether a window has too many bytes.
+pub fn too_long(len: usize) -> bool
+    ensures { λ r. ⌜ r ≡ tooLong len ⌝ }
+{
+    MOST_WINDOW < len
+}
+
+// Where the n bytes from an offset past the start of a block on begin in a window, if it is not too long and holds them all.
+pub fn lent_place(block: u64, offset: u32, n: usize, start: u64, len: usize) -> Found
+    ensures { λ r. ⌜ r ≡ lentPlace (positionOf block offset) n start len ⌝ }
+{
+    if too_long(len) {
+        return Found::Nothing;
+    }
+    // more bytes than a window may have are in none
+    if too_long(n) {
+        return Found::Nothing;
+    }
+    covered(block, offset, n as u32, start, len)
+}
 
 // Where the n bytes from an offset past the start of a block on begin in a window of len bytes that starts at a block, if it holds them all.
 pub fn covered(block: u64, offset: u32, n: u32, start: u64, len: usize) -> Found

@@ -1,5 +1,5 @@
 -- The calls between the frames of an open exchange that leave it open do: its login stands at its place with its address and size, and the exchange at its own, as it was. Assumes nothing.
-use Prim.Native.Nat.{ℕ, _+_, _%_}
+use Prim.Native.Nat.{ℕ, _+_}
 use mathlib.Core.Path.{_≡_, refl, sym, ap, _∙_, subst}
 use mathlib.Core.Bool.{Bool, true, false, cond, not, _&&_, _||_}
 use mathlib.Core.Logic.{_⊎_, inl, inr}
@@ -11,7 +11,7 @@ use lib.ListN.{length, getD}
 use borrow.Author.Tests.{eqb-true, eq-eqb, ne-eqb, not-true, not-false}
 use Rattle.tables.specs.declared.Found.{Found}
 use Rattle.tables.specs.declared.Found.the-variants.{At, Nothing}
-use Rattle.tables.proofs.Bools.{and-left, and-right, or-left, apart}
+use Rattle.tables.proofs.Bools.{and-right, or-left, apart}
 use Rattle.tables.proofs.Searches.{found-passes}
 use Rattle.wire.specs.Bytes.{num, nameOf}
 use Rattle.wire.specs.Layout.{AllBytes}
@@ -49,9 +49,9 @@ use Rattle.command.specs.declared.Task.{Task}
 use Rattle.command.specs.declared.Task.the-variants as task
 use Rattle.command.specs.declared.Asked.{Asked}
 use Rattle.command.specs.declared.Asked.the-variants as asks
-use Rattle.command.specs.Cmnd.{cmndOf, readBit, taskOf}
+use Rattle.command.specs.Cmnd.{cmndOf, taskOf}
 use Rattle.command.specs.Tests.{askedOf}
-use Rattle.command.specs.Command.{refusedWith, reports, toldOf, openedOf, answeredAs, executeOf, doneAs, commandedAt, loggedOut, commandOf}
+use Rattle.command.specs.Command.{refusedWith, reports, toldOf, bitFor, openedOf, answeredAs, executeOf, doneAs, commandedAt, loggedOut, commandOf}
 use Rattle.command.proofs.Logins.{Mild, task-mild}
 use Rattle.command.proofs.Logins as mild
 use Rattle.serve.specs.Next.{exchangeOf, nextOf}
@@ -59,8 +59,12 @@ use Rattle.serve.specs.Whole.{isSent, MovedOnly, StaysOpen}
 use Rattle.serve.proofs.Frames.{runs}
 use Rattle.serve.proofs.Moving.{next-stays, next-only}
 use Rattle.arrival.specs.declared.Form.{Form}
-use Rattle.arrival.specs.declared.Form.the-variants.{Link, Done, Abort, Command}
-use Rattle.arrival.specs.Arrival.{shortBuffer, knownPair, unknownForm, formOf}
+use Rattle.taking.specs.declared.Step.{Step}
+use Rattle.taking.specs.declared.Step.the-variants.{NoWrite, Fault, Uncovered, Take}
+use Rattle.taking.specs.Taking.{dataSize, stepIn, servedBy, servedData, dataDecided}
+use Rattle.taking.proofs.Steps.{Means, step-means}
+use Rattle.arrival.specs.declared.Form.the-variants.{Link, Done, Abort, Command, Data}
+use Rattle.arrival.specs.Arrival.{shortBuffer, knownPair, badSequence, unknownForm, formOf}
 use Rattle.arrival.proofs.Passes.{link-form}
 use Rattle.drive.specs.declared.Drive.{Drive}
 use Rattle.drive.specs.declared.Answer.{Answer}
@@ -72,7 +76,7 @@ use Rattle.drive.specs.Entry.{decidedOf, decidedIn, frameIn, nextAnswer, nextFr
 use Rattle.drive.proofs.Keeping.{frame-kept, next-frame-kept, event-fine}
 use Rattle.drive.proofs.Made.{event-answered, event-unchanged}
 use Rattle.drive.proofs.Ways.{frame-cases}
-use Rattle.demands.specs.Between.{Call, frame, next, event, answerOf, after, EndsAll, Own, Service, pdiscNames, adiscNames, Left, LeavesOpen, refused, next-other, loop-reset, time-over, other, done, abts-other, abts-rejected, coded, command-other, unsized, prli, rrq, logo-rejected, prlo-rejected, pdisc, adisc}
+use Rattle.demands.specs.Between.{Call, frame, next, event, answerOf, after, EndsAll, Own, Service, pdiscNames, adiscNames, Left, LeavesOpen, refused, next-other, loop-reset, time-over, other, done, abts-other, abts-rejected, data-other, coded, command-other, unsized, prli, rrq, logo-rejected, prlo-rejected, pdisc, adisc}
 
 -- the login of an address, where it was found
 pub login-found : (p : Port) (b k : ℕ) → findLogin p b ≡ At k → loginOf p b ≡ loginAt p k
@@ -218,6 +222,10 @@ module _ (u : Unit) (p : Port) (a x i j : ℕ) (w : wellFormed u p ≡ true) (o 
         by (NoExchange k) e = on-cond Says (eqb rx 0xffff) unchanged unchanged
         by NoLogin e = unchanged
 
+    data-others : (h : Header) (size start len : ℕ) → h .«s_id» ≡ b → Says (dataDecided p h size start len)
+    unfolding dataDecided
+    data-others h size start len is = rw is (on-found Says (findLogin p b) _ _ (λ k e. elsewhere p unchanged k _ (not-here b k n e)) (λ _. unchanged))
+
     task-others : (t : Task) (r : Decided) → Mild b t → (t ≡ task.Apply Reset → ⊥) → (t ≡ task.Apply (Clear b) → ⊥) → Says r → Says (doneAs t p r)
     task-others t r (mild.code m) z c s = unchanged
     task-others t r mild.abort z c s = changed (EndExchangesOf b) (ends-exchanges b n)
@@ -274,13 +282,24 @@ module _ (u : Unit) (p : Port) (a x i j : ℕ) (w : wellFormed u p ≡ true) (o 
       by (NoExchange k) e why = on-cond Says (eqb rx 0xffff) unchanged unchanged
       by NoLogin e why = unchanged
 
+  -- a data frame of another OX_ID
+  data-own : (h : Header) (size start len : ℕ) → h .«s_id» ≡ a → (h .«ox_id» ≡ x → ⊥) → Says (dataDecided p h size start len)
+  unfolding dataDecided servedData
+  data-own h size start len is n = rw (is, seat) (stored _ (by (stepIn l h size start len) (step-means l (h .«ox_id») (h .offset) (dataSize h size) start len)))
+    where
+      by : (s : Step) → Means l (h .«ox_id») (h .offset) (dataSize h size) start len s → Keeps (servedBy s l (dataSize h size))
+      by NoWrite at = itself l j
+      by (Fault k code) at = placed l l j k emptyExchange (itself l j) (not-its (h .«ox_id») k n (at .found))
+      by Uncovered at = itself l j
+      by (Take k m) at = placed l l j k _ (itself l j) (not-its (h .«ox_id») k n (at .found))
+
   -- a command of another OX_ID
   module _ (ox : ℕ) (n : ox ≡ x → ⊥) (c : Cmnd) where
     opened-keeps : (e : Exchange) → Keeps (openedOf l (c .bits) e)
     unfolding openedOf toldOf
     opened-keeps e =
         on-cond Keeps (eqb (total e) 0) (itself l j)
-        (on-cond Keeps (readBit (c .bits))
+        (on-cond Keeps (bitFor e (c .bits))
         (on-found Keeps (freeExchange l) _ _
         (λ k at. placed l _ j k e (on-cond (λ (m : Login). Kept l m j) (reports (e .kind)) (flagged l j (l .proven) (l .paired) 0) (itself l j)) (not-closed k at)) (λ _. itself l j))
         (itself l j))
@@ -377,22 +396,24 @@ module _ (u : Unit) (p : Port) (a x i j : ℕ) (w : wellFormed u p ≡ true) (o 
 pub command-form : (h : Header) (n : ℕ) → unknownForm h n ≡ false → formOf (h .«r_ctl») ≡ Command → h .«r_ctl» ≡ 0x06
 unfolding unknownForm knownPair formOf
 command-form h n known form =
-    let is = pair (eqb (h .«r_ctl») 0x22) (eqb (h .«r_ctl») 0x23) (eqb (h .«r_ctl») 0x81) in
+    let r = h .«r_ctl» in
+    let is = pair (eqb r 0x22) (eqb r 0x23) (eqb r 0x81) (eqb r 0x06) (eqb r 0x01) in
     let df = not (eqb (h .«df_ctl») 0) in
-    let cnt = not (eqb (h .«seq_cnt») 0) in
-    let ctl = not (eqb (h .«f_ctl» % 4) 0) in
-    let none = eqb (h .«r_ctl») 0x22 && leb n 24 in
-    let fits = or-left (not is) df (or-left (not is || df) cnt (or-left (not is || df || cnt) ctl (or-left (not is || df || cnt || ctl) none known))) in
-    by (eqb (h .«r_ctl») 0x22) (eqb (h .«r_ctl») 0x23) (eqb (h .«r_ctl») 0x81) (not-false is fits) form
+    let bad = badSequence h n in
+    let none = eqb r 0x22 && leb n 24 in
+    let fits = or-left (not is) df (or-left (not is || df) bad (or-left (not is || df || bad) none known)) in
+    by (eqb r 0x22) (eqb r 0x23) (eqb r 0x81) (eqb r 0x06) (eqb r 0x01) refl (not-false is fits) form
   where
-    pair : Bool → Bool → Bool → Bool
-    pair a b c = cond a (eqb (h .protocol) 0x01) (cond b (eqb (h .protocol) 0x01) (cond c (eqb (h .protocol) 0x00) (eqb (h .«r_ctl») 0x06 && eqb (h .protocol) 0x08)))
+    pair : Bool → Bool → Bool → Bool → Bool → Bool
+    pair a b c d e = cond a (eqb (h .protocol) 0x01) (cond b (eqb (h .protocol) 0x01) (cond c (eqb (h .protocol) 0x00) (cond d (eqb (h .protocol) 0x08) (e && eqb (h .protocol) 0x08))))
 
-    by : (a b c : Bool) → pair a b c ≡ true → cond a Link (cond b Done (cond c Abort Command)) ≡ Command → h .«r_ctl» ≡ 0x06
-    by true b c k e = let z : _≡_ {A = ℕ} 0 1 = cc in absurd (omega arith)
-    by false true c k e = let z : _≡_ {A = ℕ} 0 1 = cc in absurd (omega arith)
-    by false false true k e = let z : _≡_ {A = ℕ} 0 1 = cc in absurd (omega arith)
-    by false false false k e = eqb-true (h .«r_ctl») 0x06 (and-left (eqb (h .«r_ctl») 0x06) (eqb (h .protocol) 0x08) k)
+    by : (a b c d e : Bool) → eqb (h .«r_ctl») 0x06 ≡ d → pair a b c d e ≡ true → cond a Link (cond b Done (cond c Abort (cond e Data Command))) ≡ Command → h .«r_ctl» ≡ 0x06
+    by true b c d e s k t = let z : _≡_ {A = ℕ} 0 1 = cc in absurd (omega arith)
+    by false true c d e s k t = let z : _≡_ {A = ℕ} 0 1 = cc in absurd (omega arith)
+    by false false true d e s k t = let z : _≡_ {A = ℕ} 0 1 = cc in absurd (omega arith)
+    by false false false d true s k t = let z : _≡_ {A = ℕ} 0 1 = cc in absurd (omega arith)
+    by false false false true false s k t = eqb-true (h .«r_ctl») 0x06 s
+    by false false false false false s k t = apart k refl
 
 -- at the entries
 module _ (d : Drive) (a x i j : ℕ) (w : wellFormed (d .unit) (d .port) ≡ true) (o : lookupOf (d .port) a x ≡ Open i j) where
@@ -413,34 +434,35 @@ module _ (d : Drive) (a x i j : ℕ) (w : wellFormed (d .unit) (d .port) ≡ tru
   abbrev Fine : Answer → Type 0
   Fine r = (r .drive .unit ≡ u) × Here (r .drive .port)
 
-  frame-left : (f : List ℕ) (room : ℕ) (known : AllBytes f) → (unknownForm (headerOf f) (length f) ≡ false → Here (decidedIn d f .port)) → Left a x i j d (frameIn d f room .drive)
-  frame-left f room known t =
-      let r : Fine (frameIn d f room) = frame-cases d f room Fine (λ _ _. (refl, unchanged u p a x i j w o)) (λ passes. (refl, t (passes .known))) in
-      left-by (frameIn d f room .drive) (frame-kept d f room known w) (r .0) (r .1)
+  frame-left : (f : List ℕ) (start : ℕ) (W : List ℕ) (room : ℕ) (known : AllBytes f) → (unknownForm (headerOf f) (length f) ≡ false → Here (decidedIn d f start (length W) .port)) → Left a x i j d (frameIn d f start W room .drive)
+  frame-left f start W room known t =
+      let r : Fine (frameIn d f start W room) = frame-cases d f start W room Fine (λ _ _. (refl, unchanged u p a x i j w o)) (λ passes. (refl, t (passes .arrived .known))) in
+      left-by (frameIn d f start W room .drive) (frame-kept d f start W room known w) (r .0) (r .1)
 
   -- a frame whose R_CTL is known, by what is decided of its form
-  own-left : (f : List ℕ) (room : ℕ) (known : AllBytes f) (rctl : ℕ) → Own a rctl f → Here (decidedOf u p (headerOf f) (formOf rctl) f .port) → Left a x i j d (frameIn d f room .drive)
-  own-left f room known rctl its t = frame-left f room known (λ _. subst (λ (n : ℕ). Here (decidedOf u p (headerOf f) (formOf n) f .port)) (sym (its .form)) t)
+  own-left : (f : List ℕ) (start : ℕ) (W : List ℕ) (room : ℕ) (known : AllBytes f) (rctl : ℕ) → Own a rctl f → Here (decidedOf u p (headerOf f) (formOf rctl) f start (length W) .port) → Left a x i j d (frameIn d f start W room .drive)
+  own-left f start W room known rctl its t = frame-left f start W room known (λ _. subst (λ (n : ℕ). Here (decidedOf u p (headerOf f) (formOf n) f start (length W) .port)) (sym (its .form)) t)
 
-  service-left : (f : List ℕ) (room : ℕ) (known : AllBytes f) (code : ℕ) → Service a code f → eqb code 0x03 ≡ false → eqb code 0x05 ≡ false → Kept (loginAt p i) (serviceOf code (loginAt p i) (soughtIn p a) a f .login) j
-      → Left a x i j d (frameIn d f room .drive)
+  service-left : (f : List ℕ) (start : ℕ) (W : List ℕ) (room : ℕ) (known : AllBytes f) (code : ℕ) → Service a code f → eqb code 0x03 ≡ false → eqb code 0x05 ≡ false → Kept (loginAt p i) (serviceOf code (loginAt p i) (soughtIn p a) a f .login) j
+      → Left a x i j d (frameIn d f start W room .drive)
   unfolding formOf
-  service-left f room known code s no-plogi no-logo t =
-      own-left f room known 0x22 (s .own) (service-keeps u p a x i j w o (headerOf f) f (s .own .from) code (s .code-is) no-plogi no-logo t)
+  service-left f start W room known code s no-plogi no-logo t =
+      own-left f start W room known 0x22 (s .own) (service-keeps u p a x i j w o (headerOf f) f (s .own .from) code (s .code-is) no-plogi no-logo t)
 
   -- a frame of another sender
-  other-here : (f : List ℕ) → (headerOf f .«s_id» ≡ a → ⊥) → (EndsAll p f → ⊥) → (Moves p a (headerOf f) f → ⊥)
-      → (k : Form) → (k ≡ Link → headerOf f .«r_ctl» ≡ 0x22) → (k ≡ Command → headerOf f .«r_ctl» ≡ 0x06) → Here (decidedOf u p (headerOf f) k f .port)
-  other-here f n spares still Link link form = link-others u p a x i j w o (headerOf f .«s_id») n (headerOf f) f refl (link refl) still
-  other-here f n spares still Done link form = unchanged u p a x i j w o
-  other-here f n spares still Abort link form = abts-others u p a x i j w o (headerOf f .«s_id») n (headerOf f .«ox_id») (headerOf f .«rx_id»)
-  other-here f n spares still Command link form =
+  other-here : (f : List ℕ) (start len : ℕ) → (headerOf f .«s_id» ≡ a → ⊥) → (EndsAll p f → ⊥) → (Moves p a (headerOf f) f → ⊥)
+      → (k : Form) → (k ≡ Link → headerOf f .«r_ctl» ≡ 0x22) → (k ≡ Command → headerOf f .«r_ctl» ≡ 0x06) → Here (decidedOf u p (headerOf f) k f start len .port)
+  other-here f start len n spares still Link link form = link-others u p a x i j w o (headerOf f .«s_id») n (headerOf f) f refl (link refl) still
+  other-here f start len n spares still Done link form = unchanged u p a x i j w o
+  other-here f start len n spares still Abort link form = abts-others u p a x i j w o (headerOf f .«s_id») n (headerOf f .«ox_id») (headerOf f .«rx_id»)
+  other-here f start len n spares still Data link form = data-others u p a x i j w o (headerOf f .«s_id») n (headerOf f) (length f) start len refl
+  other-here f start len n spares still Command link form =
       command-others u p a x i j w o (headerOf f .«s_id») n (headerOf f) f refl (λ pair e. spares record { command = form refl; paired = pair; flags = inl e }) (λ pair e. spares record { command = form refl; paired = pair; flags = inr e })
 
   -- a refused call
   refused-same : (c : Call) (r : Refusal) → answerOf d c .said ≡ Refused r → after d c ≡ d
   unfolding nextFrame
-  refused-same (frame f room known) r = frame-cases d f room (λ (s : Answer). s .said ≡ Refused r → s .drive ≡ d) (λ _ _ _. refl) (λ _ e. let z : _≡_ {A = ℕ} 0 1 = cc in absurd (omega arith))
+  refused-same (frame f start W room known) r = frame-cases d f start W room (λ (s : Answer). s .said ≡ Refused r → s .drive ≡ d) (λ _ _ _. refl) (λ _ e. let z : _≡_ {A = ℕ} 0 1 = cc in absurd (omega arith))
   refused-same (next b y start W room) r = by (shortBuffer room) (wellFormed (d .unit) (d .port))
     where
       answer : Bool → Bool → Answer
@@ -481,26 +503,27 @@ module _ (d : Drive) (a x i j : ℕ) (w : wellFormed (d .unit) (d .port) ≡ tru
   leaves-open c (next-other b y start W room n) = let r = next-fine b y start W room n in left-by (nextFrame d b y start W room .drive) (next-frame-kept d b y start W room w) (r .0) (r .1)
   leaves-open c loop-reset = event-left LoopReset unproves
   leaves-open c (time-over proven) = event-left TimeOver (verifies (ap (λ (m : Login). m .proven) (sym (login-there u p a x i j w o)) ∙ proven))
-  leaves-open c (other f room known n spares still) =
-      frame-left f room known (λ k. other-here f n spares still (formOf (headerOf f .«r_ctl»)) (link-form (headerOf f .«r_ctl»)) (command-form (headerOf f) (length f) k))
-  leaves-open c (done f room known its) = own-left f room known 0x23 its (unchanged u p a x i j w o)
-  leaves-open c (abts-other f room known its n) =
-      own-left f room known 0x81 its (subst (λ (b : ℕ). Here (abtsOf p b (headerOf f .«ox_id») (headerOf f .«rx_id») .port)) (sym (its .from)) (abts-own u p a x i j w o (headerOf f .«ox_id») (headerOf f .«rx_id») (inl n)))
-  leaves-open c (abts-rejected f room known its n) =
-      own-left f room known 0x81 its (subst (λ (b : ℕ). Here (abtsOf p b (headerOf f .«ox_id») (headerOf f .«rx_id») .port)) (sym (its .from)) (abts-own u p a x i j w o (headerOf f .«ox_id») (headerOf f .«rx_id») (inr n)))
-  leaves-open c (coded f room known m its asks-code) =
-      own-left f room known 0x06 its (own-command u p a x i j w o (λ r. Here (r .port)) (headerOf f) f (task.Code m) (its .from) asks-code (unchanged u p a x i j w o))
-  leaves-open c (command-other f room known its asks-it n) =
+  leaves-open c (other f start W room known n spares still) =
+      frame-left f start W room known (λ k. other-here f start (length W) n spares still (formOf (headerOf f .«r_ctl»)) (link-form (headerOf f .«r_ctl»)) (command-form (headerOf f) (length f) k))
+  leaves-open c (done f start W room known its) = own-left f start W room known 0x23 its (unchanged u p a x i j w o)
+  leaves-open c (abts-other f start W room known its n) =
+      own-left f start W room known 0x81 its (subst (λ (b : ℕ). Here (abtsOf p b (headerOf f .«ox_id») (headerOf f .«rx_id») .port)) (sym (its .from)) (abts-own u p a x i j w o (headerOf f .«ox_id») (headerOf f .«rx_id») (inl n)))
+  leaves-open c (abts-rejected f start W room known its n) =
+      own-left f start W room known 0x81 its (subst (λ (b : ℕ). Here (abtsOf p b (headerOf f .«ox_id») (headerOf f .«rx_id») .port)) (sym (its .from)) (abts-own u p a x i j w o (headerOf f .«ox_id») (headerOf f .«rx_id») (inr n)))
+  leaves-open c (data-other f start W room known its n) = own-left f start W room known 0x01 its (data-own u p a x i j w o (headerOf f) (length f) start (length W) (its .from) n)
+  leaves-open c (coded f start W room known m its asks-code) =
+      own-left f start W room known 0x06 its (own-command u p a x i j w o (λ r. Here (r .port)) (headerOf f) f (task.Code m) (its .from) asks-code (unchanged u p a x i j w o))
+  leaves-open c (command-other f start W room known its asks-it n) =
       let ox = headerOf f .«ox_id» in
-      own-left f room known 0x06 its
+      own-left f start W room known 0x06 its
       (own-command u p a x i j w o (λ r. Here (r .port)) (headerOf f) f task.Execute (its .from) asks-it
       (stored u p a x i j w o _ (execute-keeps u p a x i j w o ox n (cmndOf f) (soughtIn p a ox) (sought-there u p a x i j w o ox))))
-  leaves-open c (unsized f room known its n) = own-left f room known 0x22 its (unsized-keeps u p a x i j w o (headerOf f) f (its .from) n)
-  leaves-open c (prli f room known s) = service-left f room known 0x20 s refl refl (prli-keeps u p a x i j w o f)
-  leaves-open c (rrq f room known s) = service-left f room known 0x12 s refl refl (rrq-keeps u p a x i j w o f)
-  leaves-open c (logo-rejected f room known s n) = own-left f room known 0x22 (s .own) (logo-keeps u p a x i j w o (headerOf f) f (s .own .from) (s .code-is) n)
-  leaves-open c (prlo-rejected f room known s n) = service-left f room known 0x21 s refl refl (prlo-keeps u p a x i j w o f n)
-  leaves-open c (pdisc f room known s same) =
-      service-left f room known 0x50 s refl refl (pdisc-keeps u p a x i j w o f (subst (λ (m : Login). pdiscNames m f) (login-there u p a x i j w o) same))
-  leaves-open c (adisc f room known s same named) =
-      service-left f room known 0x52 s refl refl (adisc-keeps u p a x i j w o f (subst (λ (m : Login). adiscNames m f) (login-there u p a x i j w o) same) named)
+  leaves-open c (unsized f start W room known its n) = own-left f start W room known 0x22 its (unsized-keeps u p a x i j w o (headerOf f) f (its .from) n)
+  leaves-open c (prli f start W room known s) = service-left f start W room known 0x20 s refl refl (prli-keeps u p a x i j w o f)
+  leaves-open c (rrq f start W room known s) = service-left f start W room known 0x12 s refl refl (rrq-keeps u p a x i j w o f)
+  leaves-open c (logo-rejected f start W room known s n) = own-left f start W room known 0x22 (s .own) (logo-keeps u p a x i j w o (headerOf f) f (s .own .from) (s .code-is) n)
+  leaves-open c (prlo-rejected f start W room known s n) = service-left f start W room known 0x21 s refl refl (prlo-keeps u p a x i j w o f n)
+  leaves-open c (pdisc f start W room known s same) =
+      service-left f start W room known 0x50 s refl refl (pdisc-keeps u p a x i j w o f (subst (λ (m : Login). pdiscNames m f) (login-there u p a x i j w o) same))
+  leaves-open c (adisc f start W room known s same named) =
+      service-left f start W room known 0x52 s refl refl (adisc-keeps u p a x i j w o f (subst (λ (m : Login). adiscNames m f) (login-there u p a x i j w o) same) named)

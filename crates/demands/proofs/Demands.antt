@@ -19,18 +19,21 @@ use Rattle.demands.specs.Demands.{Demand1, Demand2}
 use Rattle.demands.proofs.Contracts.{one-reply}
 use Rattle.demands.proofs.Reach.{driven-fine}
 use Rattle.demands.proofs.Refusals.{frame-first, frame-refuses, next-first, next-refuses, next-unchanged}
-use Rattle.demands.proofs.Lengths.{frame-long, next-long}
+use Rattle.demands.proofs.Lengths.{frame-long, next-long, next-silent, next-most}
 use Rattle.demands.proofs.Login.{login-is, moved-is}
 use Rattle.demands.proofs.Judges.{judges-is}
 use Rattle.demands.proofs.Between.{leaves-open}
 use Rattle.demands.proofs.Ending.{ends-open, no-third-call}
 use Rattle.demands.proofs.Reading.{reads-shown, reads-read, reads-made, reads-come}
 use Rattle.demands.proofs.Opening.{opens-command, read-in, made-in, comes-in}
+use Rattle.demands.proofs.Outside.{write-local, write-outside}
+use Rattle.demands.proofs.Writing.{whole-write, whole-write-in}
+use Rattle.demands.proofs.WriteComes.{write-comes}
 use Rattle.demands.proofs.Numbers.{known-numbers}
 
 -- 2 is given where the state is not well formed, and a driven one is
-never-frame : {d : Drive} → Driven d → (f l : List ℕ) → frameIn d f (length l) .said ≡ Refused IllFormed → ⊥
-never-frame {d} r f l e = apart (driven-fine r) (not-true (wellFormed (d .unit) (d .port)) (frame-first d f l IllFormed e .this))
+never-frame : {d : Drive} → Driven d → (f : List ℕ) (start : ℕ) (W l : List ℕ) → frameIn d f start W (length l) .said ≡ Refused IllFormed → ⊥
+never-frame {d} r f start W l e = apart (driven-fine r) (not-true (wellFormed (d .unit) (d .port)) (frame-first d f start W l IllFormed e .this))
 
 never-next : {d : Drive} → Driven d → (a x start : ℕ) (W l : List ℕ) → nextFrame d a x start W (length l) .said ≡ Refused IllFormed → ⊥
 never-next {d} r a x start W l e = apart (driven-fine r) (not-true (wellFormed (d .unit) (d .port)) (next-first d a x start W l IllFormed e .this))
@@ -55,8 +58,9 @@ demand-1 =
       event-never-2 = λ {d} r e. event-answered d e (driven-fine r);
       frame-length = frame-long;
       next-length = next-long;
-      frame-below = λ d f l n words e. below n 140 (frame-long d f l n words e .0) (omega arith);
-      next-below = λ d a x start W l n e. below n 2072 (next-long d a x start W l n e .1) (omega arith);
+      next-awaits = next-silent;
+      frame-below = λ d f start W l n words e. below n 140 (frame-long d f start W l n words e .0) (omega arith);
+      next-below = λ d a x start W l n e. below n 2072 (next-most d a x start W l n e) (omega arith);
     }
 
 pub demand-2 : Demand2
@@ -65,7 +69,7 @@ demand-2 =
       header-bytes = write-read;
       header-fields = read-write;
       port-login = login-is;
-      host-moved = λ d f l p words b n. moved-is d f l p words b n;
+      host-moved = λ d f start W l p words b n. moved-is d f start W l p words b n;
       name-same = λ x y bx by ex ey e. name-same x y bx by (ex ∙ sym ey) e;
       whole-read = reads-read;
       whole-made = reads-made;
@@ -73,11 +77,16 @@ demand-2 =
       ends-open = ends-open;
       no-third-call = no-third-call;
       command-opens = opens-command;
-      whole-read-in = λ d e unit f l frames last long known r. read-in d f l known r e unit frames last long;
-      whole-made-in = λ opens made d e unit f l frames last words known r. made-in opens made d f l known r e unit frames last words;
+      whole-read-in = λ d e unit f start W l frames last long known r. read-in d f start W l known r e unit frames last long;
+      whole-made-in = λ opens made unwritten d e unit f start W l frames last words known r. made-in opens made unwritten d f start W l known r e unit frames last words;
       whole-comes = reads-come;
-      whole-comes-in = λ opens d unit f l long known r. comes-in opens d f l known r unit long;
+      whole-comes-in = λ opens unwritten d unit f start W l long known r. comes-in opens d f start W l known r unwritten unit long;
       frames-shown = reads-shown;
+      write-local = write-local;
+      write-outside = write-outside;
+      whole-write = whole-write;
+      whole-write-in = whole-write-in;
+      write-comes = write-comes;
       judges-is = judges-is;
       p-cases = known-numbers;
     }

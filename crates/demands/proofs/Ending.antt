@@ -1,5 +1,5 @@
--- The calls that end an open exchange do, where they are not refused, and every call but the exchange's own next frame leaves it open or ends it. Assumes nothing.
-use Prim.Native.Nat.{ℕ, zero, suc, _+_, _%_, _<_}
+-- The calls that end an open exchange do, where they are not refused, and every call but the exchange's own next frame, and its data frame that is taken, leaves it open or ends it. Assumes nothing.
+use Prim.Native.Nat.{ℕ, zero, suc, _+_, _<_}
 use mathlib.Core.Path.{_≡_, refl, sym, ap, _∙_, subst}
 use mathlib.Core.Bool.{Bool, true, false, cond, not, _&&_, _||_, or-true}
 use mathlib.Core.Logic.{_⊎_, inl, inr, ⊎-elim}
@@ -33,9 +33,10 @@ use Rattle.state.specs.declared.Change.{Change}
 use Rattle.state.specs.declared.Change.the-variants.{EndAll, EndLogin, EndHost, EndUnproven, EndExchangesOf, Reset, Clear}
 use Rattle.state.specs.Standing.{Open}
 use Rattle.state.specs.Changes.{emptyExchange, emptyLogin, isUsed, hasAddress, hasName, isHost, loginAt, exchangeAt, withLogin, withExchange, withoutExchanges, endedAt, freedOf, endedOf, hostEnded, verified, abortedOf, resetOf, losesTo, clearedBy, changedOf, changedAll}
-use Rattle.state.specs.Tables.{isFree, hasId, findLogin, freeLogin, loginIn, loginOf, lookupOf, soughtIn}
+use Rattle.state.specs.Tables.{isFree, hasId, findLogin, findExchange, freeLogin, loginIn, loginOf, lookupOf, soughtIn}
 use Rattle.state.proofs.Places.{found-has, open-place, open-exchange, open-has, login-inside, exchange-inside, stored-at, login-other, exchange-other}
 use Rattle.formed.specs.Formed.{wellFormed}
+use Rattle.reply.specs.Reply.{silent, bytesOf}
 use Rattle.calls.specs.declared.Served.{Served}
 use Rattle.calls.specs.Turn.{Decided, servedAt}
 use Rattle.calls.proofs.Decisions.{by-cond, on-cond}
@@ -49,17 +50,22 @@ use Rattle.command.specs.Cmnd.{cmndOf, taskOf}
 use Rattle.command.specs.Command.{refusedWith, executeOf, doneAs, commandedAt, loggedOut, commandOf}
 use Rattle.command.proofs.Logins.{Mild, task-mild}
 use Rattle.command.proofs.Logins as mild
-use Rattle.arrival.specs.Arrival.{unknownForm, knownPair, formOf}
+use Rattle.taking.specs.declared.Step.{Step}
+use Rattle.taking.specs.declared.Step.the-variants.{NoWrite, Fault, Uncovered, Take}
+use Rattle.taking.specs.Taking.{dataSize, stepIn, servedBy, servedData, dataDecided}
+use Rattle.taking.proofs.Steps.{Means, step-means}
+use Rattle.arrival.specs.Arrival.{unknownForm, knownPair, badSequence, formOf}
 use Rattle.drive.specs.declared.Drive.{Drive}
 use Rattle.drive.specs.declared.Answer.{Answer}
 use Rattle.drive.specs.declared.Event.{Event}
 use Rattle.drive.specs.declared.Event.the-variants.{LoopReset, TimeOver, PowerOn}
 use Rattle.drive.specs.Drive.{changeOf, afterEvent, eventAnswer}
-use Rattle.drive.specs.Entry.{decidedOf, decidedIn, frameIn}
+use Rattle.drive.specs.Entry.{decidedOf, decidedIn, replyBytes, frameIn}
 use Rattle.drive.proofs.Made.{event-answered}
 use Rattle.drive.proofs.Ways.{frame-cases}
 use Rattle.demands.specs.Between.{Call, frame, next, event, after, asked, EndsAll, Own, Service, pdiscNames, adiscNames, LeavesOpen, EndsOpen, Serves, Taken}
 use Rattle.demands.specs.Between as call
+use Rattle.demands.proofs.Lengths.{same-length}
 use Rattle.demands.proofs.Between.{login-found, seat, sought-there, is-paired, own-command, login-there, command-form}
 
 -- reading a list of free places gives a free one, past its end too
@@ -204,6 +210,21 @@ module _ (u : Unit) (p : Port) (a x i j : ℕ) (w : wellFormed u p ≡ true) (o 
   abts-gone : (ox rx : ℕ) → ox ≡ x → rx ≡ 0xffff → Over (abtsOf p a ox rx)
   unfolding abtsOf
   abts-gone ox rx its whole = rw (its, whole, o) (login-gone (endedAt l j) freed)
+
+  -- its own data frame that is answered with a frame: a fault
+  data-gone : (h : Header) (size start len : ℕ) → h .«s_id» ≡ a → h .«ox_id» ≡ x → (silent (dataDecided p h size start len .reply) ≡ true → ⊥) → Over (dataDecided p h size start len)
+  unfolding dataDecided servedData
+  data-gone h size start len is its = rw (is, seat u p a x i j w o) (by (stepIn l h size start len) (step-means l (h .«ox_id») (h .offset) (dataSize h size) start len))
+    where
+      by : (s : Step) → Means l (h .«ox_id») (h .offset) (dataSize h size) start len s → (silent (servedBy s l (dataSize h size) .reply) ≡ true → ⊥) → Gone a x (withLogin p i (servedBy s l (dataSize h size) .login))
+      by NoWrite at loud = absurd (loud refl)
+      by (Fault k code) at loud =
+          let there = open-exchange p a x i j o in
+          let here = ap (findExchange l) (sym its) ∙ at .found in
+          let place : j ≡ k = cc in
+          subst (λ (m : ℕ). Gone a x (withLogin p i (endedAt l m))) place (login-gone (endedAt l j) freed)
+      by Uncovered at loud = absurd (loud refl)
+      by (Take k m) at loud = absurd (loud refl)
 
   -- its login ended
   ended-gone : Gone a x (changedAll (EndLogin a) p)
@@ -357,8 +378,13 @@ moved-or-not p a h f =
 has-payload : (h : Header) (n : ℕ) → unknownForm h n ≡ false → h .«r_ctl» ≡ 0x22 → 24 < n
 unfolding unknownForm
 has-payload h n known is =
-    let others = not (knownPair (h .«r_ctl») (h .protocol)) || not (eqb (h .«df_ctl») 0) || not (eqb (h .«seq_cnt») 0) || not (eqb (h .«f_ctl» % 4) 0) in
+    let others = not (knownPair (h .«r_ctl») (h .protocol)) || not (eqb (h .«df_ctl») 0) || badSequence h n in
     leb-false n 24 (rw (eq-eqb (h .«r_ctl») 0x22 is) at (or-right others (eqb (h .«r_ctl») 0x22 && leb n 24) known))
+
+-- a reply that is none has no bytes
+silent-none : (d : Drive) (h : Header) (r : Decided) → silent (r .reply) ≡ true → Sent (length (replyBytes d h r)) ≡ Sent 0
+unfolding replyBytes bytesOf
+silent-none d h r s = rw s
 
 -- at the entries
 module _ (d : Drive) (a x i j : ℕ) (w : wellFormed (d .unit) (d .port) ≡ true) (o : lookupOf (d .port) a x ≡ Open i j) where
@@ -369,12 +395,26 @@ module _ (d : Drive) (a x i j : ℕ) (w : wellFormed (d .unit) (d .port) ≡ tru
   p = d .port
 
   -- a frame that is not refused is decided
-  frame-over : (f : List ℕ) (room : ℕ) (known : AllBytes f) → Taken d (frame f room known) → Gone a x (decidedIn d f .port) → Gone a x (frameIn d f room .drive .port)
-  frame-over f room known t g =
-      frame-cases d f room (λ (r : Answer). r .said ≡ Sent (t .n) → Gone a x (r .drive .port)) (λ r _ e. let z : _≡_ {A = ℕ} 0 1 = cc in absurd (omega arith)) (λ _ _. g) (t .said)
+  frame-over : (f : List ℕ) (start : ℕ) (W : List ℕ) (room : ℕ) (known : AllBytes f) → Taken d (frame f start W room known) → Gone a x (decidedIn d f start (length W) .port) → Gone a x (frameIn d f start W room .drive .port)
+  frame-over f start W room known t g =
+      frame-cases d f start W room (λ (r : Answer). r .said ≡ Sent (t .n) → Gone a x (r .drive .port)) (λ r _ e. let z : _≡_ {A = ℕ} 0 1 = cc in absurd (omega arith)) (λ _ _. g) (t .said)
 
-  own-over : (f : List ℕ) (room : ℕ) (known : AllBytes f) (rctl : ℕ) → Taken d (frame f room known) → headerOf f .«r_ctl» ≡ rctl → Gone a x (decidedOf u p (headerOf f) (formOf rctl) f .port) → Gone a x (frameIn d f room .drive .port)
-  own-over f room known rctl t its g = frame-over f room known t (subst (λ (n : ℕ). Gone a x (decidedOf u p (headerOf f) (formOf n) f .port)) (sym its) g)
+  own-over : (f : List ℕ) (start : ℕ) (W : List ℕ) (room : ℕ) (known : AllBytes f) (rctl : ℕ) → Taken d (frame f start W room known) → headerOf f .«r_ctl» ≡ rctl → Gone a x (decidedOf u p (headerOf f) (formOf rctl) f start (length W) .port) → Gone a x (frameIn d f start W room .drive .port)
+  own-over f start W room known rctl t its g = frame-over f start W room known t (subst (λ (n : ℕ). Gone a x (decidedOf u p (headerOf f) (formOf n) f start (length W) .port)) (sym its) g)
+
+  -- a fault: what is answered has bytes
+  fault-over : (f : List ℕ) (start : ℕ) (W : List ℕ) (room : ℕ) (known : AllBytes f) → Taken d (frame f start W room known) → Own a 0x01 f → headerOf f .«ox_id» ≡ x
+      → (frameIn d f start W room .said ≡ Sent 0 → ⊥) → Gone a x (frameIn d f start W room .drive .port)
+  unfolding formOf
+  fault-over f start W room known t its same =
+      frame-cases d f start W room (λ (r : Answer). r .said ≡ Sent (t .n) → (r .said ≡ Sent 0 → ⊥) → Gone a x (r .drive .port)) (λ r _ e _. let z : _≡_ {A = ℕ} 0 1 = cc in absurd (omega arith))
+      (λ _ _ some. subst (λ (r : Decided). Gone a x (r .port)) (sym decided) (data-gone u p a x i j w o (headerOf f) (length f) start (length W) (its .from) same (λ quiet. some (bare-said quiet)))) (t .said)
+    where
+      decided : decidedIn d f start (length W) ≡ dataDecided p (headerOf f) (length f) start (length W)
+      decided = rw (its .form)
+
+      bare-said : silent (dataDecided p (headerOf f) (length f) start (length W) .reply) ≡ true → Sent (length (replyBytes d (headerOf f) (decidedIn d f start (length W)))) ≡ Sent 0
+      bare-said quiet = silent-none d (headerOf f) (decidedIn d f start (length W)) (ap (λ (r : Decided). silent (r .reply)) decided ∙ quiet)
 
   event-over : (e : Event) → Gone a x (changedAll (changeOf e) p) → Gone a x (eventAnswer d e .drive .port)
   unfolding afterEvent
@@ -385,21 +425,22 @@ module _ (d : Drive) (a x i j : ℕ) (w : wellFormed (d .unit) (d .port) ≡ tru
   unfolding formOf sizeOf
   over c t call.power-on = event-over PowerOn (changed-gone a x p EndAll (λ _. ends-all))
   over c t (call.time-out n) = event-over TimeOver (out-of-time u p a x i j w o (λ e. n (ap (λ (m : Login). m .proven) (login-there u p a x i j w o) ∙ e)))
-  over c t (call.all-end f room known e) = own-over f room known 0x06 t (e .command) (all-gone u p a x i j w o (headerOf f) f (e .paired) (e .flags))
-  over c t (call.moved f room known n m) = own-over f room known 0x22 t (m .link) (moved-gone u p a x i j w o (headerOf f) f m)
-  over c t (call.aborts-set f room known its asks) = own-over f room known 0x06 t (its .form) (aborted-gone u p a x i j w o (headerOf f) f (its .from) asks)
-  over c t (call.again f room known its asks same) = own-over f room known 0x06 t (its .form) (again-gone u p a x i j w o (headerOf f) f (its .from) asks same)
-  over c t (call.abts f room known its same whole) =
-      own-over f room known 0x81 t (its .form)
+  over c t (call.all-end f start W room known e) = own-over f start W room known 0x06 t (e .command) (all-gone u p a x i j w o (headerOf f) f (e .paired) (e .flags))
+  over c t (call.moved f start W room known n m) = own-over f start W room known 0x22 t (m .link) (moved-gone u p a x i j w o (headerOf f) f m)
+  over c t (call.aborts-set f start W room known its asks) = own-over f start W room known 0x06 t (its .form) (aborted-gone u p a x i j w o (headerOf f) f (its .from) asks)
+  over c t (call.again f start W room known its asks same) = own-over f start W room known 0x06 t (its .form) (again-gone u p a x i j w o (headerOf f) f (its .from) asks same)
+  over c t (call.abts f start W room known its same whole) =
+      own-over f start W room known 0x81 t (its .form)
       (subst (λ (b : ℕ). Gone a x (abtsOf p b (headerOf f .«ox_id») (headerOf f .«rx_id») .port)) (sym (its .from)) (abts-gone u p a x i j w o (headerOf f .«ox_id») (headerOf f .«rx_id») same whole))
-  over c t (call.plogi f room known s) = own-over f room known 0x22 t (s .own .form) (link-gone u p a x i j w o f 0x03 s refl (plogi-gone u p a x i j w o (paramsOf f 28)))
-  over c t (call.logo f room known s named) = own-over f room known 0x22 t (s .own .form) (link-gone u p a x i j w o f 0x05 s refl (logo-gone u p a x i j w o f named))
-  over c t (call.prlo f room known s fine) = own-over f room known 0x22 t (s .own .form) (link-gone u p a x i j w o f 0x21 s refl (login-gone u p a x i j w o _ (prlo-lacks u p a x i j w o f fine)))
-  over c t (call.pdisc-differs f room known s n) =
-      own-over f room known 0x22 t (s .own .form)
+  over c t (call.faulted f start W room known its same some) = fault-over f start W room known t its same some
+  over c t (call.plogi f start W room known s) = own-over f start W room known 0x22 t (s .own .form) (link-gone u p a x i j w o f 0x03 s refl (plogi-gone u p a x i j w o (paramsOf f 28)))
+  over c t (call.logo f start W room known s named) = own-over f start W room known 0x22 t (s .own .form) (link-gone u p a x i j w o f 0x05 s refl (logo-gone u p a x i j w o f named))
+  over c t (call.prlo f start W room known s fine) = own-over f start W room known 0x22 t (s .own .form) (link-gone u p a x i j w o f 0x21 s refl (login-gone u p a x i j w o _ (prlo-lacks u p a x i j w o f fine)))
+  over c t (call.pdisc-differs f start W room known s n) =
+      own-over f start W room known 0x22 t (s .own .form)
       (link-gone u p a x i j w o f 0x50 s refl (login-gone u p a x i j w o _ (pdisc-lacks u p a x i j w o f (rw (login-there u p a x i j w o) at n))))
-  over c t (call.adisc-differs f room known s why) =
-      own-over f room known 0x22 t (s .own .form)
+  over c t (call.adisc-differs f start W room known s why) =
+      own-over f start W room known 0x22 t (s .own .form)
       (link-gone u p a x i j w o f 0x52 s refl (login-gone u p a x i j w o _ (adisc-lacks u p a x i j w o f (rw (login-there u p a x i j w o) at why))))
 
   -- and so it is open nowhere
@@ -411,18 +452,18 @@ module _ (d : Drive) (a x i j : ℕ) (w : wellFormed (d .unit) (d .port) ≡ tru
   Sorted c = LeavesOpen d a x c ⊎ (Taken d c × EndsOpen d a x c)
 
   -- a frame that is not refused
-  module _ (f : List ℕ) (room : ℕ) (known : AllBytes f) (t : Taken d (frame f room known)) where
+  module _ (f : List ℕ) (start : ℕ) (W : List ℕ) (room : ℕ) (known : AllBytes f) (strange-one : Serves d a x (frame f start W room known) → ⊥) (t : Taken d (frame f start W room known)) where
     abbrev its : Call
-    its = frame f room known
+    its = frame f start W room known
 
     -- of another sender
     other-sorted : (headerOf f .«s_id» ≡ a → ⊥) → Sorted its
     other-sorted n =
         elim (all-or-not p f) [
-          | yes all ↦ inr (t, call.all-end f room known all)
+          | yes all ↦ inr (t, call.all-end f start W room known all)
           | no spares ↦ elim (moved-or-not p a (headerOf f) f) [
-            | yes moves ↦ inr (t, call.moved f room known n moves)
-            | no still ↦ inl (call.other f room known n spares still)
+            | yes moves ↦ inr (t, call.moved f start W room known n moves)
+            | no still ↦ inl (call.other f start W room known n spares still)
           ]
         ]
 
@@ -430,10 +471,21 @@ module _ (d : Drive) (a x i j : ℕ) (w : wellFormed (d .unit) (d .port) ≡ tru
     abts-sorted : Own a 0x81 f → Sorted its
     abts-sorted own =
         elim (ℕ-discrete (headerOf f .«ox_id») x) [
-          | no n ↦ inl (call.abts-other f room known own n)
+          | no n ↦ inl (call.abts-other f start W room known own n)
           | yes same ↦ elim (ℕ-discrete (headerOf f .«rx_id») 0xffff) [
-            | no n ↦ inl (call.abts-rejected f room known own n)
-            | yes whole ↦ inr (t, call.abts f room known own same whole)
+            | no n ↦ inl (call.abts-rejected f start W room known own n)
+            | yes whole ↦ inr (t, call.abts f start W room known own same whole)
+          ]
+        ]
+
+    -- FCP_DATA: one that is taken serves it
+    data-sorted : Own a 0x01 f → Sorted its
+    data-sorted own =
+        elim (ℕ-discrete (headerOf f .«ox_id») x) [
+          | no n ↦ inl (call.data-other f start W room known own n)
+          | yes same ↦ elim (ℕ-discrete (t .n) 0) [
+            | yes none ↦ absurd (strange-one (own, same, t .said ∙ ap Sent none))
+            | no some ↦ inr (t, call.faulted f start W room known own same (λ e. some (same-length (t .n) 0 (sym (t .said) ∙ e))))
           ]
         ]
 
@@ -445,44 +497,44 @@ module _ (d : Drive) (a x i j : ℕ) (w : wellFormed (d .unit) (d .port) ≡ tru
         paired = rw (own .from, login-there u p a x i j w o) (eqb-true (loginAt p i .paired) 1 (is-paired u p a x i j w o))
 
         by : (k : Task) → asked f ≡ k → Mild (headerOf f .«s_id») k → Sorted its
-        by k e (mild.code m) = inl (call.coded f room known m own e)
-        by k e mild.abort = inr (t, call.aborts-set f room known own (e ∙ ap (λ (b : ℕ). task.Apply (EndExchangesOf b)) (own .from)))
-        by k e mild.reset = inr (t, call.all-end f room known record { command = own .form; paired = paired; flags = inl e })
-        by k e mild.clear = inr (t, call.all-end f room known record { command = own .form; paired = paired; flags = inr e })
+        by k e (mild.code m) = inl (call.coded f start W room known m own e)
+        by k e mild.abort = inr (t, call.aborts-set f start W room known own (e ∙ ap (λ (b : ℕ). task.Apply (EndExchangesOf b)) (own .from)))
+        by k e mild.reset = inr (t, call.all-end f start W room known record { command = own .form; paired = paired; flags = inl e })
+        by k e mild.clear = inr (t, call.all-end f start W room known record { command = own .form; paired = paired; flags = inr e })
         by k e mild.execute =
             elim (ℕ-discrete (headerOf f .«ox_id») x) [
-              | yes same ↦ inr (t, call.again f room known own e same)
-              | no n ↦ inl (call.command-other f room known own e n)
+              | yes same ↦ inr (t, call.again f start W room known own e same)
+              | no n ↦ inl (call.command-other f start W room known own e n)
             ]
 
     -- a link request of right size, by its code
     request-sorted : (c : ℕ) → Request c → Service a c f → Sorted its
-    request-sorted c plogi s = inr (t, call.plogi f room known s)
+    request-sorted c plogi s = inr (t, call.plogi f start W room known s)
     request-sorted c logo s =
         elim (ℕ-discrete (num 3 f 29) a) [
-          | yes named ↦ inr (t, call.logo f room known s named)
-          | no n ↦ inl (call.logo-rejected f room known s n)
+          | yes named ↦ inr (t, call.logo f start W room known s named)
+          | no n ↦ inl (call.logo-rejected f start W room known s n)
         ]
-    request-sorted c rrq s = inl (call.rrq f room known s)
-    request-sorted c prli s = inl (call.prli f room known s)
+    request-sorted c rrq s = inl (call.rrq f start W room known s)
+    request-sorted c prli s = inl (call.prli f start W room known s)
     request-sorted c prlo s = by (pageFine (num 3 f 25) (getD f 28 0)) refl
       where
         by : (b : Bool) → pageFine (num 3 f 25) (getD f 28 0) ≡ b → Sorted its
-        by true e = inr (t, call.prlo f room known s e)
-        by false e = inl (call.prlo-rejected f room known s e)
+        by true e = inr (t, call.prlo f start W room known s e)
+        by false e = inl (call.prlo-rejected f start W room known s e)
     request-sorted c pdisc s = by (namesDiffer (loginOf p a) (paramsOf f 28 .«port_name») (paramsOf f 28 .«node_name»)) refl
       where
         by : (b : Bool) → namesDiffer (loginOf p a) (paramsOf f 28 .«port_name») (paramsOf f 28 .«node_name») ≡ b → Sorted its
-        by true e = inr (t, call.pdisc-differs f room known s (apart e))
-        by false e = inl (call.pdisc f room known s e)
+        by true e = inr (t, call.pdisc-differs f start W room known s (apart e))
+        by false e = inl (call.pdisc f start W room known s e)
     request-sorted c adisc s = by (namesDiffer (loginOf p a) (part 8 f 32) (part 8 f 40)) refl
       where
         by : (b : Bool) → namesDiffer (loginOf p a) (part 8 f 32) (part 8 f 40) ≡ b → Sorted its
-        by true e = inr (t, call.adisc-differs f room known s (inl (apart e)))
+        by true e = inr (t, call.adisc-differs f start W room known s (inl (apart e)))
         by false e =
             elim (ℕ-discrete (num 3 f 49) a) [
-              | yes named ↦ inl (call.adisc f room known s e named)
-              | no n ↦ inr (t, call.adisc-differs f room known s (inr n))
+              | yes named ↦ inl (call.adisc f start W room known s e named)
+              | no n ↦ inr (t, call.adisc-differs f start W room known s (inr n))
             ]
 
     -- a link request: another code has no size, and so none with a payload
@@ -490,7 +542,7 @@ module _ (d : Drive) (a x i j : ℕ) (w : wellFormed (d .unit) (d .port) ≡ tru
     link-sorted own long =
         elim (ℕ-discrete (length f) (24 + sizeOf (getD f 24 0))) [
           | yes e ↦ request-sorted (getD f 24 0) (request (getD f 24 0) (λ none. absurd (omega arith))) record { own = own; code-is = refl; sized = e }
-          | no n ↦ inl (call.unsized f room known own n)
+          | no n ↦ inl (call.unsized f start W room known own n)
         ]
 
     -- its own frames, by their R_CTL
@@ -500,11 +552,14 @@ module _ (d : Drive) (a x i j : ℕ) (w : wellFormed (d .unit) (d .port) ≡ tru
         elim (ℕ-discrete (headerOf f .«r_ctl») 0x22) [
           | yes e ↦ link-sorted record { from = is; form = e } (has-payload (headerOf f) (length f) form e)
           | no link ↦ elim (ℕ-discrete (headerOf f .«r_ctl») 0x23) [
-            | yes e ↦ inl (call.done f room known record { from = is; form = e })
+            | yes e ↦ inl (call.done f start W room known record { from = is; form = e })
             | no done ↦ elim (ℕ-discrete (headerOf f .«r_ctl») 0x81) [
               | yes e ↦ abts-sorted record { from = is; form = e }
-              | no abort ↦ command-sorted
-                  record { from = is; form = command-form (headerOf f) (length f) form (rw (ne-eqb (headerOf f .«r_ctl») 0x22 link, ne-eqb (headerOf f .«r_ctl») 0x23 done, ne-eqb (headerOf f .«r_ctl») 0x81 abort)) }
+              | no abort ↦ elim (ℕ-discrete (headerOf f .«r_ctl») 0x01) [
+                | yes e ↦ data-sorted record { from = is; form = e }
+                | no other ↦ command-sorted
+                    record { from = is; form = command-form (headerOf f) (length f) form (rw (ne-eqb (headerOf f .«r_ctl») 0x22 link, ne-eqb (headerOf f .«r_ctl») 0x23 done, ne-eqb (headerOf f .«r_ctl») 0x81 abort, ne-eqb (headerOf f .«r_ctl») 0x01 other)) }
+              ]
             ]
           ]
         ]
@@ -530,18 +585,18 @@ module _ (d : Drive) (a x i j : ℕ) (w : wellFormed (d .unit) (d .port) ≡ tru
   event-sorted PowerOn = inr (event-taken PowerOn, call.power-on)
 
   -- a frame is refused, or its form is known and it is answered
-  answer-sorted : (f : List ℕ) (room : ℕ) (known : AllBytes f) → Sorted (frame f room known)
-  answer-sorted f room known =
-      frame-cases d f room By (λ r _ refuses _. refuses r refl) (λ passes _ answers. answers _ refl (passes .known)) (λ r e. inl (call.refused r e)) (λ n e. frame-sorted f room known record { n = n; said = e })
+  answer-sorted : (f : List ℕ) (start : ℕ) (W : List ℕ) (room : ℕ) (known : AllBytes f) → (Serves d a x (frame f start W room known) → ⊥) → Sorted (frame f start W room known)
+  answer-sorted f start W room known strange-one =
+      frame-cases d f start W room By (λ r _ refuses _. refuses r refl) (λ passes _ answers. answers _ refl (passes .arrived .known)) (λ r e. inl (call.refused r e)) (λ n e. frame-sorted f start W room known strange-one record { n = n; said = e })
     where
       S : Type 0
-      S = Sorted (frame f room known)
+      S = Sorted (frame f start W room known)
 
       By : Answer → Type 0
       By s = ((r : Refusal) → s .said ≡ Refused r → S) → ((n : ℕ) → s .said ≡ Sent n → unknownForm (headerOf f) (length f) ≡ false → S) → S
 
   -- each call
-  pub no-third-call : (c : Call) → (Serves a x c → ⊥) → LeavesOpen d a x c ⊎ (Taken d c × EndsOpen d a x c)
-  no-third-call (frame f room known) n = answer-sorted f room known
+  pub no-third-call : (c : Call) → (Serves d a x c → ⊥) → LeavesOpen d a x c ⊎ (Taken d c × EndsOpen d a x c)
+  no-third-call (frame f start W room known) n = answer-sorted f start W room known n
   no-third-call (next b y start W room) n = inl (call.next-other b y start W room n)
   no-third-call (event e) n = event-sorted e

@@ -1,6 +1,6 @@
 -- Every byte of every data frame of an exchange. Assumes nothing.
 use mathlib.Core.Path.{_≡_, refl, sym, ap, _∙_, subst}
-use mathlib.Core.Bool.{true, cond}
+use mathlib.Core.Bool.{true, false, cond}
 use mathlib.Core.List.{List, [], _∷_}
 use Prim.Native.Nat.{ℕ, zero, suc, _+_, _-_, _*_, _%_, _≤_, _<_, min}
 use native.Mathlib.Nat.{zero-mul, add-mul, one-mul}
@@ -16,21 +16,22 @@ use Rattle.state.specs.declared.Port.{Port}
 use Rattle.state.specs.declared.Unit.{Unit}
 use Rattle.state.specs.Standing.{Open}
 use Rattle.state.specs.Changes.{advanced}
-use Rattle.state.specs.Kinds.{kindRead}
+use Rattle.state.specs.Kinds.{kindBlocks, isWrite}
 use Rattle.state.specs.Tables.{lookupOf}
 use Rattle.formed.specs.Formed.{fullFrame, total, nextBytes, framesOf, wellFormed}
-use Rattle.formed.proofs.Advance.{no-frames, sent-counted, then-sent}
+use Rattle.formed.proofs.Advance.{sending, no-frames, sent-counted, then-sent}
 use Rattle.serve.specs.Made.{madeBytes}
 use Rattle.serve.specs.Next.{hasMore, exchangeOf, fullOf, Frame, stepOf, frameBytes, movedOn, nextOf}
 use Rattle.serve.specs.Whole.{payloadAt, dataOf}
 use Rattle.serve.proofs.Steps.{passed}
 use Rattle.serve.proofs.Keeping.{next-kept}
 use Rattle.serve.proofs.Frames.{runs, full-pos, total-small, more-left, source-is, payload-is, port-is}
+use Rattle.serve.proofs.Asking.{sends-reply}
 use Rattle.serve.proofs.Whole.{next-open, next-exchange, next-full}
 use Rattle.drive.specs.declared.Drive.{Drive}
 use Rattle.demands.specs.Between.{after, Left}
 use Rattle.demands.specs.Reading.{isData, Reads, carries, responds, between, Fresh, dataHeader, framed, dataFrame, dataFrames}
-use Rattle.demands.proofs.Decoding.{more-reply, data-frame}
+use Rattle.demands.proofs.Decoding.{data-frame}
 use Rattle.demands.proofs.Between.{leaves-open}
 use Rattle.demands.proofs.Stepping.{data-left, own-stays, Stepped, stepped}
 
@@ -91,7 +92,8 @@ module _ (u : Unit) (unit : List ℕ) (own a x i j full : ℕ) (r : Exchange) (e
     count : exchangeOf (d .port) i j .count ≡ number % 65536
     sent : hasMore (exchangeOf (d .port) i j) ≡ true → exchangeOf (d .port) i j .sent ≡ number * full
 
-  module _ (number : ℕ) (d : Drive) (on : Running number d) (start len k : ℕ) (step : stepOf (d .port) a x start (length (cut unit start len)) ≡ Frame i j k) (more : hasMore (exchangeOf (d .port) i j) ≡ true) where
+  module _ (number : ℕ) (d : Drive) (on : Running number d) (start len k : ℕ) (step : stepOf (d .port) a x start (length (cut unit start len)) ≡ Frame i j k) (more : hasMore (exchangeOf (d .port) i j) ≡ true)
+      (to : isWrite (exchangeOf (d .port) i j) ≡ false) where
     abbrev e : Exchange
     e = exchangeOf (d .port) i j
 
@@ -107,9 +109,9 @@ module _ (u : Unit) (unit : List ℕ) (own a x i j full : ℕ) (r : Exchange) (e
     -- what it carries
     payload-left : payloadAt (d .unit) (d .port) a x i j k W ≡ take full (drop (number * full) all)
     payload-left =
-        let given = payload-is (d .unit) (d .port) a x i j k W _ (more-reply (d .unit) (d .port) a x i j k W more) in
-        let here = source-is (d .unit) unit (fullOf (d .port) i) e start len k more (passed (d .port) a x start (length W) i j k step .place) in
-        let data-same : dataOf (d .unit) unit e ≡ dataOf u unit r = λ n. cond (eqb (on .kind n) kindRead) (drop (512 * on .start n) unit) (madeBytes (on .same n) (on .kind n)) in
+        let given = payload-is (d .unit) (d .port) a x i j k W _ (sends-reply (fullOf (d .port) i) e more to) in
+        let here = source-is (d .unit) unit (fullOf (d .port) i) e start len k more to (passed (d .port) a x start (length W) i j k step .place) in
+        let data-same : dataOf (d .unit) unit e ≡ dataOf u unit r = λ n. cond (eqb (on .kind n) kindBlocks) (drop (512 * on .start n) unit) (madeBytes (on .same n) (on .kind n)) in
         let same : take (nextBytes (fullOf (d .port) i) e) (drop (e .sent) (dataOf (d .unit) unit e)) ≡ take (min full (total r - number * full)) (drop (number * full) (dataOf u unit r))
         = λ n. take (min (on .size n) (total-same n - on .sent more n)) (drop (on .sent more n) (data-same n)) in
         given ∙ here ∙ same ∙ sym (take-left full (number * full) (total r) (dataOf u unit r))
@@ -122,7 +124,7 @@ module _ (u : Unit) (unit : List ℕ) (own a x i j full : ℕ) (r : Exchange) (e
 
     -- every byte of it
     frame-left : (f : List ℕ) → f ≡ frameBytes (d .unit) (d .port) a x i j k W → f ≡ dataFrame own a x full all number
-    frame-left f is = is ∙ data-frame (d .unit) (d .port) a x i j k W more ∙ (λ n. framed (dataHeader (on .from n) a x (last-left n) (on .count n) (on .sent more n)) (payload-left n))
+    frame-left f is = is ∙ data-frame (d .unit) (d .port) a x i j k W more to ∙ (λ n. framed (dataHeader (on .from n) a x (last-left n) (on .count n) (on .sent more n)) (payload-left n))
 
     -- and one more was sent
     abbrev then : Port
@@ -132,14 +134,14 @@ module _ (u : Unit) (unit : List ℕ) (own a x i j full : ℕ) (r : Exchange) (e
     moved = port-is (d .unit) (d .port) a x start W i j k step
 
     then-is : exchangeOf then i j ≡ advanced e (nextBytes (fullOf (d .port) i) e)
-    then-is = next-exchange (d .unit) (d .port) a x i j (on .stands) then more moved
+    then-is = next-exchange (d .unit) (d .port) a x i j (on .stands) then more moved to
 
     then-left : hasMore (exchangeOf then i j) ≡ true → exchangeOf then i j .sent ≡ (number + 1) * full
     then-left left =
         let u = d .unit in
         let p = d .port in
         let pos = full-pos u p a x i j (on .formed) (on .stands) in
-        let sent = then-sent (fullOf p i) e pos (runs u p a x i j (on .formed) (on .stands) .fits) (more-left (fullOf p i) e more) (total-small u p a x i j (on .formed) (on .stands)) in
+        let sent = then-sent (fullOf p i) e pos (sending (runs u p a x i j (on .formed) (on .stands)) to .fits) (more-left (fullOf p i) e more) (total-small u p a x i j (on .formed) (on .stands)) in
         let is = ap (λ (s : Exchange). s .sent) then-is ∙ sent in
         let all-same : total (exchangeOf then i j) ≡ total e = ap (λ (s : Exchange). total s) then-is in
         let short : exchangeOf then i j .sent < total e = subst (λ (t : ℕ). exchangeOf then i j .sent < t) all-same (more-left full (exchangeOf then i j) left) in
@@ -175,10 +177,10 @@ module _ (u : Unit) (unit : List ℕ) (own a x i j full : ℕ) (r : Exchange) (e
       let is-j : t .j ≡ j = cc in
       let step : stepOf (d .port) a x (t .start) (length W) ≡ Frame i j (t .k) = t .step ∙ (λ n. Frame (is-i n) (is-j n) (t .k)) in
       let frame : f ≡ frameBytes (d .unit) (d .port) a x i j (t .k) W = t .frame ∙ (λ n. frameBytes (d .unit) (d .port) a x (is-i n) (is-j n) (t .k) W) in
-      let more = data-left (d .unit) (d .port) a x i j (t .k) W (rw frame at shown) in
+      let left = data-left (d .unit) (d .port) a x i j (t .k) W (rw frame at shown) in
       record {
-        is = frame-left number d on (t .start) (t .len) (t .k) step more f frame;
-        then = subst (Running (number + 1)) (sym (t .drive)) (then-running number d on (t .start) (t .len) (t .k) step more);
+        is = frame-left number d on (t .start) (t .len) (t .k) step (left .0) (left .1) f frame;
+        then = subst (Running (number + 1)) (sym (t .drive)) (then-running number d on (t .start) (t .len) (t .k) step (left .0) (left .1));
       }
 
   -- a call between that leaves it open
@@ -210,14 +212,14 @@ module _ (u : Unit) (unit : List ℕ) (own a x i j full : ℕ) (r : Exchange) (e
 
 -- from an open exchange on, of which nothing was sent
 pub reads-each : (d e : Drive) (unit : List ℕ) (a x i j : ℕ) (frames : List (List ℕ)) (last : List ℕ) → wellFormed (d .unit) (d .port) ≡ true
-    → total (exchangeOf (d .port) i j) ≤ length (dataOf (d .unit) unit (exchangeOf (d .port) i j)) → Fresh d a x i j → Reads unit a x d frames last e
+    → total (exchangeOf (d .port) i j) ≤ length (dataOf (d .unit) unit (exchangeOf (d .port) i j)) → Fresh d a x i j → isWrite (exchangeOf (d .port) i j) ≡ false → Reads unit a x d frames last e
     → frames ≡ dataFrames (d .port .address) a x (fullOf (d .port) i) (take (total (exchangeOf (d .port) i j)) (dataOf (d .unit) unit (exchangeOf (d .port) i j))) (length frames) 0
-reads-each d e unit a x i j frames last w enough o reads =
+reads-each d e unit a x i j frames last w enough o to reads =
     let u = d .unit in
     let p = d .port in
     let r = exchangeOf p i j in
     let full = fullOf p i in
-    let known = runs u p a x i j w (o .stands) in
+    let known = sending (runs u p a x i j w (o .stands)) to in
     let none : framesOf (r .sent) full ≡ 0 = ap (λ (s : ℕ). framesOf s full) (o .fresh) ∙ no-frames full (full-pos u p a x i j w (o .stands)) in
     every-frame u unit (p .address) a x i j full r enough 0
     record {

@@ -9,7 +9,6 @@ use lib.Dec.{leb}
 use lib.ListN.{length, getD}
 use borrow.Author.Tests.{le-ltb, eq-eqb}
 use Rattle.tables.specs.declared.Found.the-variants.{At}
-use Rattle.tables.specs.Firsts.{firstOf, NoneOf}
 use Rattle.tables.proofs.Firsts.{none-then}
 use Rattle.refusal.specs.Refusal.{frameOrder}
 use Rattle.wire.specs.Bytes.{nameOf}
@@ -28,12 +27,13 @@ use Rattle.state.specs.Tables.{freeLogin}
 use Rattle.formed.specs.Formed.{setupRules}
 use Rattle.calls.specs.Turn.{Decided}
 use Rattle.link.specs.Link.{sizeOf, outcomeAfter, endsFor, outcomeOf, outcomeReply, plogiOf, linkOf}
-use Rattle.arrival.specs.Arrival.{badSize, badSource, knownPair, unknownForm, spared, formOf, appliesIn}
-use Rattle.arrival.proofs.Passes.{passes}
+use Rattle.arrival.specs.Arrival.{badSize, badSource, knownPair, badSequence, unknownForm, spared, formOf}
+use Rattle.arrival.proofs.Passes.{Passes}
 use Rattle.judging.specs.Judgement.{judged, judgementOf}
 use Rattle.drive.specs.declared.Drive.{Drive}
 use Rattle.drive.specs.Drive.{madeFrom, refused}
-use Rattle.drive.specs.Entry.{answered, frameIn}
+use Rattle.drive.specs.Entry.{applies, answered, frameIn}
+use Rattle.drive.proofs.Ways.{PassesIn, passes-in}
 use Rattle.drive.proofs.Made.{made-formed}
 use Rattle.drive.proofs.Keeping.{source-valid}
 use Rattle.demands.specs.Judges.{plogiHeader, plogiFrame, replyFor}
@@ -97,7 +97,8 @@ module _ (t : Setup) (rules : setupRules t ≡ true) (from ox : ℕ) (other : ba
       let a = leb 1 (t .capacity) in
       let b = leb (t .capacity) 4294967295 in
       let v = validAddress (t .address) in
-      small-address (t .address) (and-right (a && b) v (and-left (a && b && v) (setupPasses (paramsOf (t .accept) 0)) rules))
+      let w = setupPasses (paramsOf (t .accept) 0) in
+      small-address (t .address) (and-right (a && b) v (and-left (a && b && v) w (and-left (a && b && v && w) (leb (t .writable) 1) rules)))
 
   fits : Fits h
   fits =
@@ -108,11 +109,10 @@ module _ (t : Setup) (rules : setupRules t ≡ true) (from ox : ℕ) (other : ba
   header-is : headerOf f ≡ h
   header-is = read-write h s fits
 
-  -- no number applies to the frame, whatever the buffer of 2,136 bytes or more
-  frame-passes : (room : ℕ) → 2136 ≤ room → NoneOf (appliesIn (d .unit) (d .port) h f room) frameOrder
-  unfolding madeFrom badSize unknownForm knownPair spared
+  -- none of 1 to 7 applies to the frame, whatever the buffer of 2,136 bytes or more
+  frame-passes : (room : ℕ) → 2136 ≤ room → Passes (d .unit) (d .port) h f room
+  unfolding madeFrom badSize unknownForm knownPair badSequence spared
   frame-passes room enough =
-      passes (d .unit) (d .port) h f room
       record {
         long = le-ltb room 2136 enough;
         fine = made-formed t rules;
@@ -123,10 +123,12 @@ module _ (t : Setup) (rules : setupRules t ≡ true) (from ox : ℕ) (other : ba
         proven = rw code;
       }
 
-  answered-first : (room : ℕ) → 2136 ≤ room → firstOf (appliesIn (d .unit) (d .port) h f room) frameOrder (λ x. refused x d) (answered d h (linkOf (d .port) h f)) ≡ answered d h (linkOf (d .port) h f)
-  answered-first room enough = none-then (appliesIn (d .unit) (d .port) h f room) frameOrder (λ x. refused x d) _ (frame-passes room enough)
+  -- nor do 11 and 10, for it is no data frame
+  frame-in : (start len room : ℕ) → 2136 ≤ room → PassesIn d f start len room
+  frame-in start len room enough = record { arrived = rw header-is (frame-passes room enough); open-write = rw header-is; covers = rw header-is }
 
   -- the drive's answer to the record, sent as a PLOGI by any valid address other than its own, is the judgement's
-  pub judges-is : (room : ℕ) → 2136 ≤ room → frameIn d f room ≡ answered d h (record { reply = replyFor (judgementOf s); port = linkOf (d .port) h f .port })
+  pub judges-is : (start : ℕ) (W : List ℕ) (room : ℕ) → 2136 ≤ room → frameIn d f start W room ≡ answered d h (record { reply = replyFor (judgementOf s); port = linkOf (d .port) h f .port })
   unfolding frameIn formOf
-  judges-is room enough = rw (header-is, sym reply-is) (answered-first room enough)
+  judges-is start W room enough =
+      none-then (applies d f start (length W) room) frameOrder (λ x. refused x d) _ (passes-in d f start (length W) room (frame-in start (length W) room enough)) ∙ rw (header-is, sym reply-is)

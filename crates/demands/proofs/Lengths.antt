@@ -1,16 +1,19 @@
--- How long what is sent is: a multiple of 4, at most 140 bytes for a frame in, and from 24 to 2,072 for a next frame. Assumes nothing.
-use mathlib.Core.Path.{_≡_, refl}
+-- How long what is sent is: a multiple of 4, at most 140 bytes for a frame in, and from 24 to 2,072 for a next frame, or nothing while data are awaited. Assumes nothing.
+use mathlib.Core.Path.{_≡_, refl, sym, ap, _∙_}
 use mathlib.Core.Bool.{Bool, true, false, cond}
+use mathlib.Core.Logic.{_⊎_, inl, inr}
 use mathlib.Core.List.{List, [], _++_}
 use Prim.Native.Nat.{ℕ, _+_, _%_, _≤_, min}
 use native.Mathlib.Omega.{arith}
 use lib.ListN.{length, length-append, length-take}
+use borrow.Author.Tests.{lt-ltb}
 use Rattle.wire.specs.Bytes.{fillCount}
 use Rattle.frame.specs.declared.Header.{Header}
 use Rattle.frame.specs.Head.{headerOf, headerBytes}
 use Rattle.refusal.specs.declared.Said.the-variants.{Sent}
 use Rattle.state.specs.declared.Exchange.{Exchange}
 use Rattle.state.specs.declared.Own.{Own}
+use Rattle.state.specs.declared.Port.{Port}
 use Rattle.state.specs.Changes.{ownOf}
 use Rattle.reply.specs.declared.Accepted.{Accepted}
 use Rattle.reply.specs.declared.Accepted.the-variants as accepted
@@ -18,15 +21,20 @@ use Rattle.reply.specs.declared.Response.{Response}
 use Rattle.reply.specs.declared.Response.the-variants as response
 use Rattle.reply.specs.declared.Reply.{Reply}
 use Rattle.reply.specs.declared.Reply.the-variants as reply
-use Rattle.reply.specs.Payload.{shortBytes, loginBytes, addressBytes, pairBytes, unpairBytes, acceptedBytes, rejectBytes, logoutBytes, abortAcceptBytes, abortRejectBytes, statusBytes, codeBytes, senseBytes, responseBytes, payloadOf}
+use Rattle.reply.specs.Payload.{shortBytes, loginBytes, addressBytes, pairBytes, unpairBytes, acceptedBytes, rejectBytes, logoutBytes, abortAcceptBytes, abortRejectBytes, statusBytes, codeBytes, senseBytes, readyBytes, responseBytes, payloadOf}
 use Rattle.reply.specs.Reply.{headOf, filled, silent, bytesOf}
-use Rattle.serve.specs.Next.{hasMore, nextReply, askedBy, exchangeOf, fullOf, sourceOf, frameBytes}
+use Rattle.serve.specs.Next.{hasMore, nextReply, askedBy, exchangeOf, fullOf, sourceOf, frameBytes, Next}
+use Rattle.serve.proofs.Steps.{passed}
+use Rattle.serve.proofs.Frames.{more-left}
+use Rattle.serve.proofs.Asking.{ends-reply, sends-reply, asks-reply, awaits-reply}
+use Rattle.serve.proofs.Moving.{silent-next}
 use Rattle.drive.specs.declared.Drive.{Drive}
 use Rattle.drive.specs.declared.Answer.{Answer}
 use Rattle.drive.specs.Entry.{replyBytes, decidedIn, frameIn, nextFrame}
 use Rattle.drive.proofs.Ways.{frame-cases}
-use Rattle.demands.proofs.Decoding.{framed-long, few-bytes}
-use Rattle.demands.proofs.Calls.{gave}
+use Rattle.demands.specs.Reading.{Awaits}
+use Rattle.demands.proofs.Decoding.{framed-long, Kind, sends, asks, waits, ends, kind-of, no-bytes, few-bytes}
+use Rattle.demands.proofs.Calls.{Gave, gave, drive-is}
 
 -- the payload of each reply but data has at most 116 bytes, where the accept words have their 112
 accepted-few : (own : ℕ) (words : List ℕ) (a : Accepted) → length words ≡ 112 → length (acceptedBytes own words a) ≤ 116
@@ -44,7 +52,7 @@ response-few (response.Status s r) = omega arith
 response-few (response.Check s r) = omega arith
 
 payload-few : (o : Own) (h : Header) (r : Reply) → length (o .accept) ≡ 112 → length (payloadOf o h r []) ≤ 116
-unfolding rejectBytes logoutBytes abortAcceptBytes abortRejectBytes
+unfolding rejectBytes logoutBytes abortAcceptBytes abortRejectBytes readyBytes
 payload-few o h reply.Nothing e = omega arith
 payload-few o h (reply.Accept a) e = accepted-few (o .address) (o .accept) a e
 payload-few o h (reply.Reject r x) e = omega arith
@@ -53,6 +61,7 @@ payload-few o h reply.AbortAccept e = omega arith
 payload-few o h reply.AbortReject e = omega arith
 payload-few o h (reply.Respond x) e = response-few x
 payload-few o h (reply.Data d) e = let n = length-take {A = ℕ} (min (d .size) 2048) [] in omega arith
+payload-few o h (reply.Ready offset burst) e = omega arith
 
 -- every byte of a reply
 module _ (o : Own) (h : Header) (r : Reply) (source : List ℕ) where
@@ -82,42 +91,88 @@ module _ (o : Own) (h : Header) (r : Reply) (source : List ℕ) where
   unfolding bytesOf
   bytes-some loud = let n = whole-long in rw loud (omega arith)
 
-same-length : (m n : ℕ) → Sent m ≡ Sent n → m ≡ n
+pub same-length : (m n : ℕ) → Sent m ≡ Sent n → m ≡ n
 same-length m n e = cc
 
 -- a frame in
-pub frame-long : (d : Drive) (f l : List ℕ) (n : ℕ) → length (d .port .accept) ≡ 112 → frameIn d f (length l) .said ≡ Sent n → (n ≤ 140) × (n % 4 ≡ 0)
+pub frame-long : (d : Drive) (f : List ℕ) (start : ℕ) (W l : List ℕ) (n : ℕ) → length (d .port .accept) ≡ 112 → frameIn d f start W (length l) .said ≡ Sent n → (n ≤ 140) × (n % 4 ≡ 0)
 unfolding replyBytes ownOf
-frame-long d f l n words =
-    frame-cases d f (length l) (λ (a : Answer). a .said ≡ Sent n → (n ≤ 140) × (n % 4 ≡ 0)) (λ x _ e. let z : _≡_ {A = ℕ} 0 1 = cc in absurd (omega arith))
+frame-long d f start W l n words =
+    frame-cases d f start W (length l) (λ (a : Answer). a .said ≡ Sent n → (n ≤ 140) × (n % 4 ≡ 0)) (λ x _ e. let z : _≡_ {A = ℕ} 0 1 = cc in absurd (omega arith))
     (λ _ e.
     let o = ownOf (d .port) in
-    let r = decidedIn d f .reply in
+    let r = decidedIn d f start (length W) .reply in
     let is = same-length (length (bytesOf o (headerOf f) r [])) n e in
     let few = bytes-few o (headerOf f) r [] (payload-few o (headerOf f) r words) in
     let four = bytes-four o (headerOf f) r [] in
     (omega arith, omega arith))
 
--- a next frame: data or FCP_RSP, and so never nothing
-either-loud : (b : Bool) (r s : Reply) → silent r ≡ false → silent s ≡ false → silent (cond b r s) ≡ false
-either-loud true r s p q = p
-either-loud false r s p q = q
+-- a next frame, of which n bytes were sent
+module _ (d : Drive) (a x start : ℕ) (W l : List ℕ) (n : ℕ) (g : Gave d a x start W l n) where
+  abbrev p : Port
+  p = d .port
 
-next-loud : (full : ℕ) (e : Exchange) → silent (nextReply full e) ≡ false
-unfolding nextReply
-next-loud full e = either-loud (hasMore e) _ _ refl refl
+  abbrev full : ℕ
+  full = fullOf p (g .i)
 
-pub next-long : (d : Drive) (a x start : ℕ) (W l : List ℕ) (n : ℕ) → nextFrame d a x start W (length l) .said ≡ Sent n → (24 ≤ n) × (n ≤ 2072) × (n % 4 ≡ 0)
-unfolding frameBytes
-next-long d a x start W l n e =
-    let g = gave d a x start W l n e in
-    let p = d .port in
-    let o = ownOf p in
-    let h = askedBy (p .address) a x in
-    let r = nextReply (fullOf p (g .i)) (exchangeOf p (g .i) (g .j)) in
-    let source = sourceOf (d .unit) (exchangeOf p (g .i) (g .j)) (g .k) W in
-    let is = g .is in
-    let some = bytes-some o h r source (next-loud (fullOf p (g .i)) (exchangeOf p (g .i) (g .j))) in
-    let few = few-bytes (d .unit) p a x (g .i) (g .j) (g .k) W in
-    let four = bytes-four o h r source in
-    (omega arith, omega arith, omega arith)
+  abbrev e : Exchange
+  e = exchangeOf p (g .i) (g .j)
+
+  -- where it is one
+  loud-long : silent (nextReply full e) ≡ false → (24 ≤ n) × (n ≤ 2072) × (n % 4 ≡ 0)
+  unfolding frameBytes
+  loud-long loud =
+      let o = ownOf p in
+      let h = askedBy (p .address) a x in
+      let r = nextReply full e in
+      let source = sourceOf (d .unit) e (g .k) W in
+      let is = g .is in
+      let some = bytes-some o h r source loud in
+      let few = few-bytes (d .unit) p a x (g .i) (g .j) (g .k) W in
+      let four = bytes-four o h r source in
+      (omega arith, omega arith, omega arith)
+
+  -- it is none only while data are awaited
+  kind-long : Kind e → ((n ≡ 0) × Awaits d a x) ⊎ ((24 ≤ n) × (n ≤ 2072) × (n % 4 ≡ 0))
+  kind-long (sends more to) = inr (loud-long (ap (λ (r : Reply). silent r) (sends-reply full e more to)))
+  kind-long (asks more from w) = inr (loud-long (ap (λ (r : Reply). silent r) (asks-reply full e more from w)))
+  kind-long (waits more from w) =
+      inl (
+        sym (g .is) ∙ ap length (no-bytes (d .unit) p a x (g .i) (g .j) (g .k) W (awaits-reply full e more from w)),
+        record { i = g .i; j = g .j; stands = passed p a x start (length W) (g .i) (g .j) (g .k) (g .step) .stands; write = from; awaited = w; short = more-left full e more },
+      )
+  kind-long (ends more) = inr (loud-long (ap (λ (r : Reply). silent r) (ends-reply full e more)))
+
+  -- and while they are, nothing of the drive changes
+  awaits-none : Awaits d a x → (n ≡ 0) × (nextFrame d a x start W (length l) .drive ≡ d)
+  unfolding hasMore
+  awaits-none t =
+      let s = passed p a x start (length W) (g .i) (g .j) (g .k) (g .step) .stands in
+      let o = t .stands in
+      let is-i : t .i ≡ g .i = cc in
+      let is-j : t .j ≡ g .j = cc in
+      let there = exchangeOf p (t .i) (t .j) in
+      let none = awaits-reply (fullOf p (t .i)) there (lt-ltb (there .sent) _ (t .short)) (t .write) (t .awaited) in
+      let silence : nextReply full e ≡ reply.Nothing = cc in (
+        sym (g .is) ∙ ap length (no-bytes (d .unit) p a x (g .i) (g .j) (g .k) W silence),
+        drive-is d a x start W l (g .i) (g .j) (g .k) (g .room) (g .formed) (g .step)
+            ∙ ap (λ (q : Next). record { unit = d .unit; port = q .port }) (silent-next (d .unit) p a x start W (g .i) (g .j) (g .k) (g .step) (ap (λ (r : Reply). silent r) silence)),
+      )
+
+module _ (d : Drive) (a x start : ℕ) (W l : List ℕ) (n : ℕ) (said : nextFrame d a x start W (length l) .said ≡ Sent n) where
+  abbrev given : Gave d a x start W l n
+  given = gave d a x start W l n said
+
+  pub next-long : ((n ≡ 0) × Awaits d a x) ⊎ ((24 ≤ n) × (n ≤ 2072) × (n % 4 ≡ 0))
+  next-long = kind-long d a x start W l n given (kind-of (exchangeOf (d .port) (given .i) (given .j)))
+
+  pub next-silent : Awaits d a x → (n ≡ 0) × (nextFrame d a x start W (length l) .drive ≡ d)
+  next-silent = awaits-none d a x start W l n given
+
+  -- whichever it is
+  pub next-most : n ≤ 2072
+  next-most =
+      let g = given in
+      let is = g .is in
+      let few = few-bytes (d .unit) (d .port) a x (g .i) (g .j) (g .k) W in
+      omega arith

@@ -33,15 +33,15 @@ use Rattle.reply.specs.Reply.{answerHead, filled, bytesOf}
 use Rattle.calls.specs.Turn.{Decided, decidedAs}
 use Rattle.link.specs.Link.{newLogin, linkOf}
 use Rattle.link.specs.Login.{namedIn, hostGone, leftBy, Accepts, Rejects, wrong-size, test-fails, no-place}
-use Rattle.link.specs.Record.{recordOf}
 use Rattle.link.proofs.Exactly.{accepts, rejects, no-third}
 use Rattle.link.proofs.Room.{full-unnamed}
 use Rattle.link.proofs.Moved as link
 use Rattle.arrival.specs.Arrival.{formOf}
-use Rattle.arrival.proofs.Passes.{Passes, passed}
+use Rattle.arrival.proofs.Passes.{Passes}
 use Rattle.drive.specs.declared.Drive.{Drive}
 use Rattle.drive.specs.declared.Answer.{Answer}
 use Rattle.drive.specs.Entry.{answered, decidedIn, replyBytes, frameIn, frameInBuffer}
+use Rattle.drive.proofs.Ways.{passed-in}
 use Rattle.demands.specs.Login.{LoginIn, Begins, loginHeader, accBytes, rjtBytes, PortLogin, HostMoved}
 use Rattle.demands.proofs.Refusals.{frame-answers}
 
@@ -55,7 +55,7 @@ laid bs l n e h =
     let is = onto-fits bs l (omega arith) in
     rw is (take-append-seam bs (drop (length bs) l), drop-at bs (drop (length bs) l) n e ∙ ap (λ (m : ℕ). drop m l) e)
 
-module _ (d : Drive) (f l : List ℕ) (p : LoginIn d f l) (words : length (d .port .accept) ≡ 112) where
+module _ (d : Drive) (f : List ℕ) (start : ℕ) (W l : List ℕ) (p : LoginIn d f start W l) (words : length (d .port .accept) ≡ 112) where
   abbrev port : Port
   port = d .port
 
@@ -63,21 +63,21 @@ module _ (d : Drive) (f l : List ℕ) (p : LoginIn d f l) (words : length (d .po
   head = headerOf f
 
   abbrev after : List ℕ
-  after = frameInBuffer d f l
+  after = frameInBuffer d f start W l
 
   -- these n bytes are sent, and this port is left
   abbrev Answers : List ℕ → ℕ → Port → Type 0
-  Answers bs n q = Begins bs after × (drop n after ≡ drop n l) × (frameIn d f (length l) ≡ record { said = Sent n; drive = record { unit = d .unit; port = q } })
+  Answers bs n q = Begins bs after × (drop n after ≡ drop n l) × (frameIn d f start W (length l) ≡ record { said = Sent n; drive = record { unit = d .unit; port = q } })
 
   passes : Passes (d .unit) port head f (length l)
-  passes = passed (d .unit) port head f (length l) (p .passed)
+  passes = passed-in d f start (length W) (length l) (p .passed) .arrived
 
   -- the answer and the buffer, where the link services decide so and these are the bytes of the reply
   login-answers : (bs : List ℕ) (n : ℕ) (r : Decided) → n ≤ 140 → length bs ≡ n → replyBytes d head r ≡ bs → linkOf port head f ≡ r → Answers bs n (r .port)
   unfolding formOf
   login-answers bs n r few long is e =
-      let t = frame-answers d f l (p .passed) in
-      let linked : decidedIn d f ≡ linkOf port head f = rw (p .link) in
+      let t = frame-answers d f start W l (p .passed) in
+      let linked : decidedIn d f start (length W) ≡ linkOf port head f = rw (p .link) in
       let decided = linked ∙ e in
       let stands = laid bs l n long (let b = ltb-false (length l) 2136 (passes .long) in omega arith) in
       let buffer : after ≡ onto bs l = t .1 ∙ ap (λ (s : Decided). onto (replyBytes d head s) l) decided ∙ ap (λ (b : List ℕ). onto b l) is in
@@ -143,7 +143,7 @@ module _ (d : Drive) (f l : List ℕ) (p : LoginIn d f l) (words : length (d .po
           let there = rjt-codes s y (login-rejects s y a .0) in
           subst (λ (m : ℕ). Rejects port head f r m) (sym (there .2) ∙ here .2) (subst (λ (m : ℕ). Rejects port head f m y) (sym (there .1) ∙ here .1) a)
 
-  pub login-is : PortLogin d f l
+  pub login-is : PortLogin d f start W l
   login-is =
       record {
         accepts = login-accepts;
@@ -180,7 +180,7 @@ module _ (d : Drive) (f l : List ℕ) (p : LoginIn d f l) (words : length (d .po
   distinct : pairs apartLogin (port .logins) ≡ true
   distinct = formed-parts {u = d .unit} {p = port} (passes .fine) .distinct
 
-  pub moved-is : (b : ℕ) → (b ≡ head .«s_id» → ⊥) → HostMoved d f l b
+  pub moved-is : (b : ℕ) → (b ≡ head .«s_id» → ⊥) → HostMoved d f start W l b
   moved-is b n =
       record {
         moved-in = λ a. rw (port-accepted a) (link.moved-in port distinct head f a);
@@ -191,5 +191,5 @@ module _ (d : Drive) (f l : List ℕ) (p : LoginIn d f l) (words : length (d .po
         rejected-alone = λ r x j. rw (ap (λ (y : Answer). y .drive .port) (login-rejects r x j .2)) (link.rejected-alone port distinct head f b n);
       }
     where
-      port-accepted : (a : Accepts port head f) → frameIn d f (length l) .drive .port ≡ withLogin (hostGone port head f) (a .place) (newLogin (head .«s_id») (paramsOf f 28))
+      port-accepted : (a : Accepts port head f) → frameIn d f start W (length l) .drive .port ≡ withLogin (hostGone port head f) (a .place) (newLogin (head .«s_id») (paramsOf f 28))
       port-accepted a = ap (λ (x : Answer). x .drive .port) (login-accepts a .2)

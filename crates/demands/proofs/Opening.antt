@@ -20,7 +20,7 @@ use Rattle.state.specs.declared.Login.{Login}
 use Rattle.state.specs.declared.Port.{Port}
 use Rattle.state.proofs.Places.{found-has, stored-at}
 use Rattle.state.specs.declared.Unit.{Unit}
-use Rattle.state.specs.Kinds.{kindRead, kindInquiry, kindInquiryOther, kindSenseNone, kindSenseReset, kindSenseCleared, kindSenseOther}
+use Rattle.state.specs.Kinds.{kindBlocks, kindInquiry, kindInquiryOther, kindSenseNone, kindSenseReset, kindSenseCleared, kindSenseOther, isWrite}
 use Rattle.state.specs.Standing.{Open}
 use Rattle.state.specs.Changes.{emptyExchange, emptyLogin, isClosed, hasAddress, ownOf, loginAt, exchangeAt, withLogin, withAttention, withExchange}
 use Rattle.state.specs.Tables.{hasId, findLogin, findExchange, freeExchange, loginIn, loginOf, lookupOf}
@@ -40,14 +40,15 @@ use Rattle.command.proofs.Moves.{operationOf}
 use Rattle.command.proofs.Silent.{wishOf, OpensAt, command-silent}
 use Rattle.refusal.specs.declared.Said.the-variants.{Sent}
 use Rattle.arrival.specs.Arrival.{spared, unprovenLogin, formOf}
-use Rattle.arrival.proofs.Passes.{passed}
+use Rattle.arrival.proofs.Passes.{Passes}
 use Rattle.drive.specs.declared.Drive.{Drive}
 use Rattle.drive.specs.declared.Answer.{Answer}
 use Rattle.drive.specs.Entry.{answered, decidedIn, replyBytes, frameIn}
 use Rattle.drive.proofs.Keeping.{frame-kept}
+use Rattle.drive.proofs.Ways.{passed-in}
 use Rattle.serve.specs.Made.{madeBytes}
 use Rattle.serve.specs.Next.{exchangeOf, fullOf}
-use Rattle.demands.specs.Reading.{Reads, CommandIn, readOf, Opens, read, inquiry, capacity, sense, Opened, Delivered, readFrom, Frees, Comes}
+use Rattle.demands.specs.Reading.{Reads, CommandIn, readOf, Opens, read, write, inquiry, capacity, sense, Opened, Delivered, readFrom, Frees, Comes}
 use Rattle.demands.proofs.Decoding.{framed-long}
 use Rattle.demands.proofs.Refusals.{frame-answers}
 use Rattle.demands.proofs.Reading.{reads-read, reads-made, reads-come}
@@ -68,6 +69,7 @@ none-silent d h r e = by (silent (r .reply)) refl (cc)
 wish-is : {code : ℕ} {wish : List ℕ → Login → Exchange} → Opens code wish → (f : List ℕ) (m : Login) → getD f 36 0 ≡ code → wishOf m (headerOf f .«ox_id») (cmndOf f) ≡ wish f m
 unfolding cmndOf decodedOf range10 headerOf
 wish-is read f m c = let is : operationOf (cmndOf f) ≡ op.Read record { start = num 4 f 38; blocks = num 2 f 43 } = rw c in rw is
+wish-is write f m c = let is : operationOf (cmndOf f) ≡ op.Write record { start = num 4 f 38; blocks = num 2 f 43 } = rw c in rw is
 wish-is inquiry f m c = let is : operationOf (cmndOf f) ≡ op.Inquiry (getD f 40 0) = rw c in rw is
 wish-is capacity f m c = let is : operationOf (cmndOf f) ≡ op.ReadCapacity = rw c in rw is
 wish-is sense f m c = let is : operationOf (cmndOf f) ≡ op.RequestSense (getD f 40 0) = rw c in rw is
@@ -91,23 +93,33 @@ module _ (P : ℕ → Type 0) where
 
 wish-anew : {code : ℕ} {wish : List ℕ → Login → Exchange} → Opens code wish → (f : List ℕ) (m : Login) → Anew f (wish f m)
 wish-anew read f m = record { open-is = refl; id = refl; dl = refl; unsent = refl }
+wish-anew write f m = record { open-is = refl; id = refl; dl = refl; unsent = refl }
 wish-anew inquiry f m = record { open-is = inquiry-kinds (λ (k : ℕ). eqb k 0 ≡ false) refl refl (num 8 f 24); id = refl; dl = refl; unsent = refl }
 wish-anew capacity f m = record { open-is = refl; id = refl; dl = refl; unsent = refl }
 wish-anew sense f m = record { open-is = sense-kinds (λ (k : ℕ). eqb k 0 ≡ false) refl refl refl refl (num 8 f 24) (m .attention); id = refl; dl = refl; unsent = refl }
 
--- and no made data are a READ's
-wish-made : {code : ℕ} {wish : List ℕ → Login → Exchange} → Opens code wish → (code ≡ 0x28 → ⊥) → (f : List ℕ) (m : Login) → wish f m .kind ≡ kindRead → ⊥
-wish-made read n f m = absurd (n refl)
-wish-made inquiry n f m = inquiry-kinds (λ (k : ℕ). k ≡ kindRead → ⊥) (λ e. omega arith) (λ e. omega arith) (num 8 f 24)
-wish-made capacity n f m = λ e. omega arith
-wish-made sense n f m = sense-kinds (λ (k : ℕ). k ≡ kindRead → ⊥) (λ e. omega arith) (λ e. omega arith) (λ e. omega arith) (λ e. omega arith) (num 8 f 24) (m .attention)
+-- and no made data are a READ's or a WRITE's
+wish-made : {code : ℕ} {wish : List ℕ → Login → Exchange} → Opens code wish → (code ≡ 0x28 → ⊥) → (code ≡ 0x2a → ⊥) → (f : List ℕ) (m : Login) → wish f m .kind ≡ kindBlocks → ⊥
+wish-made read n k f m = absurd (n refl)
+wish-made write n k f m = absurd (k refl)
+wish-made inquiry n k f m = inquiry-kinds (λ (k : ℕ). k ≡ kindBlocks → ⊥) (λ e. omega arith) (λ e. omega arith) (num 8 f 24)
+wish-made capacity n k f m = λ e. omega arith
+wish-made sense n k f m = sense-kinds (λ (k : ℕ). k ≡ kindBlocks → ⊥) (λ e. omega arith) (λ e. omega arith) (λ e. omega arith) (λ e. omega arith) (num 8 f 24) (m .attention)
+
+-- only a WRITE's data come from the host
+wish-sends : {code : ℕ} {wish : List ℕ → Login → Exchange} → Opens code wish → (code ≡ 0x2a → ⊥) → (f : List ℕ) (m : Login) → isWrite (wish f m) ≡ false
+wish-sends read n f m = refl
+wish-sends write n f m = absurd (n refl)
+wish-sends inquiry n f m = refl
+wish-sends capacity n f m = refl
+wish-sends sense n f m = refl
 
 -- what is told leaves all of a login but its attention
 told-same : (m : Login) (kind : ℕ) → (P : Login → Type 0) → P m → P (withAttention m 0) → P (toldOf m kind)
 unfolding toldOf
 told-same m kind P a b = on-cond P (reports kind) b a
 
-module _ {code : ℕ} {wish : List ℕ → Login → Exchange} (opens : Opens code wish) (d : Drive) (f l : List ℕ) (known : AllBytes f) (r : CommandIn code d f l) where
+module _ {code : ℕ} {wish : List ℕ → Login → Exchange} (opens : Opens code wish) (d : Drive) (f : List ℕ) (start : ℕ) (W l : List ℕ) (known : AllBytes f) (r : CommandIn code d f start W l) where
   abbrev head : Header
   head = headerOf f
 
@@ -115,12 +127,15 @@ module _ {code : ℕ} {wish : List ℕ → Login → Exchange} (opens : Opens co
   decided = commandOf (d .unit) (d .port) head f
 
   abbrev then : Drive
-  then = frameIn d f (length l) .drive
+  then = frameIn d f start W (length l) .drive
+
+  passes : Passes (d .unit) (d .port) head f (length l)
+  passes = passed-in d f start (length W) (length l) (r .passed) .arrived
 
   -- the answer is the command's
-  command-answered : frameIn d f (length l) ≡ answered d head decided
+  command-answered : frameIn d f start W (length l) ≡ answered d head decided
   unfolding formOf
-  command-answered = let is : decidedIn d f ≡ decided = rw (r .command) in frame-answers d f l (r .passed) .0 ∙ ap (answered d head) is
+  command-answered = let is : decidedIn d f start (length W) ≡ decided = rw (r .command) in frame-answers d f start W l (r .passed) .0 ∙ ap (answered d head) is
 
   opens-at : OpensAt (d .port) head (cmndOf f) (decided .port)
   opens-at = command-silent (d .unit) (d .port) head f (none-silent d head decided (sym (ap (λ (a : Answer). a .said) command-answered) ∙ r .silent))
@@ -195,7 +210,7 @@ module _ {code : ℕ} {wish : List ℕ → Login → Exchange} (opens : Opens co
   full-later = ap (λ (m : Login). fullFrame (m .size)) login-later ∙ told-same its (opened .kind) (λ (m : Login). fullFrame (m .size) ≡ fullFrame (its .size)) refl refl
 
   formed-later : wellFormed (then .unit) (then .port) ≡ true
-  formed-later = frame-kept d f (length l) known (passed (d .unit) (d .port) head f (length l) (r .passed) .fine)
+  formed-later = frame-kept d f start W (length l) known (passes .fine)
 
   stands-later : lookupOf (then .port) (head .«s_id») (head .«ox_id») ≡ Open seat place
   stands-later =
@@ -250,7 +265,7 @@ module _ {code : ℕ} {wish : List ℕ → Login → Exchange} (opens : Opens co
   login-proven : its .proven ≡ 1
   unfolding spared unprovenLogin
   login-proven =
-      let fails : not (eqb (its .proven) 1) ≡ false = rw (r .command, opens-at .seat) at (passed (d .unit) (d .port) head f (length l) (r .passed) .proven) in
+      let fails : not (eqb (its .proven) 1) ≡ false = rw (r .command, opens-at .seat) at (passes .proven) in
       eqb-true (its .proven) 1 (not-false (eqb (its .proven) 1) fails)
 
   proven-later : loginAt (then .port) seat .proven ≡ 1
@@ -260,38 +275,39 @@ module _ {code : ℕ} {wish : List ℕ → Login → Exchange} (opens : Opens co
       ∙ told-same its (opened .kind) (λ (m : Login). m .proven ≡ its .proven) refl refl ∙ login-proven
 
   -- and such frames there are
-  pub comes-in : (unit : List ℕ) → length unit ≡ 512 * d .unit .capacity → Comes unit (head .«s_id») (head .«ox_id») then
-  comes-in unit long = reads-come then unit (head .«s_id») (head .«ox_id») seat place formed-later (unit-long unit long) stands-later proven-later
+  pub comes-in : (code ≡ 0x2a → ⊥) → (unit : List ℕ) → length unit ≡ 512 * d .unit .capacity → Comes unit (head .«s_id») (head .«ox_id») then
+  comes-in n unit long =
+      reads-come then unit (head .«s_id») (head .«ox_id») seat place formed-later (unit-long unit long) stands-later proven-later (ap (λ (e : Exchange). isWrite e) is-later ∙ wish-sends opens n f its)
 
 -- the frames that follow carry what the frame asked for: a READ's the unit's bytes
-module _ (d : Drive) (f l : List ℕ) (known : AllBytes f) (r : CommandIn 0x28 d f l) (e : Drive) (unit : List ℕ) (frames : List (List ℕ)) (last : List ℕ) where
-  pub read-in : length unit ≡ 512 * d .unit .capacity → (reads : Reads unit (headerOf f .«s_id») (headerOf f .«ox_id») (frameIn d f (length l) .drive) frames last e)
-      → let o = opens-command read d f l known r in
+module _ (d : Drive) (f : List ℕ) (start : ℕ) (W l : List ℕ) (known : AllBytes f) (r : CommandIn 0x28 d f start W l) (e : Drive) (unit : List ℕ) (frames : List (List ℕ)) (last : List ℕ) where
+  pub read-in : length unit ≡ 512 * d .unit .capacity → (reads : Reads unit (headerOf f .«s_id») (headerOf f .«ox_id») (frameIn d f start W (length l) .drive) frames last e)
+      → let o = opens-command read d f start W l known r in
       Delivered (readFrom unit (readOf f)) (d .port .address) (headerOf f .«s_id») (fullOf (d .port) (o .i)) (readOf f) frames last × Frees (o .i) (o .j) reads
   unfolding opens-command
   read-in long reads =
-      let o = opens-command read d f l known r in
-      let then = frameIn d f (length l) .drive in
+      let o = opens-command read d f start W l known r in
+      let then = frameIn d f start W (length l) .drive in
       let is = o .is in
-      let t = reads-read then e unit (headerOf f .«s_id») (headerOf f .«ox_id») (o .i) (o .j) frames last (formed-later read d f l known r) (unit-long read d f l known r unit long) (o .fresh) (ap (λ (s : Exchange). s .kind) is) reads in
+      let t = reads-read then e unit (headerOf f .«s_id») (headerOf f .«ox_id») (o .i) (o .j) frames last (formed-later read d f start W l known r) (unit-long read d f start W l known r unit long) (o .fresh) (ap (λ (s : Exchange). s .kind) is) (ap (λ (s : Exchange). isWrite s) is) reads in
       let from : readFrom unit (exchangeOf (then .port) (o .i) (o .j)) ≡ readFrom unit (readOf f) = ap (readFrom unit) is in
-      (delivered-later read d f l known r (readFrom unit (readOf f)) frames last (rw from at (t .0)), t .1)
+      (delivered-later read d f start W l known r (readFrom unit (readOf f)) frames last (rw from at (t .0)), t .1)
 
 -- and of the others the made data
-module _ {code : ℕ} {wish : List ℕ → Login → Exchange} (opens : Opens code wish) (made : code ≡ 0x28 → ⊥) (d : Drive) (f l : List ℕ) (known : AllBytes f) (r : CommandIn code d f l) (e : Drive) (unit : List ℕ)
+module _ {code : ℕ} {wish : List ℕ → Login → Exchange} (opens : Opens code wish) (made : code ≡ 0x28 → ⊥) (unwritten : code ≡ 0x2a → ⊥) (d : Drive) (f : List ℕ) (start : ℕ) (W l : List ℕ) (known : AllBytes f) (r : CommandIn code d f start W l) (e : Drive) (unit : List ℕ)
     (frames : List (List ℕ)) (last : List ℕ) where
-  pub made-in : length (d .unit .identity) ≡ 28 → (reads : Reads unit (headerOf f .«s_id») (headerOf f .«ox_id») (frameIn d f (length l) .drive) frames last e)
-      → let o = opens-command opens d f l known r in
+  pub made-in : length (d .unit .identity) ≡ 28 → (reads : Reads unit (headerOf f .«s_id») (headerOf f .«ox_id») (frameIn d f start W (length l) .drive) frames last e)
+      → let o = opens-command opens d f start W l known r in
       let x = wish f (loginAt (d .port) (o .i)) in
       Delivered (madeBytes (d .unit) (x .kind)) (d .port .address) (headerOf f .«s_id») (fullOf (d .port) (o .i)) x frames last × Frees (o .i) (o .j) reads
   unfolding opens-command
   made-in words reads =
-      let o = opens-command opens d f l known r in
-      let then = frameIn d f (length l) .drive in
+      let o = opens-command opens d f start W l known r in
+      let then = frameIn d f start W (length l) .drive in
       let x = wish f (loginAt (d .port) (o .i)) in
       let is = o .is in
-      let same = unit-later opens d f l known r in
-      let other : exchangeOf (then .port) (o .i) (o .j) .kind ≡ kindRead → ⊥ = λ k. wish-made opens made f (loginAt (d .port) (o .i)) (sym (ap (λ (s : Exchange). s .kind) is) ∙ k) in
-      let t = reads-made then e unit (headerOf f .«s_id») (headerOf f .«ox_id») (o .i) (o .j) frames last (formed-later opens d f l known r) (ap (λ (u : Unit). length (u .identity)) same ∙ words) (o .fresh) other reads in
+      let same = unit-later opens d f start W l known r in
+      let other : exchangeOf (then .port) (o .i) (o .j) .kind ≡ kindBlocks → ⊥ = λ k. wish-made opens made unwritten f (loginAt (d .port) (o .i)) (sym (ap (λ (s : Exchange). s .kind) is) ∙ k) in
+      let t = reads-made then e unit (headerOf f .«s_id») (headerOf f .«ox_id») (o .i) (o .j) frames last (formed-later opens d f start W l known r) (ap (λ (u : Unit). length (u .identity)) same ∙ words) (o .fresh) other reads in
       let from : madeBytes (then .unit) (exchangeOf (then .port) (o .i) (o .j) .kind) ≡ madeBytes (d .unit) (x .kind) = λ n. madeBytes (same n) (is n .kind) in
-      (delivered-later opens d f l known r (madeBytes (d .unit) (x .kind)) frames last (rw from at (t .0)), t .1)
+      (delivered-later opens d f start W l known r (madeBytes (d .unit) (x .kind)) frames last (rw from at (t .0)), t .1)

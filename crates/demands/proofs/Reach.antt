@@ -8,6 +8,6 @@ use Rattle.demands.specs.Driven.{Driven, made, frame, next, event}
 
 pub driven-fine : {d : Drive} → Driven d → fine d ≡ true
 driven-fine (made s e) = made-formed s e
-driven-fine (frame {d} f room known r) = frame-kept d f room known (driven-fine r)
+driven-fine (frame {d} f start W room known r) = frame-kept d f start W room known (driven-fine r)
 driven-fine (next {d} a x start W room r) = next-frame-kept d a x start W room (driven-fine r)
 driven-fine (event {d} e r) = event-fine d e (driven-fine r)

@@ -1,10 +1,10 @@
 -- What a whole READ delivers, read from the bytes that stand in the lent buffers, as one reads them who knows document 01 and not the code. Assumes nothing.
 use mathlib.Core.Path.{_≡_, refl, sym, ap, _∙_, subst}
-use mathlib.Core.Bool.{Bool, true, false, cond, not}
+use mathlib.Core.Bool.{Bool, true, false, not}
 use mathlib.Core.List.{List, [], _∷_, map}
 use Prim.Native.Nat.{ℕ, _-_, _*_, _≤_, _<_}
 use native.Mathlib.Omega.{arith}
-use lib.Dec.{eqb, ltb}
+use lib.Dec.{eqb}
 use lib.ListN.{length, take, replicate, length-replicate, length-map}
 use borrow.Author.Tests.{eqb-true, eq-eqb, ne-eqb}
 use Rattle.tables.proofs.Bools.{and-right, apart}
@@ -15,14 +15,13 @@ use Rattle.state.specs.declared.Port.{Port}
 use Rattle.state.specs.declared.Unit.{Unit}
 use Rattle.state.specs.Standing.{Open}
 use Rattle.state.specs.Changes.{isClosed, loginAt}
-use Rattle.state.specs.Kinds.{kindRead}
+use Rattle.state.specs.Kinds.{kindBlocks, isWrite}
 use Rattle.state.specs.Tables.{hasId, lookupOf}
 use Rattle.state.proofs.Places.{open-has}
 use Rattle.formed.specs.Formed.{total, wellFormed}
 use Rattle.formed.proofs.Advance.{is-read, wanted-small}
 use Rattle.residual.specs.Residual.{residualOf}
 use Rattle.reply.specs.declared.Residual.{Residual}
-use Rattle.reply.specs.declared.Residual.the-variants.{Exact, Over, Under}
 use Rattle.reply.specs.declared.Response.{Response}
 use Rattle.reply.specs.declared.Response.the-variants.{Status}
 use Rattle.reply.specs.Payload.{residualFlag, residualSize}
@@ -31,27 +30,30 @@ use Rattle.cover.specs.Cover.{cut}
 use Rattle.serve.specs.Made.{madeBytes}
 use Rattle.serve.specs.Whole.{Piece, payloadAt, Run, dataOf}
 use Rattle.serve.specs.Whole as whole
-use Rattle.serve.proofs.Frames.{runs, is-data, is-response}
+use Rattle.serve.proofs.Frames.{made-sends, runs, is-data, is-response}
+use Rattle.serve.proofs.Asking.{ends-reply, sends-reply}
 use Rattle.serve.proofs.Keeping.{next-kept}
 use Rattle.serve.proofs.Whole.{run-whole, read-enough, made-enough}
 use Rattle.serve.proofs.Comes.{run-comes}
 use Rattle.arrival.specs.Arrival.{shortBuffer}
 use Rattle.drive.specs.declared.Drive.{Drive}
-use Rattle.demands.proofs.Decoding.{more-reply, last-reply, response-frame, data-offset, data-count, data-payload, frame-addressed}
+use Rattle.demands.proofs.Asks.{residual-small}
+use Rattle.demands.proofs.Decoding.{response-frame, data-offset, data-count, data-payload, frame-addressed}
 use Rattle.demands.proofs.Calls.{says, front-is, drive-is}
-use Rattle.demands.proofs.Stepping.{shows-data, shows-response, data-left, nothing-left, shows-either, own-stays, Stepped, stepped, stepped-on}
+use Rattle.demands.proofs.Stepping.{data-shown, response-shown, data-left, nothing-left, shows-one, own-stays, Stepped, stepped, stepped-on}
 use Rattle.demands.proofs.Between.{leaves-open}
 use Rattle.demands.specs.Between.{Left}
 use Rattle.demands.proofs.Every.{reads-each}
 use Rattle.demands.specs.Reading.{isData, isResponse, pieceIn, flagsIn, statusIn, residIn, restIn, Sends, Reads, carries, responds, between, unbroken, roomsOf, Fresh, responseHeader, framed, dataFrames, goodPayload, Delivered, readFrom, Frees, Comes, Shown}
 
--- no call is left out of a run: each frame that is sent shows itself as one of the two, and for whom it is
-pub reads-shown : (unit : List ℕ) (a x : ℕ) (d : Drive) (f : List ℕ) (e : Drive) → x < 65536 → Sends unit a x d f e → Shown (d .port .address) a x f
-reads-shown unit a x d f e small s =
+-- no call is left out of a run: each frame that is sent shows itself as one of the three, and for whom it is
+pub reads-shown : (unit : List ℕ) (a x : ℕ) (d : Drive) (f : List ℕ) (e : Drive) → x < 65536 → Sends unit a x d f e → (f ≡ [] → ⊥) → Shown (d .port .address) a x f
+reads-shown unit a x d f e small s full =
     let t = stepped s in
     let W = cut unit (t .start) (t .len) in
-    let h = frame-addressed (d .unit) (d .port) a x (t .i) (t .j) (t .k) W (t .formed) (t .stands) small in
-    rw (t .frame) record { to = h .0; from = h .1; exchange = h .2; kind = shows-either (d .unit) (d .port) a x (t .i) (t .j) (t .k) W }
+    let some : frameBytes (d .unit) (d .port) a x (t .i) (t .j) (t .k) W ≡ [] → ⊥ = λ e. full (t .frame ∙ e) in
+    let h = frame-addressed (d .unit) (d .port) a x (t .i) (t .j) (t .k) W (t .formed) (t .stands) small some in
+    rw (t .frame) record { to = h .0; from = h .1; exchange = h .2; kind = shows-one (d .unit) (d .port) a x (t .i) (t .j) (t .k) W some }
 
 same-piece : (f g : Piece) → f .offset ≡ g .offset → f .count ≡ g .count → f .payload ≡ g .payload → f ≡ g
 same-piece f g o c b = λ i. record { offset = o i; count = c i; payload = b i }
@@ -74,7 +76,7 @@ ran-response {unit} {a} {x} {d} {e} {f} t shown =
     let p = d .port in
     let W = cut unit (t .start) (t .len) in
     let none = nothing-left u p a x (t .i) (t .j) (t .k) W (rw (t .frame) at shown) in
-    let reply = last-reply u p a x (t .i) (t .j) (t .k) W none in
+    let reply = ends-reply (fullOf p (t .i)) (exchangeOf p (t .i) (t .j)) none in
     let r = residualOf (exchangeOf p (t .i) (t .j) .wanted) (exchangeOf p (t .i) (t .j) .expected) in
     let ends : Runs u unit a x p [] (Status 0x00 r) _ true = record { run = whole.ends (t .start) (t .len) (t .i) (t .j) (t .k) (t .step) reply; lone = λ _. refl } in
     record {
@@ -91,8 +93,8 @@ ran-data {unit} {a} {x} {d} {d₁} {e} {f} {last} {pieces} {b} small t shown res
     let p = d .port in
     let W = cut unit (t .start) (t .len) in
     let g = frameOf (fullOf p (t .i)) (exchangeOf p (t .i) (t .j)) in
-    let more = data-left u p a x (t .i) (t .j) (t .k) W (rw (t .frame) at shown) in
-    let reply = more-reply u p a x (t .i) (t .j) (t .k) W more in
+    let left = data-left u p a x (t .i) (t .j) (t .k) W (rw (t .frame) at shown) in
+    let reply = sends-reply (fullOf p (t .i)) (exchangeOf p (t .i) (t .j)) (left .0) (left .1) in
     let is : pieceIn f ≡ record { offset = g .offset; count = g .count; payload = payloadAt u p a x (t .i) (t .j) (t .k) W } =
     ap pieceIn (t .frame)
     ∙ same-piece _ _ (data-offset u p a x (t .i) (t .j) (t .k) W (t .formed) (t .stands) small g reply) (data-count u p a x (t .i) (t .j) (t .k) W (t .formed) (t .stands) small g reply)
@@ -149,16 +151,6 @@ module _ (own a x flags resid : ℕ) where
   unfolding headerBytes
   good-rest = refl
 
--- FCP_RESID fits its 4 bytes
-residual-case : (b c : Bool) (wanted expected : ℕ) → wanted < 4294967296 → expected < 4294967296 → residualSize (cond b (Over (wanted - expected)) (cond c (Under (expected - wanted)) Exact)) < 4294967296
-residual-case true c wanted expected h k = omega arith
-residual-case false true wanted expected h k = omega arith
-residual-case false false wanted expected h k = omega arith
-
-residual-small : (wanted expected : ℕ) → wanted < 4294967296 → expected < 4294967296 → residualSize (residualOf wanted expected) < 4294967296
-unfolding residualOf
-residual-small wanted expected h k = residual-case (ltb expected wanted) (ltb wanted expected) wanted expected h k
-
 same-status : (r s : Residual) → Status 0x00 r ≡ Status 0x00 s → r ≡ s
 same-status r s e = cc
 
@@ -170,9 +162,9 @@ open-id p a x i j o = let e = exchangeOf p i j in eqb-true (e .«ox_id») x (and
 -- an open exchange of a well-formed drive, whatever windows of the unit and whatever buffers are lent, and whatever calls come between that leave it open: the frames that stood in the buffers
 -- carry its data, to its total, each once and in order, and then its status and residual; its place is free, and where no call came between nothing else of the drive has changed
 pub reads-whole : (d e : Drive) (unit : List ℕ) (a x i j : ℕ) (frames : List (List ℕ)) (last : List ℕ) → wellFormed (d .unit) (d .port) ≡ true
-    → total (exchangeOf (d .port) i j) ≤ length (dataOf (d .unit) unit (exchangeOf (d .port) i j)) → Fresh d a x i j → (reads : Reads unit a x d frames last e)
+    → total (exchangeOf (d .port) i j) ≤ length (dataOf (d .unit) unit (exchangeOf (d .port) i j)) → Fresh d a x i j → isWrite (exchangeOf (d .port) i j) ≡ false → (reads : Reads unit a x d frames last e)
     → Delivered (dataOf (d .unit) unit (exchangeOf (d .port) i j)) (d .port .address) a (fullOf (d .port) i) (exchangeOf (d .port) i j) frames last × Frees i j reads
-reads-whole d e unit a x i j frames last w enough o reads =
+reads-whole d e unit a x i j frames last w enough o to reads =
     let u = d .unit in
     let p = d .port in
     let r = exchangeOf p i j in
@@ -189,7 +181,7 @@ reads-whole d e unit a x i j frames last w enough o reads =
         bytes = s .0 .bytes;
         order = s .0 .order;
         few = sym (length-map frames pieceIn) ∙ s .0 .frames;
-        each = reads-each d e unit a x i j frames last w enough o reads ∙ ap (λ (n : ℕ). dataFrames (p .address) a n full all (length frames) 0) (sym ox);
+        each = reads-each d e unit a x i j frames last w enough o to reads ∙ ap (λ (n : ℕ). dataFrames (p .address) a n full all (length frames) 0) (sym ox);
         status = ap statusIn last-is ∙ good-status (p .address) a x (residualFlag left) (residualSize left);
         flags = ap flagsIn last-is ∙ good-flags (p .address) a x (residualFlag left) (residualSize left);
         resid = ap residIn last-is ∙ good-resid (p .address) a x (residualFlag left) (residualSize left) (residual-small (r .wanted) (r .expected) (wanted-small u r known) (o .expected));
@@ -211,17 +203,18 @@ module _ (d e : Drive) (unit : List ℕ) (a x i j : ℕ) (frames : List (List �
   abbrev Served : List ℕ → Reads unit a x d frames last e → Type 0
   Served from reads = Delivered from (d .port .address) a (fullOf (d .port) i) r frames last × Frees i j reads
 
-  reads-from : (from : List ℕ) → dataOf u unit r ≡ from → total r ≤ length from → Fresh d a x i j → (reads : Reads unit a x d frames last e) → Served from reads
-  reads-from from is enough o reads = subst (λ (data-is : List ℕ). Served data-is reads) is (reads-whole d e unit a x i j frames last w (rw is enough) o reads)
+  reads-from : (from : List ℕ) → dataOf u unit r ≡ from → total r ≤ length from → Fresh d a x i j → isWrite r ≡ false → (reads : Reads unit a x d frames last e) → Served from reads
+  reads-from from is enough o to reads = subst (λ (data-is : List ℕ). Served data-is reads) is (reads-whole d e unit a x i j frames last w (rw is enough) o to reads)
 
-  pub reads-read : length unit ≡ 512 * u .capacity → Fresh d a x i j → r .kind ≡ kindRead → (reads : Reads unit a x d frames last e) → Served (readFrom unit r) reads
-  reads-read long o kind =
-      reads-from (readFrom unit r) (rw (eq-eqb (r .kind) kindRead kind)) (read-enough u unit r long (is-read u r kind (runs u (d .port) a x i j w (o .stands) .wanted))) o
+  pub reads-read : length unit ≡ 512 * u .capacity → Fresh d a x i j → r .kind ≡ kindBlocks → isWrite r ≡ false → (reads : Reads unit a x d frames last e) → Served (readFrom unit r) reads
+  reads-read long o kind to =
+      reads-from (readFrom unit r) (rw (eq-eqb (r .kind) kindBlocks kind)) (read-enough u unit r long (is-read u r kind (runs u (d .port) a x i j w (o .stands) .wanted))) o to
 
-  pub reads-made : length (u .identity) ≡ 28 → Fresh d a x i j → (r .kind ≡ kindRead → ⊥) → (reads : Reads unit a x d frames last e) → Served (madeBytes u (r .kind)) reads
+  pub reads-made : length (u .identity) ≡ 28 → Fresh d a x i j → (r .kind ≡ kindBlocks → ⊥) → (reads : Reads unit a x d frames last e) → Served (madeBytes u (r .kind)) reads
   reads-made words o kind =
-      let other = ne-eqb (r .kind) kindRead kind in
-      reads-from (madeBytes u (r .kind)) (rw other) (made-enough u r words other (runs u (d .port) a x i j w (o .stands) .wanted)) o
+      let other = ne-eqb (r .kind) kindBlocks kind in
+      let known = runs u (d .port) a x i j w (o .stands) in
+      reads-from (madeBytes u (r .kind)) (rw other) (made-enough u r words other (known .wanted)) o (made-sends known other)
 
 -- frames one after the other are calls one after the other, with any buffers of 2,136 bytes
 module _ (u : Unit) (unit : List ℕ) (a x : ℕ) (l : List ℕ) (room : length l ≡ 2136) where
@@ -255,26 +248,26 @@ module _ (u : Unit) (unit : List ℕ) (a x : ℕ) (l : List ℕ) (room : length 
         frames = [];
         last = _;
         end = _;
-        reads = responds (call p start len i j k w step) (shows-response u p a x i j k (cut unit start len) none .1);
+        reads = responds (call p start len i j k w step) (response-shown u p a x i j k (cut unit start len) none);
         lone = refl;
         rooms = ap (λ (m : ℕ). m ∷ []) room;
       }
   calls-come {p} {q} {pieces} {r} w (whole.piece start len i j k f step reply rest) lone =
-      let more = is-data (fullOf p i) (exchangeOf p i j) f reply .0 in
+      let left = is-data (fullOf p i) (exchangeOf p i j) f reply in
       let on = calls-come (next-kept u p a x start (cut unit start len) w) rest lone in
       record {
         frames = _;
         last = on .last;
         end = on .end;
-        reads = carries (call p start len i j k w step) (shows-data u p a x i j k (cut unit start len) more .0) (on .reads);
+        reads = carries (call p start len i j k w step) (data-shown u p a x i j k (cut unit start len) (left .0) (left .2)) (on .reads);
         lone = on .lone;
         rooms = ap (λ (m : ℕ). m ∷ roomsOf (on .reads)) room ∙ ap (λ (ns : List ℕ). 2136 ∷ ns) (on .rooms);
       }
   calls-come {p} {q} {pieces} {r} w (whole.aside i j stays formed rest) lone = apart lone refl
 
--- and such a run there is for every open exchange of a proven login, with buffers of 2,136 bytes
+-- and such a run there is for every open exchange of a proven login but a WRITE, with buffers of 2,136 bytes
 pub reads-come : (d : Drive) (unit : List ℕ) (a x i j : ℕ) → wellFormed (d .unit) (d .port) ≡ true → length unit ≡ 512 * d .unit .capacity → lookupOf (d .port) a x ≡ Open i j
-    → loginAt (d .port) i .proven ≡ 1 → Comes unit a x d
-reads-come d unit a x i j w long o proven =
-    let ends = run-comes (d .unit) unit (d .port) a x i j w long o proven in
+    → loginAt (d .port) i .proven ≡ 1 → isWrite (exchangeOf (d .port) i j) ≡ false → Comes unit a x d
+reads-come d unit a x i j w long o proven to =
+    let ends = run-comes (d .unit) unit (d .port) a x i j w long o proven to in
     calls-come (d .unit) unit a x (replicate 2136 0) (length-replicate {A = ℕ} 2136 0) w (ends .run) (ends .lone)

@@ -48,14 +48,15 @@ module _ {M : Type 1} (𝓤 : URA M) where
 pub record OneReply {M : Type 1} (𝓤 : URA M) (H : Heap 𝓤) (A : Atoms 𝓤) (mem : Memory → SProp 𝓤) (run : Routine → Fun 𝓤) : Type 1 where
   -- by value: making a drive, a frame in, a next frame out, an event
   pub making : (s : Setup) → One 𝓤 (λ (r : Answer). new.clauses 𝓤 H A mem run tt (s, tt) .ensures tt r (s, tt))
-  pub frame : (κs : Lfts 2) (d : Drive) (f l : RefT (List ℕ)) → One 𝓤 (λ (o : Answer × List ℕ). frame-in.clauses 𝓤 H A mem run κs (d, (f, (l, tt))) .ensures tt (o .0) (d, (f, (with l (o .1), tt))))
+  pub frame : (κs : Lfts 3) (d : Drive) (f : RefT (List ℕ)) (start : ℕ) (W l : RefT (List ℕ))
+      → One 𝓤 (λ (o : Answer × List ℕ × List ℕ). frame-in.clauses 𝓤 H A mem run κs (d, (f, (start, (W, (l, tt))))) .ensures tt (o .0) (d, (f, (start, (with W (o .1), (with l (o .2), tt))))))
   pub next : (κs : Lfts 2) (d : Drive) (a x start : ℕ) (W l : RefT (List ℕ))
       → One 𝓤 (λ (o : Answer × List ℕ). next-frame.clauses 𝓤 H A mem run κs (d, (a, (x, (start, (W, (l, tt)))))) .ensures tt (o .0) (d, (a, (x, (start, (W, (with l (o .1), tt)))))))
   pub happens : (d : Drive) (e : Event) → One 𝓤 (λ (r : Answer). event.clauses 𝓤 H A mem run tt (d, (e, tt)) .ensures tt r (d, (e, tt)))
   -- from C, in place
   pub c-make : (κs : Lfts 2) (d : RefT Drive) (s : RefT Setup) → One 𝓤 (λ (o : ℕ × Drive). jhartupal-make.clauses 𝓤 H A mem run κs (d, (s, tt)) .ensures tt (o .0) (with d (o .1), (s, tt)))
-  pub c-frame : (κs : Lfts 3) (d : RefT Drive) (f l : RefT (List ℕ))
-      → One 𝓤 (λ (o : ℕ × (Drive × List ℕ)). jhartupal-frame.clauses 𝓤 H A mem run κs (d, (f, (l, tt))) .ensures tt (o .0) (with d (o .1 .0), (f, (with l (o .1 .1), tt))))
+  pub c-frame : (κs : Lfts 4) (d : RefT Drive) (f : RefT (List ℕ)) (start : ℕ) (W l : RefT (List ℕ))
+      → One 𝓤 (λ (o : ℕ × Drive × List ℕ × List ℕ). jhartupal-frame.clauses 𝓤 H A mem run κs (d, (f, (start, (W, (l, tt))))) .ensures tt (o .0) (with d (o .1), (f, (start, (with W (o .2), (with l (o .3), tt))))))
   pub c-next : (κs : Lfts 3) (d : RefT Drive) (a x start : ℕ) (W l : RefT (List ℕ))
       → One 𝓤 (λ (o : ℕ × (Drive × List ℕ)). jhartupal-next.clauses 𝓤 H A mem run κs (d, (a, (x, (start, (W, (l, tt)))))) .ensures tt (o .0) (with d (o .1 .0), (a, (x, (start, (W, (with l (o .1 .1), tt)))))))
   pub c-loop-reset : (κs : Lfts 1) (d : RefT Drive) → One 𝓤 (λ (o : ℕ × Drive). jhartupal-loop-reset.clauses 𝓤 H A mem run κs (d, tt) .ensures tt (o .0) (with d (o .1), tt))
@@ -64,5 +65,6 @@ pub record OneReply {M : Type 1} (𝓤 : URA M) (H : Heap 𝓤) (A : Atoms 𝓤)
   -- the programs: a judgement and its line, the answer to a record, and what is said at the end
   pub judges : (κs : Lfts 1) (login : RefT (List ℕ)) → One 𝓤 (λ (r : Judgement). judge.clauses 𝓤 H A mem run κs (login, tt) .ensures tt r (login, tt))
   pub lines : (number : ℕ) (j : Judgement) → One 𝓤 (λ (r : Line). line-for.clauses 𝓤 H A mem run tt (number, (j, tt)) .ensures tt r (number, (j, tt)))
-  pub tells : (κs : Lfts 1) (s : Session) (letter : ℕ) (body : RefT (List ℕ)) → One 𝓤 (λ (r : Told). tell.clauses 𝓤 H A mem run κs (s, (letter, (body, tt))) .ensures tt r (s, (letter, (body, tt))))
+  pub tells : (κs : Lfts 1) (s : Session) (letter : ℕ) (body : RefT (List ℕ))
+      → One 𝓤 (λ (o : Told × List ℕ). tell.clauses 𝓤 H A mem run κs (s, (letter, (body, tt))) .ensures tt (o .0) (s, (letter, (with body (o .1), tt))))
   pub ends : (κs : Lfts 1) (name : RefT (List ℕ)) (number : ℕ) (e : End) → One 𝓤 (λ (r : Line). end-line.clauses 𝓤 H A mem run κs (name, (number, (e, tt))) .ensures tt r (name, (number, (e, tt))))

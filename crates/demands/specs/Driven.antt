@@ -14,6 +14,6 @@ use Rattle.drive.specs.Entry.{frameIn, nextFrame}
 -- a drive made from a setup that keeps its rules, and driven by any calls: frames of bytes, next frames, events, each with any buffer and window
 pub data Driven : Drive → Type 0 where
   made : (s : Setup) → setupRules s ≡ true → Driven (madeFrom s)
-  frame : {d : Drive} (f : List ℕ) (room : ℕ) → AllBytes f → Driven d → Driven (frameIn d f room .drive)
+  frame : {d : Drive} (f : List ℕ) (start : ℕ) (W : List ℕ) (room : ℕ) → AllBytes f → Driven d → Driven (frameIn d f start W room .drive)
   next : {d : Drive} (a x start : ℕ) (W : List ℕ) (room : ℕ) → Driven d → Driven (nextFrame d a x start W room .drive)
   event : {d : Drive} (e : Event) → Driven d → Driven (eventAnswer d e .drive)

@@ -4,6 +4,7 @@ pub mod Refusals
 pub mod Login
 pub mod Between
 pub mod Reading
+pub mod Writing
 pub mod Numbers
 pub mod Judges
 pub mod Demands

@@ -17,13 +17,12 @@ use Rattle.refusal.specs.Refusal.{frameOrder}
 use Rattle.link.specs.Link.{newLogin}
 use Rattle.link.specs.Login.{namedIn, hostGone, leftBy, Accepts, Rejects}
 use Rattle.link.specs.Record.{out, held, keptFrom, recordOf}
-use Rattle.arrival.specs.Arrival.{appliesIn}
 use Rattle.drive.specs.declared.Drive.{Drive}
-use Rattle.drive.specs.Entry.{frameIn, frameInBuffer}
+use Rattle.drive.specs.Entry.{applies, frameIn, frameInBuffer}
 
 -- a PLOGI that is not refused: none of 1 to 7 applies to the frame f, with the buffer l lent, and it is a link request (R_CTL 22h) of code "PLOGI 03h"
-pub record LoginIn (d : Drive) (f l : List ℕ) : Type 0 where
-  pub passed : NoneOf (appliesIn (d .unit) (d .port) (headerOf f) f (length l)) frameOrder
+pub record LoginIn (d : Drive) (f : List ℕ) (start : ℕ) (W l : List ℕ) : Type 0 where
+  pub passed : NoneOf (applies d f start (length W) (length l)) frameOrder
   pub link : headerOf f .«r_ctl» ≡ 0x22
   pub plogi : getD f 24 0 ≡ 3
 
@@ -58,37 +57,37 @@ abbrev pub rjtBytes : Drive → List ℕ → ℕ → ℕ → List ℕ
 rjtBytes d f r x = headerBytes (loginHeader d f) ++ (0x01 ∷ 0x00 ∷ 0x00 ∷ 0x00 ∷ 0x00 ∷ r ∷ x ∷ 0x00 ∷ [])
 
 -- what becomes of the PLOGI f at the drive d, where the buffer l is lent; "its length .. in the answer, later bytes unchanged"
-pub record PortLogin (d : Drive) (f l : List ℕ) : Type 0 where
+pub record PortLogin (d : Drive) (f : List ℕ) (start : ℕ) (W l : List ℕ) : Type 0 where
   -- "Accepted: the lowest free place keeps address, names, W18 size, W19/B1, W20/B1, proven, unpaired, attention 29h", once the sender's login has ended and that of its port name; ACC is sent, of 140 bytes
   pub accepts : (a : Accepts (d .port) (headerOf f) f)
-      → Begins (accBytes d f) (frameInBuffer d f l)
-      × (drop 140 (frameInBuffer d f l) ≡ drop 140 l)
-      × (frameIn d f (length l) ≡ record { said = Sent 140; drive = record { unit = d .unit; port = withLogin (hostGone (d .port) (headerOf f) f) (a .place) (newLogin (headerOf f .«s_id») (paramsOf f 28)) } })
+      → Begins (accBytes d f) (frameInBuffer d f start W l)
+      × (drop 140 (frameInBuffer d f start W l) ≡ drop 140 l)
+      × (frameIn d f start W (length l) ≡ record { said = Sent 140; drive = record { unit = d .unit; port = withLogin (hostGone (d .port) (headerOf f) f) (a .place) (newLogin (headerOf f .«s_id») (paramsOf f 28)) } })
   -- "(demand 2's exactly-when)": ACC stands in the buffer only so
-  pub accepts-only : Begins (accBytes d f) (frameInBuffer d f l) → Accepts (d .port) (headerOf f) f
+  pub accepts-only : Begins (accBytes d f) (frameInBuffer d f start W l) → Accepts (d .port) (headerOf f) f
   -- "Of right size, it ends the sender's login and exchanges first, accepted or not": where a word test fails, and no other's; of wrong size, and where no place is free, nothing changes (`leftBy`);
   -- LS_RJT with this reason and explanation is sent, of 32 bytes
   pub rejects : (r x : ℕ) → Rejects (d .port) (headerOf f) f r x
-      → Begins (rjtBytes d f r x) (frameInBuffer d f l)
-      × (drop 32 (frameInBuffer d f l) ≡ drop 32 l)
-      × (frameIn d f (length l) ≡ record { said = Sent 32; drive = record { unit = d .unit; port = leftBy (d .port) (headerOf f) f } })
+      → Begins (rjtBytes d f r x) (frameInBuffer d f start W l)
+      × (drop 32 (frameInBuffer d f start W l) ≡ drop 32 l)
+      × (frameIn d f start W (length l) ≡ record { said = Sent 32; drive = record { unit = d .unit; port = leftBy (d .port) (headerOf f) f } })
   -- and LS_RJT with this reason and explanation only so
-  pub rejects-only : (r x : ℕ) → Begins (rjtBytes d f r x) (frameInBuffer d f l) → Rejects (d .port) (headerOf f) f r x
+  pub rejects-only : (r x : ℕ) → Begins (rjtBytes d f r x) (frameInBuffer d f start W l) → Rejects (d .port) (headerOf f) f r x
   -- "accepted or not": always one of the two
   pub no-third : Accepts (d .port) (headerOf f) f ⊎ ((r : ℕ) × (x : ℕ) × Rejects (d .port) (headerOf f) f r x)
 
 -- what becomes of the logins of other addresses, b, by the PLOGI f at the drive d, where the buffer l is lent
-pub record HostMoved (d : Drive) (f l : List ℕ) (b : ℕ) : Type 0 where
+pub record HostMoved (d : Drive) (f : List ℕ) (start : ℕ) (W l : List ℕ) (b : ℕ) : Type 0 where
   -- accepted, the sender's record is held, in the parameters sent
-  pub moved-in : Accepts (d .port) (headerOf f) f → recordOf (frameIn d f (length l) .drive .port) (headerOf f .«s_id») ≡ held false true (keptFrom (paramsOf f 28))
+  pub moved-in : Accepts (d .port) (headerOf f) f → recordOf (frameIn d f start W (length l) .drive .port) (headerOf f .«s_id») ≡ held false true (keptFrom (paramsOf f 28))
   -- and where b's login has its port name, it "ends .. and its exchanges": no login of b is left, and b's record is out
   pub moved-out : Accepts (d .port) (headerOf f) f → hasName (namedIn f) (loginOf (d .port) b) ≡ true
-      → (loginOf (frameIn d f (length l) .drive .port) b ≡ emptyLogin) × (recordOf (frameIn d f (length l) .drive .port) b ≡ out)
+      → (loginOf (frameIn d f start W (length l) .drive .port) b ≡ emptyLogin) × (recordOf (frameIn d f start W (length l) .drive .port) b ≡ out)
   -- where it has another, it stays as it was, exchanges and attention too
-  pub others-stay : Accepts (d .port) (headerOf f) f → hasName (namedIn f) (loginOf (d .port) b) ≡ false → loginOf (frameIn d f (length l) .drive .port) b ≡ loginOf (d .port) b
+  pub others-stay : Accepts (d .port) (headerOf f) f → hasName (namedIn f) (loginOf (d .port) b) ≡ false → loginOf (frameIn d f start W (length l) .drive .port) b ≡ loginOf (d .port) b
   -- where b's login has its port name, the room test cannot fail: there is no 09,29
   pub moved-room : hasName (namedIn f) (loginOf (d .port) b) ≡ true → Rejects (d .port) (headerOf f) f 0x09 0x29 → ⊥
   -- after a 09,29 nothing of the drive changed
-  pub full-nothing : Rejects (d .port) (headerOf f) f 0x09 0x29 → frameIn d f (length l) .drive ≡ d
+  pub full-nothing : Rejects (d .port) (headerOf f) f 0x09 0x29 → frameIn d f start W (length l) .drive ≡ d
   -- rejected for whatever reason, b's login stays as it was
-  pub rejected-alone : (r x : ℕ) → Rejects (d .port) (headerOf f) f r x → loginOf (frameIn d f (length l) .drive .port) b ≡ loginOf (d .port) b
+  pub rejected-alone : (r x : ℕ) → Rejects (d .port) (headerOf f) f r x → loginOf (frameIn d f start W (length l) .drive .port) b ≡ loginOf (d .port) b

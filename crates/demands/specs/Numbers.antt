@@ -18,9 +18,9 @@ abbrev pub words : ℕ → ℕ → List ℕ
 words from size =
     replicate 6 0 ++ (0x08 ∷ 0x00 ∷ replicate 8 0) ++ (replicate 7 0x5a ++ (from ∷ replicate 8 0x5a)) ++ replicate 32 0 ++ (0x80 ∷ replicate 5 0) ++ bytes 2 size ++ (0x00 ∷ 0x01 ∷ 0x00 ∷ 0x00 ∷ 0x00 ∷ 0x01 ∷ replicate 34 0)
 
--- a drive of address EFh and this capacity, as it is made
+-- a read-only drive of address EFh and this capacity, as it is made
 abbrev pub made : ℕ → Drive
-made capacity = madeFrom record { capacity = capacity; address = 0xef; identity = replicate 28 0x20; accept = words 0xef 2048 }
+made capacity = madeFrom record { capacity = capacity; address = 0xef; identity = replicate 28 0x20; accept = words 0xef 2048; writable = 0 }
 
 -- a frame to it
 abbrev pub frame : ℕ → ℕ → ℕ → ℕ → List ℕ → List ℕ
@@ -60,18 +60,18 @@ ready from = command from 3 (replicate 16 0) 0
 abbrev pub read : ℕ → ℕ → ℕ → ℕ → ℕ → List ℕ
 read from ox address count expected = command from ox ((0x28 ∷ 0x00 ∷ bytes 4 address) ++ (0x00 ∷ bytes 2 count) ++ replicate 7 0) expected
 
--- the drive after these frames, each with a buffer of 2,136 bytes
+-- the drive after these frames, each with a buffer of 2,136 bytes and no window
 abbrev pub after : Drive → List (List ℕ) → Drive
 after d [] = d
-after d (f ∷ fs) = after (frameIn d f 2136 .drive) fs
+after d (f ∷ fs) = after (frameIn d f 0 [] 2136 .drive) fs
 
 -- what is said of a frame
 abbrev pub said : Drive → List ℕ → Said
-said d f = frameIn d f 2136 .said
+said d f = frameIn d f 0 [] 2136 .said
 
 -- so many of the buffer's bytes from a place on, after a frame; before it each is 5Ah
 abbrev pub sent : Drive → List ℕ → ℕ → ℕ → List ℕ
-sent d f from count = take count (drop from (frameInBuffer d f (replicate 2136 0x5a)))
+sent d f from count = take count (drop from (frameInBuffer d f 0 [] (replicate 2136 0x5a)))
 
 -- the drive after a login with this size, a pairing, and a command that takes the attention
 abbrev pub paired : ℕ → ℕ → Drive

@@ -14,7 +14,7 @@ use Rattle.state.specs.declared.Exchange.{Exchange}
 use Rattle.state.specs.declared.Login.{Login}
 use Rattle.state.specs.Standing.{Open}
 use Rattle.state.specs.Changes.{loginAt, withLogin, withExchange, endedAt, isClosed}
-use Rattle.state.specs.Kinds.{kindRead, kindCapacity}
+use Rattle.state.specs.Kinds.{kindBlocks, kindCapacity, toHost, fromHost, isWrite}
 use Rattle.state.specs.Tables.{findLogin, lookupOf}
 use Rattle.formed.specs.Formed.{total, framesOf}
 use Rattle.residual.specs.Residual.{residualOf}
@@ -27,8 +27,7 @@ use Rattle.serve.specs.Whole.{Piece, joined, InOrder}
 use Rattle.drive.specs.declared.Drive.{Drive}
 use Rattle.refusal.specs.declared.Said.the-variants.{Sent}
 use Rattle.refusal.specs.Refusal.{frameOrder}
-use Rattle.arrival.specs.Arrival.{appliesIn}
-use Rattle.drive.specs.Entry.{frameIn, nextFrame, nextFrameBuffer}
+use Rattle.drive.specs.Entry.{applies, frameIn, nextFrame, nextFrameBuffer}
 use Rattle.demands.specs.Between.{Call, after, LeavesOpen}
 
 -- "the reply stands at the front of the buffer, its length .. in the answer": the frame in the buffer l after a call that said `Sent n`
@@ -82,6 +81,15 @@ pub record Sends (unit : List ℕ) (a x : ℕ) (d : Drive) (f : List ℕ) (e : D
   pub frame : f ≡ frameAt (nextFrameBuffer d a x start (cut unit start len) buffer) n
   pub drive : e ≡ nextFrame d a x start (cut unit start len) (length buffer) .drive
 
+-- "nothing while data is awaited" (02, 2): the exchange of a and x is an open WRITE that awaits data
+pub record Awaits (d : Drive) (a x : ℕ) : Type 0 where
+  pub i : ℕ
+  pub j : ℕ
+  pub stands : lookupOf (d .port) a x ≡ Open i j
+  pub write : isWrite (exchangeOf (d .port) i j) ≡ true
+  pub awaited : exchangeOf (d .port) i j .awaited ≡ 1
+  pub short : exchangeOf (d .port) i j .sent < total (exchangeOf (d .port) i j)
+
 -- such calls one after the other from the drive d on: FCP_DATA frames, all of them, and then "FCP_RSP follows", which is the frame `last` and leaves the drive e;
 -- between them any calls, of whomever, that leave the exchange open
 pub data Reads (unit : List ℕ) (a x : ℕ) : Drive → List (List ℕ) → List ℕ → Drive → Type 0 where
@@ -108,12 +116,12 @@ pub record Fresh (d : Drive) (a x i j : ℕ) : Type 0 where
   pub ox : x < 65536
   pub expected : exchangeOf (d .port) i j .expected < 4294967296
 
--- a command that opens: none of 1 to 7 applies to the frame f, with the buffer l lent, it is an FCP_CMND (R_CTL 06h) of this code, the first byte of the CDB, and nothing is answered
-pub record CommandIn (operation : ℕ) (d : Drive) (f l : List ℕ) : Type 0 where
-  pub passed : NoneOf (appliesIn (d .unit) (d .port) (headerOf f) f (length l)) frameOrder
+-- a command that opens: no refusal applies to the frame f, with the window W and the buffer l lent, it is an FCP_CMND (R_CTL 06h) of this code, the first byte of the CDB, and nothing is answered
+pub record CommandIn (operation : ℕ) (d : Drive) (f : List ℕ) (start : ℕ) (W l : List ℕ) : Type 0 where
+  pub passed : NoneOf (applies d f start (length W) (length l)) frameOrder
   pub command : headerOf f .«r_ctl» ≡ 0x06
   pub code : getD f 36 0 ≡ operation
-  pub silent : frameIn d f (length l) .said ≡ Sent 0
+  pub silent : frameIn d f start W (length l) .said ≡ Sent 0
 
 -- the exchange of a READ(10), from the bytes of its frame: "LUN 8, .. CDB 16, FCP_DL 4" begin at bytes 24, 36 and 52
 abbrev pub readOf : List ℕ → Exchange
@@ -132,18 +140,38 @@ readOf f =
       count = 0;
       -- "OX_ID(2)" of the header
       «ox_id» = num 2 f 16;
-      -- code 28h, READ(10)
-      kind = kindRead;
+      -- code 28h, READ(10): blocks, to the host
+      kind = kindBlocks;
+      direction = toHost;
+      awaited = 0;
+    }
+
+-- the exchange of a WRITE(10) (02, 2), from the bytes of its frame: as a READ's, from the host
+abbrev pub writeOf : List ℕ → Exchange
+writeOf f =
+    record {
+      start = num 4 f 38;
+      blocks = num 2 f 43;
+      wanted = 512 * num 2 f 43;
+      expected = num 4 f 52;
+      sent = 0;
+      count = 0;
+      «ox_id» = num 2 f 16;
+      kind = kindBlocks;
+      direction = fromHost;
+      awaited = 0;
     }
 
 -- the exchange of a command on made data, from the bytes of its frame, of this kind and with this many bytes wanted
 abbrev pub madeOf : List ℕ → ℕ → ℕ → Exchange
-madeOf f kind wanted = record { start = 0; blocks = 0; wanted = wanted; expected = num 4 f 52; sent = 0; count = 0; «ox_id» = num 2 f 16; kind = kind }
+madeOf f kind wanted = record { start = 0; blocks = 0; wanted = wanted; expected = num 4 f 52; sent = 0; count = 0; «ox_id» = num 2 f 16; kind = kind; direction = toHost; awaited = 0 }
 
 -- the commands that open, by their codes, each with its exchange from the bytes of its frame and the login of its sender; "byte 4" of the CDB is byte 40 of the frame
 pub data Opens : ℕ → (List ℕ → Login → Exchange) → Type 0 where
   -- READ(10)
   read : Opens 0x28 (λ f l. readOf f)
+  -- WRITE(10)
+  write : Opens 0x2a (λ f l. writeOf f)
   -- INQUIRY: "36 or byte 4 if smaller (.., 7Fh first for another LUN)"
   inquiry : Opens 0x12 (λ f l. madeOf f (inquiryKind (num 8 f 24)) (min 36 (getD f 40 0)))
   -- READ CAPACITY: "8 (last address, 512)"
@@ -258,9 +286,13 @@ pub record Comes (unit : List ℕ) (a x : ℕ) (d : Drive) : Type 0 where
   pub lone : unbroken reads ≡ true
   pub rooms : roomsOf reads ≡ replicate (suc (length frames)) 2136
 
--- whom a frame is for and of what: from our address to a, of OX_ID x, and FCP_DATA or FCP_RSP
+-- "FCP_XFER_RDY (R_CTL 05h, ..)" (02, 2), TYPE 08h
+abbrev pub isReady : List ℕ → Bool
+isReady f = eqb (headerOf f .«r_ctl») 0x05 && eqb (headerOf f .protocol) 0x08
+
+-- whom a frame is for and of what: from our address to a, of OX_ID x, and FCP_DATA, FCP_XFER_RDY or FCP_RSP
 pub record Shown (own a x : ℕ) (f : List ℕ) : Type 0 where
   pub to : headerOf f .«d_id» ≡ a
   pub from : headerOf f .«s_id» ≡ own
   pub exchange : headerOf f .«ox_id» ≡ x
-  pub kind : (isData f || isResponse f) ≡ true
+  pub kind : (isData f || isReady f || isResponse f) ≡ true

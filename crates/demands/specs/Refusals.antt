@@ -4,7 +4,7 @@ use mathlib.Core.Bool.{Bool, false, not}
 use mathlib.Core.List.{List}
 use lib.ListN.{length}
 use Rattle.refusal.specs.declared.Refusal.{Refusal}
-use Rattle.refusal.specs.declared.Refusal.the-variants.{ShortBuffer, IllFormed, BadSize, NotOurs, BadSource, UnknownForm, Unproven, BadSetup, NoExchange, BadWindow}
+use Rattle.refusal.specs.declared.Refusal.the-variants.{ShortBuffer, IllFormed, BadSize, NotOurs, BadSource, UnknownForm, Unproven, BadSetup, NoExchange, BadWindow, NoWrite}
 use Rattle.formed.specs.Formed.{wellFormed}
 use Rattle.serve.specs.Refusals.{appliesNext}
 use Rattle.arrival.specs.Arrival.{shortBuffer}
@@ -22,3 +22,4 @@ appliesOut d a x start W l Unproven = appliesNext (d .port) a x start (length W)
 appliesOut d a x start W l BadSetup = false
 appliesOut d a x start W l NoExchange = appliesNext (d .port) a x start (length W) NoExchange
 appliesOut d a x start W l BadWindow = appliesNext (d .port) a x start (length W) BadWindow
+appliesOut d a x start W l NoWrite = false

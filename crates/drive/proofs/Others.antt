@@ -33,17 +33,18 @@ use Rattle.serve.specs.Next.{exchangeOf, fullOf, nextExchange, Step, Refused, F
 use Rattle.serve.proofs.Steps.{passed}
 use Rattle.serve.proofs.Turns.{next-keeps, next-another}
 use Rattle.arrival.specs.declared.Form.{Form}
-use Rattle.arrival.specs.declared.Form.the-variants.{Link, Done, Abort, Command}
-use Rattle.arrival.specs.Arrival.{shortBuffer, formOf, appliesIn}
-use Rattle.arrival.proofs.Passes as arrives
+use Rattle.arrival.specs.declared.Form.the-variants.{Link, Done, Abort, Command, Data}
+use Rattle.taking.proofs.Others.{data-another, data-leaves}
+use Rattle.arrival.specs.Arrival.{shortBuffer, formOf}
+use Rattle.arrival.proofs.Passes.{link-form}
 use Rattle.drive.specs.declared.Drive.{Drive}
 use Rattle.drive.specs.declared.Answer.{Answer}
 use Rattle.drive.specs.Drive.{refused}
-use Rattle.drive.specs.Entry.{decidedIn, answered, frameIn, nextFrame}
+use Rattle.drive.specs.Entry.{applies, decidedIn, answered, frameIn, nextFrame}
 use Rattle.drive.specs.Turn.{decisionAs, decisionOf, passedTurn, nextOutTurn, answerTo}
 use Rattle.drive.specs.Others.{OfOthers, frame, done, next, Unmoved, turnIn, turnOut, othersAnswer, turnOf}
 use Rattle.drive.proofs.Turns.{stays-is, passed-answer, next-out-turn}
-use Rattle.drive.proofs.Ways.{next-short}
+use Rattle.drive.proofs.Ways.{passed-in, next-short}
 
 module _ (d : Drive) (w : wellFormed (d .unit) (d .port) ≡ true) where
   abbrev u : Unit
@@ -61,41 +62,47 @@ module _ (d : Drive) (w : wellFormed (d .unit) (d .port) ≡ true) where
   Spares a t = Leaves a (loginOf p a) (t .change)
 
   -- what is decided of a frame of another sender, or of an answer
-  module _ (f : List ℕ) (a : ℕ) (n : a ≡ headerOf f .«s_id» → ⊥) where
-    decided-aside : (k : Form) → Elsewhere p a (decisionAs (viewOf u p (headerOf f .«s_id»)) (headerOf f) k f)
+  module _ (f : List ℕ) (start len : ℕ) (a : ℕ) (n : a ≡ headerOf f .«s_id» → ⊥) where
+    decided-aside : (k : Form) → Elsewhere p a (decisionAs (viewOf u p (headerOf f .«s_id»)) (headerOf f) k f start len)
     decided-aside Link = link-another u p (formed-parts w .logins) (headerOf f) a n f
     decided-aside Done = tt
     decided-aside Abort = abts-another u p (formed-parts w .logins) (headerOf f) a n
     decided-aside Command = command-another u p (headerOf f) f (formed-parts w .logins) a n
+    decided-aside Data = data-another u p (formed-parts w .logins) (headerOf f) (length f) start len a n
 
-    decided-spares : (k : Form) → (k ≡ Link → headerOf f .«r_ctl» ≡ 0x22) → (Moves p a (headerOf f) f → ⊥) → LeavesLogin p a (decisionAs (viewOf u p (headerOf f .«s_id»)) (headerOf f) k f)
+    decided-spares : (k : Form) → (k ≡ Link → headerOf f .«r_ctl» ≡ 0x22) → (Moves p a (headerOf f) f → ⊥) → LeavesLogin p a (decisionAs (viewOf u p (headerOf f .«s_id»)) (headerOf f) k f start len)
     decided-spares Link r still = link-leaves u p (formed-parts w .logins) (headerOf f) a n f (r refl) still
     decided-spares Done r still = tt
     decided-spares Abort r still = abts-leaves u p (formed-parts w .logins) (headerOf f) a n
     decided-spares Command r still = command-leaves u p (headerOf f) f (formed-parts w .logins) a n
+    decided-spares Data r still = data-leaves (viewOf u p (headerOf f .«s_id»)) (headerOf f) (length f) start len p a
 
   -- a frame in comes to its turn, which is a refusal or what a frame that passed comes to
-  module _ (f : List ℕ) (room : ℕ) where
+  module _ (f : List ℕ) (start : ℕ) (W : List ℕ) (room : ℕ) where
+    abbrev len : ℕ
+    len = length W
+
     turn-cases : (P : Answer → Turn → Type 0) → ((x : Refusal) → P (refused x d) (refusedTurn x))
-        → (shortBuffer room ≡ false → P (answered d (headerOf f) (decidedIn d f)) (passedTurn (viewOf u p (headerOf f .«s_id»)) (headerOf f) f room)) → P (frameIn d f room) (turnIn d f room)
+        → (shortBuffer room ≡ false → P (answered d (headerOf f) (decidedIn d f start len)) (passedTurn (viewOf u p (headerOf f .«s_id»)) (headerOf f) f start len room))
+        → P (frameIn d f start W room) (turnIn d f start len room)
     unfolding frameIn turnIn
-    turn-cases P refuses answers = by (first-says applies frameOrder refusedTurn _ refl)
+    turn-cases P refuses answers = by (first-says tests frameOrder refusedTurn _ refl)
       where
-        applies : Refusal → Bool
-        applies = appliesIn u p (headerOf f) f room
+        tests : Refusal → Bool
+        tests = applies d f start len room
 
-        by : {t : Turn} → FirstSays applies frameOrder refusedTurn (passedTurn (viewOf u p (headerOf f .«s_id»)) (headerOf f) f room) t → P (frameIn d f room) t
-        by (at-first x i e) = rw (e, first-then applies frameOrder (λ x. refused x d) (answered d (headerOf f) (decidedIn d f)) i) (refuses x)
-        by (at-none n e) = rw (e, none-then applies frameOrder (λ x. refused x d) (answered d (headerOf f) (decidedIn d f)) n) (answers (arrives.passed u p (headerOf f) f room n .long))
+        by : {t : Turn} → FirstSays tests frameOrder refusedTurn (passedTurn (viewOf u p (headerOf f .«s_id»)) (headerOf f) f start len room) t → P (frameIn d f start W room) t
+        by (at-first x i e) = rw (e, first-then tests frameOrder (λ x. refused x d) (answered d (headerOf f) (decidedIn d f start len)) i) (refuses x)
+        by (at-none n e) = rw (e, none-then tests frameOrder (λ x. refused x d) (answered d (headerOf f) (decidedIn d f start len)) n) (answers (passed-in d f start len room n .arrived .long))
 
-    turn-in : answerTo d (turnIn d f room) ≡ frameIn d f room
-    turn-in = turn-cases (λ r t. answerTo d t ≡ r) (stays-is d) (λ s. passed-answer d f w room s)
+    turn-in : answerTo d (turnIn d f start len room) ≡ frameIn d f start W room
+    turn-in = turn-cases (λ r t. answerTo d t ≡ r) (stays-is d) (λ s. passed-answer d f start W w room s)
 
-    in-aside : (a : ℕ) → Elsewhere p a (decisionOf (viewOf u p (headerOf f .«s_id»)) (headerOf f) f) → Aside a (turnIn d f room)
+    in-aside : (a : ℕ) → Elsewhere p a (decisionOf (viewOf u p (headerOf f .«s_id»)) (headerOf f) f start len) → Aside a (turnIn d f start len room)
     unfolding passedTurn
     in-aside a e = turn-cases (λ _ t. Aside a t) (λ _. tt) (λ _. e)
 
-    in-spares : (a : ℕ) → LeavesLogin p a (decisionOf (viewOf u p (headerOf f .«s_id»)) (headerOf f) f) → Spares a (turnIn d f room)
+    in-spares : (a : ℕ) → LeavesLogin p a (decisionOf (viewOf u p (headerOf f .«s_id»)) (headerOf f) f start len) → Spares a (turnIn d f start len room)
     unfolding passedTurn
     in-spares a e = turn-cases (λ _ t. Spares a t) (λ _. tt) (λ _. e)
 
@@ -119,26 +126,26 @@ module _ (d : Drive) (w : wellFormed (d .unit) (d .port) ≡ true) where
         let v = viewOf u p b in
         on-cond (Spares a) (shortBuffer room) tt (on-cond (Spares a) (v .fine) (subst (Leaves a (loginOf p a)) (sym (next-keeps v b x start W room)) tt) tt)
 
-  answers-nothing : (f : List ℕ) → headerOf f .«r_ctl» ≡ 0x23 → decisionOf (viewOf u p (headerOf f .«s_id»)) (headerOf f) f ≡ answersOnly reply.Nothing
+  answers-nothing : (f : List ℕ) (start len : ℕ) → headerOf f .«r_ctl» ≡ 0x23 → decisionOf (viewOf u p (headerOf f .«s_id»)) (headerOf f) f start len ≡ answersOnly reply.Nothing
   unfolding decisionOf formOf
-  answers-nothing f r = rw r
+  answers-nothing f start len r = rw r
 
   module _ {a : ℕ} where
     turn-is : (c : OfOthers a) → answerTo d (turnOf d c) ≡ othersAnswer d c
-    turn-is (frame f room n) = turn-in f room
-    turn-is (done f room r) = turn-in f room
+    turn-is (frame f start W room n) = turn-in f start W room
+    turn-is (done f start W room r) = turn-in f start W room
     turn-is (next b x start W room n) = turn-out b x start W room
 
     turn-aside : (c : OfOthers a) → Aside a (turnOf d c)
     unfolding decisionOf
-    turn-aside (frame f room n) = in-aside f room a (decided-aside f a n (formOf (headerOf f .«r_ctl»)))
-    turn-aside (done f room r) = in-aside f room a (subst (Elsewhere p a) (sym (answers-nothing f r)) tt)
+    turn-aside (frame f start W room n) = in-aside f start W room a (decided-aside f start (length W) a n (formOf (headerOf f .«r_ctl»)))
+    turn-aside (done f start W room r) = in-aside f start W room a (subst (Elsewhere p a) (sym (answers-nothing f start (length W) r)) tt)
     turn-aside (next b x start W room n) = out-aside b x start W room a n
 
     turn-spares : (c : OfOthers a) → Unmoved d c → Spares a (turnOf d c)
     unfolding decisionOf
-    turn-spares (frame f room n) still = in-spares f room a (decided-spares f a n (formOf (headerOf f .«r_ctl»)) (arrives.link-form (headerOf f .«r_ctl»)) still)
-    turn-spares (done f room r) still = in-spares f room a (subst (LeavesLogin p a) (sym (answers-nothing f r)) tt)
+    turn-spares (frame f start W room n) still = in-spares f start W room a (decided-spares f start (length W) a n (formOf (headerOf f .«r_ctl»)) (link-form (headerOf f .«r_ctl»)) still)
+    turn-spares (done f start W room r) still = in-spares f start W room a (subst (LeavesLogin p a) (sym (answers-nothing f start (length W) r)) tt)
     turn-spares (next b x start W room n) still = out-spares b x start W room a
 
     -- the login of a after a call of others: what the turn's change of every login makes of it

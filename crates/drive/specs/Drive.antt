@@ -18,13 +18,13 @@ use Rattle.drive.specs.declared.Event.the-variants.{LoopReset, TimeOver,
 unfoldable pub madeFrom : Setup → Drive
 madeFrom s =
     record {
-      unit = record { capacity = s .capacity; identity = s .identity };
+      unit = record { capacity = s .capacity; identity = s .identity; writable = s .writable };
       port = record { address = s .address; accept = s .accept; logins = replicate 8 emptyLogin };
     }
 
 -- the setup that is all zeros
 abbrev pub noSetup : Setup
-noSetup = record { capacity = 0; address = 0; identity = replicate 28 0; accept = replicate 112 0 }
+noSetup = record { capacity = 0; address = 0; identity = replicate 28 0; accept = replicate 112 0; writable = 0 }
 
 -- what stands beside a refused setup: all zeros
 unfoldable pub noDrive : Drive

@@ -24,17 +24,23 @@ use reply::Reply;
 use reply::write;
 use serve::next;
 use state::Change;
+use state::Login;
 use state::Port;
 use state::Setup;
 use state::Unit;
 use state::change_all;
 use state::empty_login;
 use tables::Found;
+use taking::Step;
+use taking::step_in;
+use taking::store;
+use taking::take;
 ghost use mathlib.Core.Path.{_≡_};
 ghost use lib.ListN.{length};
 ghost use Rattle.drive.specs.Drive.{refused, madeFrom, noDrive, newAnswer, changeOf, eventAnswer};
-ghost use Rattle.drive.specs.Entry.{frameIn, frameInBuffer};
-ghost use Rattle.drive.specs.Turn.{unprovenIn, judgedIn, refusalOf, decisionOf, passedTurn, passedBuffer, nextOutTurn, nextOutBuffer, answerTo};
+ghost use Rattle.drive.specs.Entry.{frameIn, frameInBuffer, frameInWindow};
+ghost use Rattle.drive.specs.Turn.{unprovenIn, arrivedIn, judgedIn, dataJudged, refusalOf, decisionOf, passedTurn, passedBuffer, passedWindow, nextOutTurn, nextOutBuffer, answerTo};
+ghost use Rattle.taking.specs.Taking.{stepIn};
 
 #[repr(C)]
 pub struct Drive {
@@ -69,10 +75,12 @@ impl Drive {
         }
     }
 
-    // A frame in: refused by the first of 1 to 7 that fits it, or its reply at the front of the buffer and the drive after it.
-    pub fn frame_in(self, frame: &[u8], reply: &mut [u8]) -> Answer
-        ensures { λ r. ⌜ r ≡ frameIn self (now (frame .entry)) (length (now (reply .entry))) ⌝ }
-        ensures { λ _. ⌜ now (reply .exit) ≡ frameInBuffer self (now (frame .entry)) (now (reply .entry)) ⌝ }
+    // A frame in, with a window of the unit's bytes that starts at a block: refused by the first of 1 to 7, 11, 10 that fits it, or its reply at the front of the buffer,
+    // the bytes of a data frame that is taken in the window, and the drive after it.
+    pub fn frame_in(self, frame: &[u8], start: u64, window: &mut [u8], reply: &mut [u8]) -> Answer
+        ensures { λ r. ⌜ r ≡ frameIn self (now (frame .entry)) start (now (window .entry)) (length (now (reply .entry))) ⌝ }
+        ensures { λ _. ⌜ now (reply .exit) ≡ frameInBuffer self (now (frame .entry)) start (now (window .entry)) (now (reply .entry)) ⌝ }
+        ensures { λ _. ⌜ now (window .exit) ≡ frameInWindow self (now (frame .entry)) start (now (window .entry)) (length (now (reply .entry))) ⌝ }
     {
         if reply.len() < Header::MOST_FRAME {
             return self.refuse(Refusal::ShortBuffer);
@@ -81,10 +89,10 @@ impl Drive {
         let p = self.port;
         let h = read_header(frame);
         let v = look(u, p, h.s_id);
-        let j = judged(v, h, frame);
+        let j = judged(v, h, frame, start, window.len());
         match j {
             Judged::Refused(x) => self.refuse(x),
-            Judged::Passed(_) => self.after(passed_turn(v, h, frame, reply)),
+            Judged::Passed(_) => self.after(passed_turn(v, h, frame, start, window, reply)),
         }
     }
 
@@ -132,27 +140,36 @@ impl Drive {
     }
 }
 
-// The number of the refusal of a frame in with header h, seen by its sender, or 0 where it passes.
-pub fn refusal_number(v: View, h: Header, frame: &[u8]) -> u64
-    ensures { λ r. ⌜ r ≡ refusalOf v h (now (frame .entry)) ⌝ }
+// The number of the refusal of a frame in with header h, seen by its sender, with a window of len bytes that starts at a block, or 0 where it passes.
+pub fn refusal_number(v: View, h: Header, frame: &[u8], start: u64, len: usize) -> u64
+    ensures { λ r. ⌜ r ≡ refusalOf v h (now (frame .entry)) start len ⌝ }
 {
-    let j = judged(v, h, frame);
+    let j = judged(v, h, frame, start, len);
     match j {
         Judged::Refused(x) => x.number() as u64,
         Judged::Passed(_) => 0,
     }
 }
 
-// What a frame in that passed comes to, seen by its sender. A buffer under 2,136 bytes is left alone.
-pub fn passed_turn(v: View, h: Header, frame: &[u8], reply: &mut [u8]) -> Turn
-    ensures { λ r. ⌜ r ≡ passedTurn v h (now (frame .entry)) (length (now (reply .entry))) ⌝ }
-    ensures { λ _. ⌜ now (reply .exit) ≡ passedBuffer v h (now (frame .entry)) (now (reply .entry)) ⌝ }
+// What a frame in that passed comes to, seen by its sender, with a window that starts at a block: the bytes of a data frame go there. A buffer under 2,136 bytes is left alone.
+pub fn passed_turn(
+    v: View,
+    h: Header,
+    frame: &[u8],
+    start: u64,
+    window: &mut [u8],
+    reply: &mut [u8],
+) -> Turn
+    ensures { λ r. ⌜ r ≡ passedTurn v h (now (frame .entry)) start (length (now (window .entry))) (length (now (reply .entry))) ⌝ }
+    ensures { λ _. ⌜ now (reply .exit) ≡ passedBuffer v h (now (frame .entry)) start (length (now (window .entry))) (now (reply .entry)) ⌝ }
+    ensures { λ _. ⌜ now (window .exit) ≡ passedWindow v h (now (frame .entry)) start (now (window .entry)) ⌝ }
 {
     let o = v.own;
-    let d = decide(v, h, frame);
+    let d = decide(v, h, frame, start, window.len());
     let r = d.reply;
     let none = [0u8; 0];
     let n = write(o, h, r, &none, reply);
+    fill_window(v, h, frame, start, window);
     send_turn(n, d)
 }
 
@@ -195,13 +212,41 @@ pub fn no_drive() -> Drive
         address: 0,
         identity: [0; 28],
         accept: [0; 112],
+        writable: 0,
     };
     made_from(s)
 }
 
+// A frame in, refused by the first of 2 to 7, 11, 10 that fits it, or passed.
+fn judged(v: View, h: Header, frame: &[u8], start: u64, len: usize) -> Judged
+    ensures { λ r. ⌜ r ≡ judgedIn v h (now (frame .entry)) start len ⌝ }
+{
+    let j = arrived(v, h, frame);
+    if h.r_ctl != 0x01 {
+        return j;
+    }
+    match j {
+        Judged::Refused(x) => Judged::Refused(x),
+        Judged::Passed(_) => judge_data(v.login, h, frame.len(), start, len),
+    }
+}
+
+// A data frame that arrived well: refused with 11 or 10, or passed.
+fn judge_data(l: Login, h: Header, size: usize, start: u64, len: usize) -> Judged
+    ensures { λ r. ⌜ r ≡ dataJudged (stepIn l h size start len) ⌝ }
+{
+    let s = step_in(l, h, size, start, len);
+    match s {
+        Step::NoWrite => Judged::Refused(Refusal::NoWrite),
+        Step::Fault(_, _) => Judged::Passed(Form::Data),
+        Step::Uncovered => Judged::Refused(Refusal::BadWindow),
+        Step::Take(_, _) => Judged::Passed(Form::Data),
+    }
+}
+
 // A frame in, refused by the first of 2 to 7 that fits it, or passed.
-fn judged(v: View, h: Header, frame: &[u8]) -> Judged
-    ensures { λ r. ⌜ r ≡ judgedIn v h (now (frame .entry)) ⌝ }
+fn arrived(v: View, h: Header, frame: &[u8]) -> Judged
+    ensures { λ r. ⌜ r ≡ arrivedIn v h (now (frame .entry)) ⌝ }
 {
     let o = v.own;
     let unproven = is_unproven(v);
@@ -221,8 +266,8 @@ fn is_unproven(v: View) -> bool
 }
 
 // What a frame that passed is answered, and what changes.
-fn decide(v: View, h: Header, frame: &[u8]) -> Decision
-    ensures { λ r. ⌜ r ≡ decisionOf v h (now (frame .entry)) ⌝ }
+fn decide(v: View, h: Header, frame: &[u8], start: u64, len: usize) -> Decision
+    ensures { λ r. ⌜ r ≡ decisionOf v h (now (frame .entry)) start len ⌝ }
 {
     let k = form_of(h.r_ctl);
     match k {
@@ -230,6 +275,16 @@ fn decide(v: View, h: Header, frame: &[u8]) -> Decision
         Form::Done => answer_only(Reply::Nothing),
         Form::Abort => abts(v, h),
         Form::Command => command(v, h, frame),
+        Form::Data => take(v, h, frame.len(), start, len),
+    }
+}
+
+// The window after a frame that passed: only a data frame's bytes go there.
+fn fill_window(v: View, h: Header, frame: &[u8], start: u64, window: &mut [u8])
+    ensures { λ _. ⌜ now (window .exit) ≡ passedWindow v h (now (frame .entry)) start (now (window .entry)) ⌝ }
+{
+    if h.r_ctl == 0x01 {
+        store(v.login, h, frame, start, window);
     }
 }
 
@@ -243,6 +298,7 @@ fn made_from(s: Setup) -> Drive
     let u = Unit {
         capacity: s.capacity,
         identity: identity,
+        writable: s.writable,
     };
     let p = Port {
         address: s.address,

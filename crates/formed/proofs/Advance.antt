@@ -1,7 +1,7 @@
 -- The next data frame of an exchange that fits leaves one that fits, and its count is the number of the frames sent, modulo 65,536; what fits by one quotient.
 -- Assumes nothing.
 use mathlib.Core.Path.{_≡_, sym, ap, _∙_}
-use mathlib.Core.Bool.{Bool, true, false, cond, _&&_, _||_, or-true}
+use mathlib.Core.Bool.{Bool, true, false, cond, _&&_, _||_, or-true, or-false}
 use Prim.Native.Nat.{ℕ, _+_, _-_, _*_, _/_, _%_, _≤_, _<_}
 use native.Mathlib.Nat.{div-add-mod', mod-lt, mod-eq-of-lt, add-mul, one-mul, le-mul-of-pos-right}
 use native.Mathlib.Decide.{decLe, ℕ-discrete}
@@ -13,8 +13,8 @@ use Rattle.tables.proofs.Bools.{and-left, and-right, or-short}
 use Rattle.state.specs.declared.Exchange.{Exchange}
 use Rattle.state.specs.declared.Unit.{Unit}
 use Rattle.state.specs.Changes.{advanced, isClosed}
-use Rattle.state.specs.Kinds.{kindRead, kindInquiryOther, kindCapacity, kindSenseOther}
-use Rattle.formed.specs.Formed.{total, nextBytes, framesOf, readFits, madeWants, madeFits, wantedFits, openable, sentFits, exchangeFine}
+use Rattle.state.specs.Kinds.{kindBlocks, kindInquiryOther, kindCapacity, kindSenseOther, toHost, isWrite}
+use Rattle.formed.specs.Formed.{total, nextBytes, framesOf, blocksFit, madeWants, madeFits, wantedFits, directionFits, openable, sentFits, movedFits, exchangeFine}
 
 -- a whole number of full frames, and then one more of n bytes
 frames-at : (q full : ℕ) → 0 < full → framesOf (q * full) full ≡ q
@@ -149,14 +149,14 @@ cond-small : (b : Bool) (x y : Bool) (n : ℕ) → (x ≡ true → n < 429496729
 cond-small true x y n p q e = p e
 cond-small false x y n p q e = q e
 
--- what is asked of a READ
+-- what is asked of a READ or WRITE
 pub record Reads (u : Unit) (e : Exchange) : Type 0 where
   pub few : e .blocks ≤ 65535
   pub wanted : e .wanted ≡ 512 * e .blocks
   pub inside : e .start + e .blocks ≤ u .capacity
 
-pub read-parts : (u : Unit) (e : Exchange) → readFits u e ≡ true → Reads u e
-unfolding readFits
+pub read-parts : (u : Unit) (e : Exchange) → blocksFit u e ≡ true → Reads u e
+unfolding blocksFit
 read-parts u e h =
     let a = leb 1 (e .blocks) in
     let b = leb (e .blocks) 65535 in
@@ -170,11 +170,11 @@ read-parts u e h =
       inside = leb-true (e .start + e .blocks) (u .capacity) (and-right (a && b && c && d) f h);
     }
 
-pub is-read : (u : Unit) (e : Exchange) → e .kind ≡ kindRead → wantedFits u e ≡ true → Reads u e
+pub is-read : (u : Unit) (e : Exchange) → e .kind ≡ kindBlocks → wantedFits u e ≡ true → Reads u e
 unfolding wantedFits
-is-read u e k h = read-parts u e (rw (eq-eqb (e .kind) kindRead k) at h)
+is-read u e k h = read-parts u e (rw (eq-eqb (e .kind) kindBlocks k) at h)
 
-read-small : (u : Unit) (e : Exchange) → readFits u e ≡ true → e .wanted < 4294967296
+read-small : (u : Unit) (e : Exchange) → blocksFit u e ≡ true → e .wanted < 4294967296
 read-small u e h = let r = read-parts u e h in omega arith
 
 made-wants : (e : Exchange) → madeFits e ≡ true → madeWants e ≡ true
@@ -182,14 +182,14 @@ unfolding madeFits
 made-wants e h = and-right (eqb (e .start) 0 && eqb (e .blocks) 0) (madeWants e) h
 
 -- what is wanted of made data
-pub is-made : (u : Unit) (e : Exchange) → eqb (e .kind) kindRead ≡ false → wantedFits u e ≡ true → madeWants e ≡ true
+pub is-made : (u : Unit) (e : Exchange) → eqb (e .kind) kindBlocks ≡ false → wantedFits u e ≡ true → madeWants e ≡ true
 unfolding wantedFits
 is-made u e k h = made-wants e (rw k at h)
 
 pub wanted-small : (u : Unit) (e : Exchange) → wantedFits u e ≡ true → e .wanted < 4294967296
 unfolding wantedFits
 wanted-small u e =
-    cond-small (eqb (e .kind) kindRead) _ _ (e .wanted) (read-small u e) (λ h. made (made-wants e h))
+    cond-small (eqb (e .kind) kindBlocks) _ _ (e .wanted) (read-small u e) (λ h. made (made-wants e h))
   where
     most : (n : ℕ) → leb (e .wanted) n ≡ true → n < 4294967296 → e .wanted < 4294967296
     most n h l = let i : e .wanted ≤ n = leb-true (e .wanted) n h in omega arith
@@ -204,28 +204,52 @@ wanted-small u e =
 pub record Running (u : Unit) (full paired : ℕ) (e : Exchange) : Type 0 where
   pub pair : eqb paired 1 ≡ true
   pub could : openable u e ≡ true
+  pub some : leb 1 (e .expected) ≡ true
   pub wanted : wantedFits u e ≡ true
-  pub fits : sentFits full e ≡ true
+  pub direction : directionFits u e ≡ true
+  pub moved : movedFits full e ≡ true
 
 pub running : (u : Unit) (full paired : ℕ) (e : Exchange) → isClosed e ≡ false → exchangeFine u full paired e ≡ true → Running u full paired e
 unfolding exchangeFine
 running u full paired e op fine =
-    let f = or-short (isClosed e) (eqb paired 1 && openable u e && sentFits full e) fine op in
-    let g = and-left (eqb paired 1 && openable u e) (sentFits full e) f in
+    let f = or-short (isClosed e) (eqb paired 1 && openable u e && movedFits full e) fine op in
+    let g = and-left (eqb paired 1 && openable u e) (movedFits full e) f in
     let o = and-right (eqb paired 1) (openable u e) g in
+    let w = and-left (leb 1 (e .expected) && wantedFits u e) (directionFits u e) o in
     record {
       pair = and-left (eqb paired 1) (openable u e) g;
       could = o;
-      wanted = and-right (leb 1 (e .expected)) (wantedFits u e) o;
-      fits = and-right (eqb paired 1 && openable u e) (sentFits full e) f;
+      some = and-left (leb 1 (e .expected)) (wantedFits u e) w;
+      wanted = and-right (leb 1 (e .expected)) (wantedFits u e) w;
+      direction = and-right (leb 1 (e .expected) && wantedFits u e) (directionFits u e) o;
+      moved = and-right (eqb paired 1 && openable u e) (movedFits full e) f;
     }
 
--- an open exchange that is fine is fine after its next data frame
-pub advance-fine : (u : Unit) (full paired : ℕ) (e : Exchange) → 0 < full → isClosed e ≡ false → e .sent < total e → exchangeFine u full paired e ≡ true
+-- what is asked of one whose data go to the host
+pub record Sending (full : ℕ) (e : Exchange) : Type 0 where
+  pub to-host : e .direction ≡ toHost
+  pub unasked : e .awaited ≡ 0
+  pub fits : sentFits full e ≡ true
+
+pub sending : {u : Unit} {full paired : ℕ} {e : Exchange} → Running u full paired e → isWrite e ≡ false → Sending full e
+unfolding directionFits movedFits
+sending {full = full} {e = e} r to =
+    let d = r .direction in
+    let m = r .moved in
+    let n : (eqb (e .awaited) 0 && sentFits full e) ≡ true = rw to at m in
+    record {
+      to-host = eqb-true (e .direction) toHost (sym (or-false (eqb (e .direction) toHost)) ∙ (rw to at d));
+      unasked = eqb-true (e .awaited) 0 (and-left (eqb (e .awaited) 0) (sentFits full e) n);
+      fits = and-right (eqb (e .awaited) 0) (sentFits full e) n;
+    }
+
+-- an open exchange that is fine and goes to the host is fine after its next data frame
+pub advance-fine : (u : Unit) (full paired : ℕ) (e : Exchange) → 0 < full → isClosed e ≡ false → isWrite e ≡ false → e .sent < total e → exchangeFine u full paired e ≡ true
     → exchangeFine u full paired (advanced e (nextBytes full e)) ≡ true
-unfolding exchangeFine wantedFits readFits madeFits
-advance-fine u full paired e pos op short fine =
+unfolding exchangeFine wantedFits blocksFit madeFits directionFits movedFits
+advance-fine u full paired e pos op to short fine =
     let r = running u full paired e op fine in
+    let g = sending r to in
     let w = wanted-small u e (r .wanted) in
-    let s = advance-fits full e pos (r .fits) short (omega arith) in
-    rw (op, r .pair, r .could, s)
+    let s = advance-fits full e pos (g .fits) short (omega arith) in
+    rw (op, r .pair, r .could, to, s, g .unasked)

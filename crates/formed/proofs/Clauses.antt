@@ -13,11 +13,15 @@ use Rattle.state.specs.declared.Login.{Login}
 use Rattle.state.specs.declared.Port.{Port}
 use Rattle.state.specs.declared.Unit.{Unit}
 use Rattle.state.specs.Changes.{emptyExchange, emptyLogin, ownOf}
-use Rattle.formed.specs.Formed.{setupRules, setupOf, readFits, madeFits, wantedFits, sentFits, exchangeFine, apartId, paramsFine, flagsFine, addressFine, usedFine, loginFine, apartLogin, wellFormed}
+use Rattle.formed.specs.Formed.{setupRules, setupOf, blocksFit, madeFits, wantedFits, directionFits, sentFits, takenFits, movedFits, exchangeFine, apartId, paramsFine, flagsFine, addressFine, usedFine, loginFine, apartLogin, wellFormed}
 
--- a unit of this capacity
+-- a unit of this capacity, and whether it may be written
+abbrev pub unitWith : (capacity writable : ℕ) → Unit
+unitWith capacity writable = record { capacity = capacity; identity = replicate 28 0x20; writable = writable }
+
+-- one that may not
 abbrev pub unitOf : ℕ → Unit
-unitOf capacity = record { capacity = capacity; identity = replicate 28 0x20 }
+unitOf capacity = unitWith capacity 0
 
 abbrev pub name : List ℕ
 name = replicate 8 0x20
@@ -55,8 +59,8 @@ login used proven paired attention address port node size concurrent sequences p
       places = places;
     }
 
-abbrev pub exchange : (kind id start blocks wanted expected sent count : ℕ) → Exchange
-exchange kind id start blocks wanted expected sent count =
+abbrev pub directed : (direction awaited kind id start blocks wanted expected sent count : ℕ) → Exchange
+directed direction awaited kind id start blocks wanted expected sent count =
     record {
       kind = kind;
       «ox_id» = id;
@@ -66,11 +70,21 @@ exchange kind id start blocks wanted expected sent count =
       wanted = wanted;
       expected = expected;
       sent = sent;
+      direction = direction;
+      awaited = awaited;
     }
+
+-- whose data go to the host
+abbrev pub exchange : (kind id start blocks wanted expected sent count : ℕ) → Exchange
+exchange kind id start blocks wanted expected sent count = directed 0 0 kind id start blocks wanted expected sent count
 
 -- a READ, of OX_ID 1234h
 abbrev pub reading : (start blocks wanted expected sent count : ℕ) → Exchange
 reading start blocks wanted expected sent count = exchange 1 0x1234 start blocks wanted expected sent count
+
+-- a WRITE of 256 blocks from block 10 on, two bursts in all
+abbrev pub writing : (awaited expected sent count : ℕ) → Exchange
+writing awaited expected sent count = directed 1 awaited 1 0x1234 10 256 131072 expected sent count
 
 -- an exchange of another kind, of OX_ID 1235h
 abbrev pub other : (kind wanted expected sent count : ℕ) → Exchange
@@ -138,6 +152,14 @@ setup capacity own concurrent sequences es = wellFormed (unitOf capacity) (portO
 abbrev pub large : (blocks wanted sent count : ℕ) → Bool
 large blocks wanted sent count = setup 4294967295 0xef 1 1 (two (reading 0 blocks wanted wanted sent count) asked)
 
+-- a unit of 1,000 blocks that may be written or not, with this exchange
+abbrev pub onto : (writable : ℕ) → Exchange → Bool
+onto writable e = wellFormed (unitWith 1000 writable) (portOf 0xef (words 1 1) (flagged 1 1 1 0 (two e asked)) emptyLogin)
+
+-- one that may
+abbrev pub written : Exchange → Bool
+written e = onto 1 e
+
 -- "setup rules hold"
 pub setup-clauses :
     (setup 100 0xef 1 1 busy ≡ true)  -- the well-formed state
@@ -152,8 +174,11 @@ pub setup-clauses :
     × (setup 100 0xef 255 1 busy ≡ true)  -- W19/B1 may be any other
     × (setup 100 0xef 1 0 busy ≡ false)  -- "W20/B1 not 0"
     × (setup 100 0xef 1 2 busy ≡ false)  -- "with W20/B1 = 01h"
-unfolding wellFormed setupRules setupOf ownOf validAddress setupPasses paramsOf verdictOf sizeFails zeroName loginFine usedFine flagsFine addressFine paramsFine exchangeFine wantedFits readFits madeFits sentFits apartId apartLogin nameOf
-setup-clauses = (refl, refl, refl, refl, refl, refl, refl, refl, refl, refl, refl, refl)
+    × (onto 0 halfway ≡ true)  -- "units whose setup allows it" (02, 2): it does not
+    × (onto 1 halfway ≡ true)  -- it does
+    × (onto 2 halfway ≡ false)  -- there is no third
+unfolding wellFormed setupRules setupOf ownOf validAddress setupPasses paramsOf verdictOf sizeFails zeroName loginFine usedFine flagsFine addressFine paramsFine exchangeFine wantedFits blocksFit madeFits directionFits sentFits takenFits movedFits apartId apartLogin nameOf
+setup-clauses = (refl, refl, refl, refl, refl, refl, refl, refl, refl, refl, refl, refl, refl, refl, refl)
 
 -- the flags and the attention of a login, and its address
 pub login-clauses :
@@ -181,7 +206,7 @@ pub login-clauses :
     × (both stale stale ≡ true)  -- of free places nothing is asked
     × (both stale (at 0x01 0x01) ≡ true)  -- nor of them beside a login
     × (one (flagged 0 1 1 0 busy) ≡ false)  -- but that they hold no open exchange
-unfolding wellFormed setupRules setupOf ownOf validAddress setupPasses paramsOf verdictOf sizeFails zeroName loginFine usedFine flagsFine addressFine paramsFine exchangeFine wantedFits readFits madeFits sentFits apartId apartLogin nameOf
+unfolding wellFormed setupRules setupOf ownOf validAddress setupPasses paramsOf verdictOf sizeFails zeroName loginFine usedFine flagsFine addressFine paramsFine exchangeFine wantedFits blocksFit madeFits directionFits sentFits takenFits movedFits apartId apartLogin nameOf
 login-clauses = (refl, refl, refl, refl, refl, refl, refl, refl, refl, refl, refl, refl, refl, refl, refl, refl, refl, refl, refl, refl, refl, refl, refl, refl)
 
 -- "stored parameters pass the PLOGI rules"; idle where another size would break what is asked of the bytes sent
@@ -199,7 +224,7 @@ pub parameter-clauses :
     × (one (stored name name 256 0 1 busy) ≡ false)  -- "W19/B1 not 0"
     × (one (stored name name 256 1 0 busy) ≡ false)  -- "W20/B1 not 0"
     × (one (stored name name 256 255 255 busy) ≡ true)  -- W20/B1 = 01h is asked of the setup alone
-unfolding wellFormed setupRules setupOf ownOf validAddress setupPasses paramsOf verdictOf sizeFails zeroName loginFine usedFine flagsFine addressFine paramsFine exchangeFine wantedFits readFits madeFits sentFits apartId apartLogin nameOf
+unfolding wellFormed setupRules setupOf ownOf validAddress setupPasses paramsOf verdictOf sizeFails zeroName loginFine usedFine flagsFine addressFine paramsFine exchangeFine wantedFits blocksFit madeFits directionFits sentFits takenFits movedFits apartId apartLogin nameOf
 parameter-clauses = (refl, refl, refl, refl, refl, refl, refl, refl, refl, refl, refl, refl, refl)
 
 -- where exchanges stand, and "each exchange is one an accepted command could open"
@@ -236,10 +261,10 @@ pub exchange-clauses :
     × (opened halfway (other 8 1 36 0 0) ≡ true)  -- with 05/25/00, the least
     × (opened halfway (other 8 19 36 0 0) ≡ false)  -- with 05/25/00, one more than 18
     × (opened halfway (other 8 0 36 0 0) ≡ false)  -- and not nothing
-unfolding wellFormed setupRules setupOf ownOf validAddress setupPasses paramsOf verdictOf sizeFails zeroName loginFine usedFine flagsFine addressFine paramsFine exchangeFine wantedFits readFits madeFits sentFits apartId apartLogin nameOf
+unfolding wellFormed setupRules setupOf ownOf validAddress setupPasses paramsOf verdictOf sizeFails zeroName loginFine usedFine flagsFine addressFine paramsFine exchangeFine wantedFits blocksFit madeFits directionFits sentFits takenFits movedFits apartId apartLogin nameOf
 exchange-clauses = (refl, refl, refl, refl, refl, refl, refl, refl, refl, refl, refl, refl, refl, refl, refl, refl, refl, refl, refl, refl, refl, refl, refl, refl, refl, refl, refl, refl, refl, refl, refl, refl)
 
--- "each exchange is one an accepted command could open": only READ(10) names blocks, and every other kind has start and blocks 0
+-- "each exchange is one an accepted command could open": only READ(10) and WRITE(10) name blocks, and every other kind has start and blocks 0
 pub made-clauses :
     (opened halfway (placed 2 0 0 36) ≡ true)  -- INQUIRY
     × (opened halfway (placed 2 1 0 36) ≡ false)  -- a start
@@ -262,7 +287,7 @@ pub made-clauses :
     × (opened halfway (placed 8 0 0 18) ≡ true)  -- with 05/25/00
     × (opened halfway (placed 8 1 0 18) ≡ false)  -- a start
     × (opened halfway (placed 8 0 1 18) ≡ false)  -- a block
-unfolding wellFormed setupRules setupOf ownOf validAddress setupPasses paramsOf verdictOf sizeFails zeroName loginFine usedFine flagsFine addressFine paramsFine exchangeFine wantedFits readFits madeFits sentFits apartId apartLogin nameOf
+unfolding wellFormed setupRules setupOf ownOf validAddress setupPasses paramsOf verdictOf sizeFails zeroName loginFine usedFine flagsFine addressFine paramsFine exchangeFine wantedFits blocksFit madeFits directionFits sentFits takenFits movedFits apartId apartLogin nameOf
 made-clauses = (refl, refl, refl, refl, refl, refl, refl, refl, refl, refl, refl, refl, refl, refl, refl, refl, refl, refl, refl, refl, refl)
 
 -- "with bytes sent at most its total and, short of it, a whole number of full frames", and the count of the data frames sent
@@ -281,5 +306,35 @@ pub sent-clauses :
     × (large 65535 33553920 16777216 0 ≡ true)  -- "going round at 65,536": 65,536 frames sent
     × (large 65535 33553920 33553920 65534 ≡ true)  -- and 131,070
     × (large 65535 33553920 33553920 65535 ≡ false)  -- one more
-unfolding wellFormed setupRules setupOf ownOf validAddress setupPasses paramsOf verdictOf sizeFails zeroName loginFine usedFine flagsFine addressFine paramsFine exchangeFine wantedFits readFits madeFits sentFits apartId apartLogin nameOf
+unfolding wellFormed setupRules setupOf ownOf validAddress setupPasses paramsOf verdictOf sizeFails zeroName loginFine usedFine flagsFine addressFine paramsFine exchangeFine wantedFits blocksFit madeFits directionFits sentFits takenFits movedFits apartId apartLogin nameOf
 sent-clauses = (refl, refl, refl, refl, refl, refl, refl, refl, refl, refl, refl, refl, refl, refl)
+
+-- "The exchange record gains a direction" (02, 2): what came of a WRITE, and where one may stand
+pub write-clauses :
+    (written (writing 0 131072 0 0) ≡ true)  -- a WRITE for which nothing was done yet
+    × (written (writing 1 131072 0 0) ≡ true)  -- its data are awaited
+    × (written (writing 1 131072 1000 0) ≡ true)  -- "the full-frame rule binds reads only": short of the total any number of bytes came
+    × (written (writing 1 131072 131071 0) ≡ true)  -- all but one
+    × (written (writing 1 131072 131072 0) ≡ false)  -- all came, and more are awaited
+    × (written (writing 0 131072 65536 0) ≡ true)  -- a whole burst came, and the next was not asked for yet
+    × (written (writing 0 131072 65535 0) ≡ false)  -- none are awaited, one byte short of it
+    × (written (writing 0 131072 131072 0) ≡ true)  -- all came
+    × (written (writing 0 131072 131071 0) ≡ false)  -- none are awaited, one byte short of all
+    × (written (writing 0 100000 100000 0) ≡ true)  -- all that FCP_DL lets come
+    × (written (writing 1 100000 100000 0) ≡ false)  -- the total is "the smaller of wanted and FCP_DL"
+    × (written (writing 0 131072 196608 0) ≡ false)  -- "bytes sent at most its total": a burst more
+    × (written (writing 2 131072 0 0) ≡ false)  -- awaited is 0 or 1
+    × (written (writing 0 131072 0 1) ≡ false)  -- the drive sends no data frame of a WRITE
+    × (written (writing 0 131072 131072 2) ≡ false)  -- nor is the count that of the frames that came
+    × (onto 0 (writing 0 131072 0 0) ≡ false)  -- "WRITE(10) on units whose setup allows it"
+    × (written (directed 2 0 1 0x1234 10 4 2048 2048 512 2) ≡ false)  -- there is no third direction
+    × (written (directed 1 0 2 0x1234 0 0 36 36 0 0) ≡ false)  -- of INQUIRY no data come from the host
+    × (written (directed 1 0 4 0x1234 0 0 8 8 0 0) ≡ false)  -- nor of READ CAPACITY
+    × (written (directed 1 0 8 0x1234 0 0 18 18 0 0) ≡ false)  -- nor of REQUEST SENSE
+    × (written (directed 1 0 1 0x1234 999 1 512 512 0 0) ≡ true)  -- the last block
+    × (written (directed 1 0 1 0x1234 999 2 1024 1024 0 0) ≡ false)  -- "address plus count above it" of a WRITE
+    × (written (directed 0 0 1 0x1234 10 4 2048 2048 512 2) ≡ true)  -- a READ
+    × (written (directed 0 1 1 0x1234 10 4 2048 2048 512 2) ≡ false)  -- no data are awaited of it
+    × (written (directed 0 1 2 0x1234 0 0 36 36 0 0) ≡ false)  -- nor of INQUIRY
+unfolding wellFormed setupRules setupOf ownOf validAddress setupPasses paramsOf verdictOf sizeFails zeroName loginFine usedFine flagsFine addressFine paramsFine exchangeFine wantedFits blocksFit madeFits directionFits sentFits takenFits movedFits apartId apartLogin nameOf
+write-clauses = (refl, refl, refl, refl, refl, refl, refl, refl, refl, refl, refl, refl, refl, refl, refl, refl, refl, refl, refl, refl, refl, refl, refl, refl, refl)

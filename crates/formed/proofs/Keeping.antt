@@ -20,7 +20,7 @@ use Rattle.state.specs.declared.Change.{Change}
 use Rattle.state.specs.declared.Change.the-variants.{Keep, EndAll, EndLogin, EndHost, Unprove, EndUnproven, EndExchangesOf, Reset, Clear}
 use Rattle.state.specs.Changes.{emptyExchange, emptyLogin, isUsed, loginAt, exchangeAt, withLogin, withState, withProven, withPaired, withAttention, withPlaces, withExchange, withoutExchanges, hasAddress, hasName, isHost, freedOf, endedOf, hostEnded, unproven, verified, abortedOf, resetOf, losesTo, clearedBy, changedOf, changedAll, isClosed, ownOf}
 use Rattle.state.specs.Tables.{isFree, hasId, findExchange}
-use Rattle.formed.specs.Formed.{fullFrame, openable, sentFits, exchangeFine, apartId, paramsFine, flagsFine, addressFine, loginFine, apartLogin, wellFormed}
+use Rattle.formed.specs.Formed.{fullFrame, openable, movedFits, exchangeFine, apartId, paramsFine, flagsFine, addressFine, loginFine, apartLogin, wellFormed}
 use Rattle.formed.proofs.Parts.{Used, fine-used, used-fine, Formed, formed-parts, formed-whole}
 
 module _ {u : Unit} {own : ℕ} where
@@ -73,7 +73,7 @@ pair-open false false o s e = apart e refl
 
 pair-step : (u : Unit) (full paired : ℕ) (e : Exchange) → exchangeFine u full paired e ≡ true → exchangeFine u full 1 e ≡ true
 unfolding exchangeFine
-pair-step u full paired e h = pair-open (isClosed e) (eqb paired 1) (openable u e) (sentFits full e) h
+pair-step u full paired e h = pair-open (isClosed e) (eqb paired 1) (openable u e) (movedFits full e) h
 
 closed-fine : (u : Unit) (full paired : ℕ) → exchangeFine u full paired emptyExchange ≡ true
 unfolding exchangeFine

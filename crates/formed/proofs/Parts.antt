@@ -1,14 +1,25 @@
 -- The parts of the rule, each by its name: taken out of the whole, and put together again. Assumes nothing.
 use mathlib.Core.Path.{_≡_}
-use mathlib.Core.Bool.{true, _&&_}
-use Prim.Native.Nat.{ℕ}
+use mathlib.Core.Bool.{true, false, _&&_, and-false}
+use Prim.Native.Nat.{ℕ, _<_}
+use lib.Dec.{leb}
+use borrow.Author.Tests.{lt-leb}
 use Rattle.tables.specs.Lists.{all, pairs}
 use Rattle.tables.proofs.Bools.{and-left, and-right}
+use Rattle.address.specs.Address.{validAddress}
+use Rattle.params.specs.Words.{paramsOf, setupPasses}
 use Rattle.state.specs.declared.Login.{Login}
 use Rattle.state.specs.declared.Port.{Port}
+use Rattle.state.specs.declared.Setup.{Setup}
 use Rattle.state.specs.declared.Unit.{Unit}
 use Rattle.state.specs.Changes.{isUsed, ownOf}
 use Rattle.formed.specs.Formed.{setupRules, setupOf, fullFrame, exchangeFine, apartId, paramsFine, flagsFine, addressFine, usedFine, loginFine, apartLogin, wellFormed}
+
+-- whether a unit may be written is 0 or 1
+pub setup-flag : (s : Setup) → 1 < s .writable → setupRules s ≡ false
+unfolding setupRules
+setup-flag s h =
+    rw (lt-leb (s .writable) 1 h) (and-false (leb 1 (s .capacity) && leb (s .capacity) 4294967295 && validAddress (s .address) && setupPasses (paramsOf (s .accept) 0)))
 
 -- what is asked of a login that is used
 pub record Used (u : Unit) (own : ℕ) (l : Login) : Type 0 where

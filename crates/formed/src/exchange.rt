@@ -11,7 +11,7 @@ ghost use Prim.Native.Nat.{_≤_, _<_};
 ghost use mathlib.Core.Bool.{_&&_};
 ghost use mathlib.Core.List.{map};
 ghost use lib.Dec.{leb};
-ghost use Rattle.formed.specs.Formed.{fullFrame, total, readFits, madeFits, wantedFits, sentFits, exchangeFine};
+ghost use Rattle.formed.specs.Formed.{fullFrame, total, blocksFit, madeFits, directionFits, wantedFits, sentFits, takenFits, movedFits, exchangeFine};
 ghost use Rattle.formed.specs.Keys.{exchangeKey};
 
 // The bytes of a full data frame to a login of this W18 size.
@@ -36,14 +36,14 @@ pub fn total_of(e: Exchange) -> u32
     }
 }
 
-fn read_fits(u: Unit, e: Exchange) -> bool
-    ensures { λ r. ⌜ r ≡ readFits u e ⌝ }
+fn blocks_fit(u: Unit, e: Exchange) -> bool
+    ensures { λ r. ⌜ r ≡ blocksFit u e ⌝ }
 {
     let blocks = e.blocks as u64;
     if blocks < 1 {
         return false;
     }
-    if Exchange::MOST_READ < blocks {
+    if Exchange::MOST_BLOCKS < blocks {
         return false;
     }
     if e.wanted as u64 != 512 * blocks {
@@ -51,6 +51,23 @@ fn read_fits(u: Unit, e: Exchange) -> bool
     }
     if e.start < u.capacity {
         blocks <= u.capacity - e.start
+    } else {
+        false
+    }
+}
+
+// Data come from the host only of blocks, and where the unit may be written.
+fn direction_fits(u: Unit, e: Exchange) -> bool
+    ensures { λ r. ⌜ r ≡ directionFits u e ⌝ }
+{
+    if e.direction == Exchange::TO_HOST {
+        return true;
+    }
+    if e.direction != Exchange::FROM_HOST {
+        return false;
+    }
+    if e.kind == Exchange::BLOCKS {
+        u.writable == 1
     } else {
         false
     }
@@ -81,8 +98,8 @@ fn made_fits(e: Exchange) -> bool
 fn wanted_fits(u: Unit, e: Exchange) -> bool
     ensures { λ r. ⌜ r ≡ wantedFits u e ⌝ }
 {
-    if e.kind == Exchange::READ {
-        read_fits(u, e)
+    if e.kind == Exchange::BLOCKS {
+        blocks_fit(u, e)
     } else {
         made_fits(e)
     }
@@ -115,6 +132,45 @@ fn sent_fits(full: u32, e: Exchange) -> bool
     }
 }
 
+// Of a WRITE: what the host sent, and whether data are awaited.
+fn taken_fits(e: Exchange) -> bool
+    ensures { λ r. ⌜ r ≡ takenFits e ⌝ }
+{
+    let all = total_of(e);
+    if all < e.sent {
+        return false;
+    }
+    if e.count != 0 {
+        return false;
+    }
+    if e.awaited == 1 {
+        return e.sent < all;
+    }
+    if e.awaited != 0 {
+        return false;
+    }
+    if e.sent == all {
+        true
+    } else {
+        e.sent % Exchange::MOST_BURST == 0
+    }
+}
+
+// What was sent so far, by the host of a WRITE, else by the drive.
+fn moved_fits(full: u32, e: Exchange) -> bool
+    requires { ⌜ (0 < full) × (full ≤ 2048) ⌝ }
+    ensures { λ r. ⌜ r ≡ movedFits full e ⌝ }
+{
+    if e.direction == Exchange::FROM_HOST {
+        return taken_fits(e);
+    }
+    if e.awaited == 0 {
+        sent_fits(full, e)
+    } else {
+        false
+    }
+}
+
 fn exchange_fine(u: Unit, full: u32, paired: u8, e: Exchange) -> bool
     requires { ⌜ (0 < full) × (full ≤ 2048) ⌝ }
     ensures { λ r. ⌜ r ≡ exchangeFine u full paired e ⌝ }
@@ -129,7 +185,11 @@ fn exchange_fine(u: Unit, full: u32, paired: u8, e: Exchange) -> bool
         return false;
     }
     if wanted_fits(u, e) {
-        sent_fits(full, e)
+        if direction_fits(u, e) {
+            moved_fits(full, e)
+        } else {
+            false
+        }
     } else {
         false
     }

@@ -39,6 +39,9 @@ pub fn setup_rules(s: Setup) -> bool
     if Setup::MOST_BLOCKS < s.capacity {
         return false;
     }
+    if 1 < s.writable {
+        return false;
+    }
     if valid_address(s.address) {
         Params::read(&accept, 0).pass_setup()
     } else {
@@ -57,6 +60,7 @@ pub fn setup_of(u: Unit, o: Own) -> Setup
         address: o.address,
         identity: identity,
         accept: accept,
+        writable: u.writable,
     }
 }
 

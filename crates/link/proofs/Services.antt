@@ -45,6 +45,7 @@ AfterPlogi q reply.AbortAccept r = ⊥
 AfterPlogi q reply.AbortReject r = ⊥
 AfterPlogi q (reply.Respond x) r = ⊥
 AfterPlogi q (reply.Data x) r = ⊥
+AfterPlogi q (reply.Ready x y) r = ⊥
 
 -- after LOGO: ACC, and the record is `out`; LS_RJT, and it is the old one; there is no other reply
 abbrev pub AfterLogo : Record → Reply → Record → Type 0
@@ -56,6 +57,7 @@ AfterLogo o reply.AbortAccept r = ⊥
 AfterLogo o reply.AbortReject r = ⊥
 AfterLogo o (reply.Respond x) r = ⊥
 AfterLogo o (reply.Data x) r = ⊥
+AfterLogo o (reply.Ready x y) r = ⊥
 
 -- after a service on a login: ACC, and the record is g of the old one; LS_RJT, and it is the old one; a drive LOGO, and it is `out`; there is no other reply
 abbrev pub AfterService : (Record → Record) → Record → Reply → Record → Type 0
@@ -67,6 +69,7 @@ AfterService g o reply.AbortAccept r = ⊥
 AfterService g o reply.AbortReject r = ⊥
 AfterService g o (reply.Respond x) r = ⊥
 AfterService g o (reply.Data x) r = ⊥
+AfterService g o (reply.Ready x y) r = ⊥
 
 -- after ABTS the record is the old one; a drive LOGO where that is `out`, BA_ACC or BA_RJT where it is not; there is no other reply
 abbrev pub AfterAbort : Record → Reply → Type 0
@@ -78,6 +81,7 @@ AfterAbort o reply.AbortAccept = o ≡ out → ⊥
 AfterAbort o reply.AbortReject = o ≡ out → ⊥
 AfterAbort o (reply.Respond x) = ⊥
 AfterAbort o (reply.Data x) = ⊥
+AfterAbort o (reply.Ready x y) = ⊥
 
 -- PLOGI
 pub new-has : (a : ℕ) (q : Params) → hasAddress a (newLogin a q) ≡ true

@@ -1,16 +1,19 @@
 // The drive on a pipe: takes calls from standard input and writes an answer for each to standard output.
 // A record is a letter, a length of four bytes and a body of that length; numbers are big-endian:
-//   S  makes a drive: capacity (8 bytes), own address (4), identity (28), accept words (112)
+//   S  makes a drive: capacity (8 bytes), own address (4), identity (28), accept words (112), 1 where hosts may write, else 0 (1)
 //   F  a frame in: room of the reply buffer (2, at most 4,096), the frame
+//   D  a frame in, with a window: room (2), starting block of the window (8), length of the frame (2), the frame, the window
 //   N  the next frame out: address (4), OX_ID (2), room (2), starting block of the window (8), the window
 //   E  an event: 1 loop reset, 2 verification time over, 3 power on (1 byte)
 // An answer is the refusal's number (1 byte, 0 where it was answered), the reply's length (2 bytes), the reply, and one byte:
 // 1 where every byte of the lent buffer after the reply (after a refusal every byte) still holds the 5Ah it was lent with, else 0.
+// After that of a D stand all bytes of its window as they are after the call, after a refusal too.
 // What is no call is answered with 255. A record that is cut has no answer and ends the program.
 // Where it cannot go on it says so on standard error, with the record's number.
 use libc::STDERR_FILENO;
 use libc::STDOUT_FILENO;
 use recording::Line;
+use recording::rest_of;
 use recording::start;
 use recording::tell;
 use saying::End;
@@ -31,8 +34,9 @@ fn main() {
             return;
         }
         let len = r.len;
-        let t = tell(s, r.letter, &body[..len]);
-        if !say(t.line) {
+        let from = rest_of(s, r.letter, &body[..len]);
+        let t = tell(s, r.letter, &mut body[..len]);
+        if !say(t.line, &body[from..len]) {
             stop(number, End::Unwritten);
             return;
         }
@@ -40,13 +44,17 @@ fn main() {
     }
 }
 
-// Writes the answer at once, and answers whether it was taken.
-fn say(l: Line) -> bool
+// Writes the answer and what follows it at once, and answers whether they were taken.
+fn say(l: Line, rest: &[u8]) -> bool
     requires { ⌜ Counts (l .len) (l .bytes) ⌝ }
 {
     let bytes = l.bytes;
     let len = l.len;
-    io::write_all(STDOUT_FILENO, &bytes[..len])
+    if io::write_all(STDOUT_FILENO, &bytes[..len]) {
+        io::write_all(STDOUT_FILENO, rest)
+    } else {
+        false
+    }
 }
 
 // Says why it ends, unless its input is over.

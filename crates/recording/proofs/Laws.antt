@@ -75,6 +75,14 @@ length-fill : (room : ℕ) → length (fill room) ≡ room
 unfolding fill
 length-fill room = length-replicate room 0x5a
 
+-- the room that is lent is there
+pub lent-long : (room : ℕ) (space : List ℕ) → room ≤ 4096 → 4096 ≡ length space → length (take room space) ≡ room
+lent-long room space h e = length-take-le room space (omega arith)
+
+-- what goes by the bytes that are lent goes by the room
+pub by-room : (g : ℕ → List ℕ) (room : ℕ) (space y : List ℕ) → room ≤ 4096 → 4096 ≡ length space → y ≡ g (length (take room space)) → y ≡ g room
+by-room g room space y h e t = t ∙ ap g (lent-long room space h e)
+
 -- the buffer, once y has come back for its first bytes, still has as many
 pub lent-fits : (room : ℕ) (space y : List ℕ) → room ≤ 4096 → 4096 ≡ length space → length y ≡ length (take room space) → room ≤ length (y ++ drop room space)
 lent-fits room space y h e same =

@@ -18,7 +18,9 @@ use wire::put_front;
 ghost use mathlib.Core.Path.{_≡_};
 ghost use Prim.Native.Nat.{_≤_};
 ghost use lib.ListN.{length};
-ghost use Rattle.recording.specs.Calls.{unmade, setupIn, noCall, madeBy, fill, toldAnswer, handed, asked, happened, setupCall, frameCall, nextCall, eventCall, toldBy, ToldIs};
+ghost use Rattle.drive.specs.Entry.{frameInWindow};
+ghost use Rattle.wire.specs.Bytes.{num};
+ghost use Rattle.recording.specs.Calls.{unmade, setupIn, noCall, madeBy, fill, toldAnswer, handed, asked, happened, setupCall, frameCall, nextCall, eventCall, readBy, windowFrom, isDataCall, dataCall, dataAfter, toldBy, bodyAfter, restOf, ToldIs};
 
 // The drive of a session, once one was made; until then the drive that is all zeros.
 pub struct Session {
@@ -49,9 +51,33 @@ pub fn start() -> Session
     }
 }
 
-// The record of a letter and a body: S makes a drive, F hands it a frame, N asks it for the next one, E tells it of an event; any other is no call.
-pub fn tell(s: Session, letter: u8, body: &[u8]) -> Told
+// The record of a letter and a body: S makes a drive, F hands it a frame, D a frame and a window, N asks it for the next one, E tells it of an event; any other is no call.
+// Of the body only the window of D may change.
+pub fn tell(s: Session, letter: u8, body: &mut [u8]) -> Told
     ensures { λ r. ⌜ ToldIs (toldBy s letter (now (body .entry))) r ⌝ }
+    ensures { λ _. ⌜ now (body .exit) ≡ bodyAfter s letter (now (body .entry)) ⌝ }
+{
+    if is_data_call(s, letter, body) {
+        tell_data(s, body)
+    } else {
+        tell_read(s, letter, body)
+    }
+}
+
+// From where on the body, after the call, follows the answer: of D the window, of any other nothing.
+pub fn rest_of(s: Session, letter: u8, body: &[u8]) -> usize
+    ensures { λ r. ⌜ (r ≡ restOf s letter (now (body .entry))) × (r ≤ length (now (body .entry))) ⌝ }
+{
+    if is_data_call(s, letter, body) {
+        window_from(body)
+    } else {
+        body.len()
+    }
+}
+
+// The letters whose body is only read.
+fn tell_read(s: Session, letter: u8, body: &[u8]) -> Told
+    ensures { λ r. ⌜ ToldIs (readBy s letter (now (body .entry))) r ⌝ }
 {
     match letter {
         b'S' => tell_setup(s, body),
@@ -77,10 +103,10 @@ pub fn no_call(s: Session) -> Told
 fn tell_setup(s: Session, body: &[u8]) -> Told
     ensures { λ r. ⌜ ToldIs (setupCall s (now (body .entry))) r ⌝ }
 {
-    if body.len() < 152 {
+    if body.len() < 153 {
         return no_call(s);
     }
-    made(s, Drive::new(setup_in(&body[..152])))
+    made(s, Drive::new(setup_in(&body[..153])))
 }
 
 fn tell_frame(s: Session, body: &[u8]) -> Told
@@ -94,10 +120,57 @@ fn tell_frame(s: Session, body: &[u8]) -> Told
         return no_call(s);
     }
     if s.made {
-        hand_frame(s, room, &body[2..])
+        let mut none = [0u8; 0];
+        hand_frame(s, room, &body[2..], 0, &mut none)
     } else {
         no_call(s)
     }
+}
+
+// Whether a record is a call of D: what stands before its window is there, its room is none over 4,096, and a drive was made.
+fn is_data_call(s: Session, letter: u8, body: &[u8]) -> bool
+    ensures { λ r. ⌜ r ≡ isDataCall s letter (now (body .entry)) ⌝ }
+{
+    if letter != b'D' {
+        return false;
+    }
+    if body.len() < 12 {
+        return false;
+    }
+    if be16(body, 0) > 4096 {
+        return false;
+    }
+    if window_from(body) > body.len() {
+        return false;
+    }
+    s.made
+}
+
+// Where the window of a D begins.
+fn window_from(body: &[u8]) -> usize
+    ensures { λ r. ⌜ r ≡ windowFrom (now (body .entry)) ⌝ }
+{
+    12 + be16(body, 10) as usize
+}
+
+// A call of D. The frame is copied, since it and the window are parts of one lent slice.
+fn tell_data(s: Session, body: &mut [u8]) -> Told
+    requires { ⌜ windowFrom (now body) ≤ length (now body) ⌝ }
+    requires { ⌜ num 2 (now body) 0 ≤ 4096 ⌝ }
+    ensures { λ r. ⌜ ToldIs (dataCall s (now (body .entry))) r ⌝ }
+    ensures { λ _. ⌜ now (body .exit) ≡ dataAfter s (now (body .entry)) ⌝ }
+{
+    let n = be16(body, 10) as usize;
+    let at = 12 + n;
+    let mut frame = [0u8; 65535];
+    put_front(&mut frame, &body[12..at]);
+    hand_frame(
+        s,
+        be16(body, 0) as usize,
+        &frame[..n],
+        be64(body, 2),
+        &mut body[at..],
+    )
 }
 
 fn tell_next(s: Session, body: &[u8]) -> Told
@@ -165,14 +238,15 @@ fn made(s: Session, a: Answer) -> Told
     }
 }
 
-// A frame in, with this room for the reply.
-fn hand_frame(s: Session, room: usize, frame: &[u8]) -> Told
+// A frame in, with this room for the reply and a window that starts at a block.
+fn hand_frame(s: Session, room: usize, frame: &[u8], start: u64, window: &mut [u8]) -> Told
     requires { ⌜ room ≤ 4096 ⌝ }
-    ensures { λ r. ⌜ ToldIs (handed s room (now (frame .entry))) r ⌝ }
+    ensures { λ r. ⌜ ToldIs (handed s room (now (frame .entry)) start (now (window .entry))) r ⌝ }
+    ensures { λ _. ⌜ now (window .exit) ≡ frameInWindow (s .drive) (now (frame .entry)) start (now (window .entry)) room ⌝ }
 {
     let d = s.drive;
     let mut space = filled();
-    let a = d.frame_in(frame, &mut space[..room]);
+    let a = d.frame_in(frame, start, window, &mut space[..room]);
     answered(s, a, &space[..room])
 }
 
@@ -219,19 +293,20 @@ fn answered(s: Session, a: Answer, lent: &[u8]) -> Told
     }
 }
 
-// The setup of a body of 152 bytes.
+// The setup of a body of 153 bytes.
 fn setup_in(body: &[u8]) -> Setup
-    requires { ⌜ length (now body) ≡ 152 ⌝ }
+    requires { ⌜ length (now body) ≡ 153 ⌝ }
     ensures { λ r. ⌜ r ≡ setupIn (now (body .entry)) ⌝ }
 {
     let mut identity = [0u8; 28];
     put_front(&mut identity, &body[12..40]);
     let mut accept = [0u8; 112];
-    put_front(&mut accept, &body[40..]);
+    put_front(&mut accept, &body[40..152]);
     Setup {
         capacity: be64(body, 0),
         address: be32(body, 8),
         identity: identity,
         accept: accept,
+        writable: byte_at(body, 152),
     }
 }

@@ -2,11 +2,11 @@
 use Prim.Native.Nat.{_≤_, _<_}
 use native.Mathlib.Omega.{arith}
 use Rattle.refusal.specs.declared.Refusal.{Refusal}
-use Rattle.refusal.specs.declared.Refusal.the-variants.{ShortBuffer, IllFormed, BadSize, NotOurs, BadSource, UnknownForm, Unproven, BadSetup, NoExchange, BadWindow}
+use Rattle.refusal.specs.declared.Refusal.the-variants.{ShortBuffer, IllFormed, BadSize, NotOurs, BadSource, UnknownForm, Unproven, BadSetup, NoExchange, BadWindow, NoWrite}
 use Rattle.refusal.specs.Refusal.{numberOf}
 
--- the numbers are 1 to 10
-pub numbers : (x : Refusal) → (0 < numberOf x) × (numberOf x ≤ 10)
+-- the numbers are 1 to 11
+pub numbers : (x : Refusal) → (0 < numberOf x) × (numberOf x ≤ 11)
 numbers ShortBuffer = (omega arith, omega arith)
 numbers IllFormed = (omega arith, omega arith)
 numbers BadSize = (omega arith, omega arith)
@@ -17,3 +17,4 @@ numbers Unproven = (omega arith, omega arith)
 numbers BadSetup = (omega arith, omega arith)
 numbers NoExchange = (omega arith, omega arith)
 numbers BadWindow = (omega arith, omega arith)
+numbers NoWrite = (omega arith, omega arith)

@@ -1,8 +1,8 @@
--- The refusals: their numbers, and the order in which each entry tests them (document 01, "Numbers returned for refused calls").
+-- The refusals: their numbers, and the order in which each entry tests them (document 01, "Numbers returned for refused calls"; document 02, request 2).
 use Prim.Native.Nat.{ℕ}
 use mathlib.Core.List.{List, [], _∷_}
 use Rattle.refusal.specs.declared.Refusal.{Refusal}
-use Rattle.refusal.specs.declared.Refusal.the-variants.{ShortBuffer, IllFormed, BadSize, NotOurs, BadSource, UnknownForm, Unproven, BadSetup, NoExchange, BadWindow}
+use Rattle.refusal.specs.declared.Refusal.the-variants.{ShortBuffer, IllFormed, BadSize, NotOurs, BadSource, UnknownForm, Unproven, BadSetup, NoExchange, BadWindow, NoWrite}
 
 -- the table, line by line
 abbrev pub numberOf : Refusal → ℕ
@@ -16,10 +16,11 @@ numberOf Unproven = 7
 numberOf BadSetup = 8
 numberOf NoExchange = 9
 numberOf BadWindow = 10
+numberOf NoWrite = 11
 
--- "Frame in: 1 to 7 in order."
+-- "Frame in: 1 to 7 in order." "11, data frame for no open write, after 7; then 10 for its window" (02, 2).
 abbrev pub frameOrder : List Refusal
-frameOrder = ShortBuffer ∷ IllFormed ∷ BadSize ∷ NotOurs ∷ BadSource ∷ UnknownForm ∷ Unproven ∷ []
+frameOrder = ShortBuffer ∷ IllFormed ∷ BadSize ∷ NotOurs ∷ BadSource ∷ UnknownForm ∷ Unproven ∷ NoWrite ∷ BadWindow ∷ []
 
 -- "Next frame out: 1, 2, 9, 7, 10."
 abbrev pub nextOrder : List Refusal

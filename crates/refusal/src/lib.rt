@@ -14,6 +14,7 @@ pub enum Refusal {
     BadSetup,
     NoExchange,
     BadWindow,
+    NoWrite,
 }
 
 // What a call answers: the bytes of its reply, 0 for nothing to send, or the refusal.
@@ -37,6 +38,7 @@ impl Refusal {
             Refusal::BadSetup => 8,
             Refusal::NoExchange => 9,
             Refusal::BadWindow => 10,
+            Refusal::NoWrite => 11,
         }
     }
 }

@@ -13,7 +13,7 @@ use Rattle.reply.specs.declared.Sense.{Sense}
 use Rattle.reply.specs.declared.Response.{Response}
 use Rattle.reply.specs.declared.Response.the-variants.{Code, Status, Check}
 use Rattle.reply.specs.declared.Reply.{Reply}
-use Rattle.reply.specs.declared.Reply.the-variants.{Nothing, Accept, Reject, Logout, AbortAccept, AbortReject, Respond, Data}
+use Rattle.reply.specs.declared.Reply.the-variants.{Nothing, Accept, Reject, Logout, AbortAccept, AbortReject, Respond, Data, Ready}
 
 -- "ACC of 4 bytes"
 unfoldable pub shortBytes : List ℕ
@@ -97,6 +97,10 @@ responseBytes (Check s r) = statusBytes (0x02 + residualFlag r) 0x02 (residualSi
 abbrev pub dataBytes : ℕ → List ℕ → List ℕ
 dataBytes size source = take (min size 2048) source
 
+-- "FCP_XFER_RDY (.., 12 bytes: offset, burst, zero)" (02, 2)
+unfoldable pub readyBytes : ℕ → ℕ → List ℕ
+readyBytes offset burst = bytes 4 offset ++ bytes 4 burst ++ bytes 4 0
+
 -- the payload of a reply to the frame with header h, its data taken from the source
 abbrev pub payloadOf : Own → Header → Reply → List ℕ → List ℕ
 payloadOf o h Nothing source = []
@@ -107,3 +111,4 @@ payloadOf o h AbortAccept source = abortAcceptBytes (h .«ox_id»)
 payloadOf o h AbortReject source = abortRejectBytes
 payloadOf o h (Respond x) source = responseBytes x
 payloadOf o h (Data d) source = dataBytes (d .size) source
+payloadOf o h (Ready offset burst) source = readyBytes offset burst

@@ -10,7 +10,7 @@ use Rattle.frame.specs.Head.{headerBytes}
 use Rattle.state.specs.declared.Own.{Own}
 use Rattle.reply.specs.declared.DataFrame.{DataFrame}
 use Rattle.reply.specs.declared.Reply.{Reply}
-use Rattle.reply.specs.declared.Reply.the-variants.{Nothing, Accept, Reject, Logout, AbortAccept, AbortReject, Respond, Data}
+use Rattle.reply.specs.declared.Reply.the-variants.{Nothing, Accept, Reject, Logout, AbortAccept, AbortReject, Respond, Data, Ready}
 use Rattle.reply.specs.Payload.{payloadOf}
 
 -- R_CTL, TYPE, F_CTL, SEQ_ID, SEQ_CNT, OX_ID and OFFSET as given; "addresses swapped, .. RX_ID FFFFh, the rest 0"
@@ -43,7 +43,7 @@ logoutHead h = swapped h 0x22 0x01 0x290000 0x00 0 (h .«s_id» % 65536) 0
 unfoldable pub dataHead : Header → DataFrame → ℕ → Header
 dataHead h d fill = swapped h 0x01 0x08 (cond (d .last) 0x880008 0x800008 + fill) 0x01 (d .count) (h .«ox_id») (d .offset)
 
--- the table of reply headers; "FCP frames add the fill count to F_CTL"
+-- the table of reply headers; "FCP frames add the fill count to F_CTL"; "FCP_XFER_RDY (R_CTL 05h, F_CTL 890000, ..)" (02, 2)
 abbrev pub headOf : Header → Reply → ℕ → Header
 headOf h Nothing fill = answerHead h 0x23 0x01 0x990000 0xff
 headOf h (Accept a) fill = answerHead h 0x23 0x01 0x990000 0xff
@@ -53,6 +53,7 @@ headOf h AbortAccept fill = answerHead h 0x84 0x00 0x990000 (h .«seq_id»)
 headOf h AbortReject fill = answerHead h 0x85 0x00 0x990000 (h .«seq_id»)
 headOf h (Respond x) fill = answerHead h 0x07 0x08 (0x990000 + fill) 0x00
 headOf h (Data d) fill = dataHead h d fill
+headOf h (Ready offset burst) fill = answerHead h 0x05 0x08 (0x890000 + fill) 0x00
 
 -- "Payloads are filled with zeros to a multiple of 4"
 unfoldable pub filled : List ℕ → List ℕ
@@ -68,6 +69,7 @@ silent AbortAccept = false
 silent AbortReject = false
 silent (Respond x) = false
 silent (Data d) = false
+silent (Ready offset burst) = false
 
 -- every byte of a reply
 unfoldable pub bytesOf : Own → Header → Reply → List ℕ → List ℕ

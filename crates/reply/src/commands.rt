@@ -1,4 +1,4 @@
-// The payload of FCP_DATA and of FCP_RSP, and sense (document 01, "Commands").
+// The payload of FCP_DATA, FCP_XFER_RDY and FCP_RSP, and sense (document 01, "Commands").
 use crate::Residual;
 use crate::Response;
 use crate::Sense;
@@ -10,7 +10,7 @@ ghost use mathlib.Core.Path.{_≡_};
 ghost use Prim.Native.Nat.{_≤_, _<_};
 ghost use lib.ListN.{length};
 ghost use Rattle.wire.specs.Bytes.{Wrote};
-ghost use Rattle.reply.specs.Payload.{residualFlag, residualSize, statusBytes, senseWith, senseBytes, responseBytes, dataBytes};
+ghost use Rattle.reply.specs.Payload.{residualFlag, residualSize, statusBytes, senseWith, senseBytes, responseBytes, dataBytes, readyBytes};
 
 // Sense of this key and code; what a drive tells has no qualifier and no information.
 pub fn sense_with(key: u8, code: u8) -> Sense
@@ -61,6 +61,17 @@ pub(crate) fn put_data(size: u16, source: &[u8], out: &mut [u8]) -> usize
     let n = least(least(size as usize, Header::MOST_DATA), source.len());
     put_front(out, &source[..n]);
     n
+}
+
+// FCP_XFER_RDY: offset, burst and a zero word.
+pub(crate) fn put_ready(offset: u32, burst: u32, out: &mut [u8]) -> usize
+    ensures { λ n. ⌜ Wrote (readyBytes offset burst) (now (out .entry)) (now (out .exit)) n 2048 ⌝ }
+{
+    let o = bytes4(offset);
+    let b = bytes4(burst);
+    let all = [o[0], o[1], o[2], o[3], b[0], b[1], b[2], b[3], 0, 0, 0, 0];
+    put_front(out, &all);
+    12
 }
 
 pub(crate) fn put_response(x: Response, out: &mut [u8]) -> usize

@@ -23,6 +23,7 @@ pub(crate) fn reply_head(h: Header, r: Reply, fill: usize) -> Header
         Reply::AbortReject => answer_head(h, 0x85, 0x00, 0x990000, seq),
         Reply::Respond(_) => answer_head(h, 0x07, 0x08, 0x990000 + n, 0x00),
         Reply::Data(d) => data_head(h, d, n),
+        Reply::Ready(_, _) => answer_head(h, 0x05, 0x08, 0x890000 + n, 0x00),
     }
 }
 

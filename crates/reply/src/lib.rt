@@ -4,6 +4,7 @@ mod heads;
 mod services;
 
 use commands::put_data;
+use commands::put_ready;
 use commands::put_response;
 pub use commands::put_sense;
 pub use commands::sense_with;
@@ -75,6 +76,8 @@ pub enum Reply {
     AbortReject,
     Respond(Response),
     Data(DataFrame),
+    // FCP_XFER_RDY: the offset of the bytes that are asked for, and how many
+    Ready(u32, u32),
 }
 
 // The bytes of a payload, and of the zeros after it.
@@ -121,6 +124,7 @@ fn is_silent(r: Reply) -> bool
         Reply::AbortReject => false,
         Reply::Respond(_) => false,
         Reply::Data(_) => false,
+        Reply::Ready(_, _) => false,
     }
 }
 
@@ -154,5 +158,6 @@ fn put_payload(o: Own, h: Header, r: Reply, source: &[u8], out: &mut [u8]) -> us
         Reply::AbortReject => put_abort_reject(out),
         Reply::Respond(x) => put_response(x, out),
         Reply::Data(d) => put_data(d.size, source, out),
+        Reply::Ready(offset, burst) => put_ready(offset, burst, out),
     }
 }

@@ -1,6 +1,6 @@
--- Every open exchange of a proven login is served to its end, with windows that there are. Assumes nothing.
-use mathlib.Core.Path.{_≡_, refl, _∙_}
-use mathlib.Core.Bool.{Bool, true, false, and-false}
+-- Every open exchange of a proven login whose data go to the host is served to its end, with windows that there are. Assumes nothing.
+use mathlib.Core.Path.{_≡_, refl, ap, _∙_}
+use mathlib.Core.Bool.{Bool, true, false, not, _&&_, and-false}
 use mathlib.Core.List.{List, []}
 use Prim.Native.Nat.{ℕ, zero, suc, _+_, _-_, _*_, _/_, _%_, _≤_, _<_, min}
 use native.Mathlib.Nat.{le-refl}
@@ -16,16 +16,14 @@ use Rattle.state.specs.declared.Port.{Port}
 use Rattle.state.specs.declared.Unit.{Unit}
 use Rattle.state.specs.Standing.{Open}
 use Rattle.state.specs.Changes.{loginAt, advanced}
-use Rattle.state.specs.Kinds.{kindRead}
+use Rattle.state.specs.Kinds.{kindBlocks, isWrite}
 use Rattle.state.specs.Tables.{lookupOf}
 use Rattle.formed.specs.Formed.{total, nextBytes, wellFormed}
-use Rattle.formed.proofs.Advance.{Reads, is-read, then-sent}
-use Rattle.residual.specs.Residual.{residualOf}
-use Rattle.reply.specs.declared.Response.the-variants.{Status}
-use Rattle.reply.specs.declared.Reply.the-variants.{Respond, Data}
+use Rattle.formed.proofs.Advance.{Reads, sending, is-read, then-sent}
 use Rattle.serve.specs.Next.{hasMore, readsMore, position, placeOf, frameOf, nextReply, exchangeOf, fullOf, Frame, stepOf, nextOf}
 use Rattle.serve.specs.Whole.{piece, ends, Ends}
 use Rattle.serve.proofs.Steps.{Passed, given}
+use Rattle.serve.proofs.Asking.{sends-reply, ends-reply}
 use Rattle.serve.proofs.Keeping.{next-kept}
 use Rattle.serve.proofs.Frames.{runs, full-pos, total-small, more-left, port-is}
 use Rattle.serve.proofs.Whole.{next-open, next-exchange, next-proven}
@@ -47,29 +45,21 @@ record Placed (unit : List ℕ) (len full : ℕ) (e : Exchange) : Type 0 where
   k : ℕ
   is : placeOf full e (block e) (length (windowAt unit len e)) ≡ At k
 
-module _ (u : Unit) (unit : List ℕ) (long : length unit ≡ 512 * u .capacity) (len : ℕ) (least : 2560 ≤ len) (full : ℕ) (e : Exchange) (most : nextBytes full e ≤ 2048) (more : hasMore e ≡ true) where
-  placed-case : (b : Bool) → eqb (e .kind) kindRead ≡ b → (b ≡ true → Reads u e) → Placed unit len full e
+module _ (u : Unit) (unit : List ℕ) (long : length unit ≡ 512 * u .capacity) (len : ℕ) (least : 2560 ≤ len) (full : ℕ) (e : Exchange) (most : nextBytes full e ≤ 2048) (more : hasMore e ≡ true) (to : isWrite e ≡ false) where
+  placed-case : (b : Bool) → eqb (e .kind) kindBlocks ≡ b → (b ≡ true → Reads u e) → Placed unit len full e
   unfolding placeOf readsMore
   placed-case true h reads =
       let inside = on-unit full e u (more-left full e more) (reads refl) in
       record {
         k = e .sent % 512;
-        is = rw (h, more) (cut-covers unit (e .start) (e .sent) (nextBytes full e) len (omega arith) (rw long inside));
+        is = rw (h, to, more) (cut-covers unit (e .start) (e .sent) (nextBytes full e) len (omega arith) (rw long inside));
       }
   placed-case false h reads = record { k = e .sent; is = rw h }
 
 -- with nothing left, any window will do
 none-placed : (full : ℕ) (e : Exchange) → hasMore e ≡ false → placeOf full e 0 0 ≡ At (e .sent)
 unfolding placeOf readsMore
-none-placed full e h = rw (h, and-false (eqb (e .kind) kindRead))
-
-more-reply : (full : ℕ) (e : Exchange) → hasMore e ≡ true → nextReply full e ≡ Data (frameOf full e)
-unfolding nextReply
-more-reply full e h = rw h
-
-last-reply : (full : ℕ) (e : Exchange) → hasMore e ≡ false → nextReply full e ≡ Respond (Status 0x00 (residualOf (e .wanted) (e .expected)))
-unfolding nextReply
-last-reply full e h = rw h
+none-placed full e h = rw (h, and-false (eqb (e .kind) kindBlocks && not (isWrite e)))
 
 -- the bytes that are left grow fewer
 abbrev left : Exchange → ℕ
@@ -85,20 +75,21 @@ module _ (u : Unit) (unit : List ℕ) (long : length unit ≡ 512 * u .capacity)
     formed : wellFormed u p ≡ true
     stands : lookupOf p a x ≡ Open i j
     proven : loginAt p i .proven ≡ 1
+    to : isWrite (exchangeOf p i j) ≡ false
 
   -- nothing is left but the response
   ends-here : (p : Port) → hasMore (exchangeOf p i j) ≡ false → Ready p → Ends u unit a x p
   ends-here p more ready =
       let e = exchangeOf p i j in
       let step : Passed p a x 0 0 i j (e .sent) = record { stands = ready .stands; proven = ready .proven; short = omega arith; place = none-placed (fullOf p i) e more } in
-      record { pieces = []; response = _; after = _; run = ends 0 0 i j (e .sent) (given step) (last-reply (fullOf p i) e more); lone = refl }
+      record { pieces = []; response = _; after = _; run = ends 0 0 i j (e .sent) (given step) (ends-reply (fullOf p i) e more); lone = refl }
 
   -- the window of the next data frame
   placed : (p : Port) → hasMore (exchangeOf p i j) ≡ true → Ready p → Placed unit len (fullOf p i) (exchangeOf p i j)
   placed p more ready =
       let e = exchangeOf p i j in
-      placed-case u unit long len least (fullOf p i) e (few (loginAt p i .size) (left e)) more (eqb (e .kind) kindRead) refl
-      (λ k. is-read u e (eqb-true (e .kind) kindRead k) (runs u p a x i j (ready .formed) (ready .stands) .wanted))
+      placed-case u unit long len least (fullOf p i) e (few (loginAt p i .size) (left e)) more (ready .to) (eqb (e .kind) kindBlocks) refl
+      (λ k. is-read u e (eqb-true (e .kind) kindBlocks k) (runs u p a x i j (ready .formed) (ready .stands) .wanted))
     where
       few : (size m : ℕ) → min (min size 2048) m ≤ 2048
       few size m = omega arith
@@ -121,6 +112,7 @@ module _ (u : Unit) (unit : List ℕ) (long : length unit ≡ 512 * u .capacity)
           formed = next-kept u p a x start (cut unit start len) (ready .formed);
           stands = next-open u p a x i j (ready .stands) then more is;
           proven = next-proven u p a x i j (ready .stands) then more is ∙ ready .proven;
+          to = ap (λ e. isWrite e) (next-exchange u p a x i j (ready .stands) then more is (ready .to)) ∙ ready .to;
         }
 
     then-fewer : Ready p → left (exchangeOf then i j) < left (exchangeOf p i j)
@@ -130,16 +122,16 @@ module _ (u : Unit) (unit : List ℕ) (long : length unit ≡ 512 * u .capacity)
         let o = ready .stands in
         let pos = full-pos u p a x i j w o in
         let short = more-left (fullOf p i) e more in
-        let wrap = then-sent (fullOf p i) e pos (runs u p a x i j w o .fits) short (total-small u p a x i j w o) in
-        rw (next-exchange u p a x i j o then more (port-is u p a x start (cut unit start len) i j k step)) (fewer (fullOf p i) e pos short wrap)
+        let wrap = then-sent (fullOf p i) e pos (sending (runs u p a x i j w o) (ready .to) .fits) short (total-small u p a x i j w o) in
+        rw (next-exchange u p a x i j o then more (port-is u p a x start (cut unit start len) i j k step) (ready .to)) (fewer (fullOf p i) e pos short wrap)
 
-    then-runs : Ends u unit a x then → Ends u unit a x p
-    then-runs rest =
+    then-runs : Ready p → Ends u unit a x then → Ends u unit a x p
+    then-runs ready rest =
         record {
           pieces = _;
           response = rest .response;
           after = rest .after;
-          run = piece start len i j k (frameOf (fullOf p i) (exchangeOf p i j)) step (more-reply (fullOf p i) (exchangeOf p i j) more) (rest .run);
+          run = piece start len i j k (frameOf (fullOf p i) (exchangeOf p i j)) step (sends-reply (fullOf p i) (exchangeOf p i j) more (ready .to)) (rest .run);
           lone = rest .lone;
         }
 
@@ -151,7 +143,7 @@ module _ (u : Unit) (unit : List ℕ) (long : length unit ≡ 512 * u .capacity)
       with-place at =
           let start = block (exchangeOf p i j) in
           let step = step-given p at ready in
-          then-runs p start (at .k) more step (rest (then p start (at .k) more step) (then-ready p start (at .k) more step ready) (then-fewer p start (at .k) more step ready))
+          then-runs p start (at .k) more step ready (rest (then p start (at .k) more step) (then-ready p start (at .k) more step ready) (then-fewer p start (at .k) more step ready))
 
   comes : (fuel : ℕ) (p : Port) → left (exchangeOf p i j) ≤ fuel → Ready p → Ends u unit a x p
   comes zero p h ready = comes-next p (hasMore (exchangeOf p i j)) refl ready (λ q on l. absurd (no-fewer (left (exchangeOf q i j)) (left (exchangeOf p i j)) h l))
@@ -163,7 +155,8 @@ module _ (u : Unit) (unit : List ℕ) (long : length unit ≡ 512 * u .capacity)
       one-fewer : (m n : ℕ) → n ≤ suc fuel → m < n → m ≤ fuel
       one-fewer m n h l = omega arith
 
--- every open exchange of a proven login can be served to its end, of whatever kind it is and whatever was sent of it
-pub run-comes : (u : Unit) (unit : List ℕ) (p : Port) (a x i j : ℕ) → wellFormed u p ≡ true → length unit ≡ 512 * u .capacity → lookupOf p a x ≡ Open i j → loginAt p i .proven ≡ 1 → Ends u unit a x p
-run-comes u unit p a x i j w long o proven =
-    comes u unit long 65536 (omega arith) (omega arith) a x i j (left (exchangeOf p i j)) p (le-refl (left (exchangeOf p i j))) (record { formed = w; stands = o; proven = proven })
+-- every open exchange of a proven login whose data go to the host can be served to its end, of whatever kind it is and whatever was sent of it
+pub run-comes : (u : Unit) (unit : List ℕ) (p : Port) (a x i j : ℕ) → wellFormed u p ≡ true → length unit ≡ 512 * u .capacity → lookupOf p a x ≡ Open i j → loginAt p i .proven ≡ 1
+    → isWrite (exchangeOf p i j) ≡ false → Ends u unit a x p
+run-comes u unit p a x i j w long o proven to =
+    comes u unit long 65536 (omega arith) (omega arith) a x i j (left (exchangeOf p i j)) p (le-refl (left (exchangeOf p i j))) (record { formed = w; stands = o; proven = proven; to = to })

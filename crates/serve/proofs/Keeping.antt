@@ -10,7 +10,8 @@ use Rattle.state.specs.declared.Login.{Login}
 use Rattle.state.specs.declared.Port.{Port}
 use Rattle.state.specs.declared.Unit.{Unit}
 use Rattle.state.specs.Standing.{Open}
-use Rattle.state.specs.Changes.{emptyExchange, loginAt, exchangeAt, withExchange, advanced, isClosed}
+use Rattle.state.specs.Changes.{emptyExchange, loginAt, exchangeAt, withExchange, advanced, asked, isClosed}
+use Rattle.state.specs.Kinds.{isWrite}
 use Rattle.state.specs.Tables.{lookupOf}
 use Rattle.state.proofs.Places.{open-used, open-open}
 use Rattle.formed.specs.Formed.{fullFrame, total, nextBytes, wellFormed}
@@ -18,6 +19,7 @@ use Rattle.formed.proofs.Parts.{Used, fine-used, used-fine}
 use Rattle.formed.proofs.Sizes.{stored-size}
 use Rattle.formed.proofs.Keeping.{change-used, end-used, update-kept}
 use Rattle.formed.proofs.Advance.{advance-fine}
+use Rattle.formed.proofs.Taking.{asked-fine}
 use Rattle.serve.specs.Next.{hasMore, nextExchange, Step, Refused, Frame, stepOf, movedOn, nextAt, nextOf}
 use Rattle.serve.proofs.Steps.{passed}
 
@@ -25,13 +27,21 @@ use Rattle.serve.proofs.Steps.{passed}
 pub full-some : {u : Unit} {own : ℕ} {l : Login} → Used u own l → 0 < fullFrame (l .size)
 full-some {l = l} used = let s = stored-size l (used .params) in omega arith
 
--- the exchange one data frame on, or ended, at its place
-next-used : {u : Unit} {own : ℕ} {l : Login} (j : ℕ) (b : Bool) → hasMore (exchangeAt l j) ≡ b → isClosed (exchangeAt l j) ≡ false → Used u own l
-    → Used u own (withExchange l j (cond b (advanced (exchangeAt l j) (nextBytes (fullFrame (l .size)) (exchangeAt l j))) emptyExchange))
+-- the exchange with its data asked for, or one data frame on, at its place
+more-used : {u : Unit} {own : ℕ} {l : Login} (j : ℕ) (w : Bool) → isWrite (exchangeAt l j) ≡ w → hasMore (exchangeAt l j) ≡ true → isClosed (exchangeAt l j) ≡ false → Used u own l
+    → Used u own (withExchange l j (cond w (asked (exchangeAt l j)) (advanced (exchangeAt l j) (nextBytes (fullFrame (l .size)) (exchangeAt l j)))))
 unfolding hasMore
-next-used {u} {own} {l} j true more op used =
+more-used {u} {own} {l} j true from more op used =
     let e = exchangeAt l j in
-    change-used used j (advanced e (nextBytes (fullFrame (l .size)) e)) refl refl (advance-fine u (fullFrame (l .size)) (l .paired) e (full-some used) op (ltb-true (e .sent) (total e) more))
+    change-used used j (asked e) refl refl (asked-fine u (fullFrame (l .size)) (l .paired) e op from more)
+more-used {u} {own} {l} j false to more op used =
+    let e = exchangeAt l j in
+    change-used used j (advanced e (nextBytes (fullFrame (l .size)) e)) refl refl (advance-fine u (fullFrame (l .size)) (l .paired) e (full-some used) op to (ltb-true (e .sent) (total e) more))
+
+-- or ended
+next-used : {u : Unit} {own : ℕ} {l : Login} (j : ℕ) (b : Bool) → hasMore (exchangeAt l j) ≡ b → isClosed (exchangeAt l j) ≡ false → Used u own l
+    → Used u own (withExchange l j (cond b (cond (isWrite (exchangeAt l j)) (asked (exchangeAt l j)) (advanced (exchangeAt l j) (nextBytes (fullFrame (l .size)) (exchangeAt l j)))) emptyExchange))
+next-used {l = l} j true more op used = more-used j (isWrite (exchangeAt l j)) refl more op used
 next-used j false more op used = end-used used j
 
 -- the port after a frame

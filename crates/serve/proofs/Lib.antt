@@ -2,6 +2,7 @@ pub mod Steps
 pub mod Ways
 pub mod Turns
 pub mod Refusals
+pub mod Asking
 pub mod Keeping
 pub mod Moving
 pub mod Frames

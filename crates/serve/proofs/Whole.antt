@@ -16,12 +16,13 @@ use Rattle.state.specs.declared.Port.{Port}
 use Rattle.state.specs.declared.Unit.{Unit}
 use Rattle.state.specs.Standing.{Open}
 use Rattle.state.specs.Changes.{emptyExchange, loginAt, withLogin, withExchange, endedAt, isClosed, advanced}
-use Rattle.state.specs.Kinds.{kindRead, kindInquiryOther, kindCapacity, kindSenseOther}
+use Rattle.state.specs.Kinds.{kindBlocks, kindInquiryOther, kindCapacity, kindSenseOther, isWrite}
 use Rattle.state.specs.Tables.{hasId, lookupOf}
 use Rattle.state.proofs.Places.{open-has, exchange-stored, login-stored, lookup-same, login-twice, exchange-twice}
 use Rattle.formed.specs.Formed.{fullFrame, total, nextBytes, framesOf, wantedFits, wellFormed}
-use Rattle.formed.proofs.Advance.{Reads, is-made, sent-within, no-frames, frames-then, then-sent}
+use Rattle.formed.proofs.Advance.{Reads, sending, is-made, no-frames, frames-then, then-sent}
 use Rattle.residual.specs.Residual.{residualOf}
+use Rattle.calls.proofs.Decisions.{on-cond}
 use Rattle.reply.specs.declared.DataFrame.{DataFrame}
 use Rattle.reply.specs.declared.Response.{Response}
 use Rattle.reply.specs.declared.Response.the-variants.{Status}
@@ -31,8 +32,9 @@ use Rattle.serve.specs.Made.{inquiryBytes, capacityBytes, senseOf, madeB
 use Rattle.serve.specs.Next.{hasMore, frameOf, nextReply, nextExchange, exchangeOf, fullOf, Frame, stepOf, movedOn, nextOf}
 use Rattle.serve.specs.Whole.{StaysOpen, Piece, payloadAt, Run, piece, ends, aside, Freed, joined, InOrder, none, one, dataOf, Rest, AllFrames}
 use Rattle.serve.proofs.Steps.{passed}
+use Rattle.serve.proofs.Asking.{sends-exchange}
 use Rattle.serve.proofs.Keeping.{next-kept}
-use Rattle.serve.proofs.Frames.{runs, full-pos, total-small, is-data, is-response, more-left, none-left, next-counted, source-is, payload-is, port-is}
+use Rattle.serve.proofs.Frames.{runs, full-pos, total-small, sent-most, is-data, is-response, more-left, none-left, next-counted, source-is, payload-is, port-is}
 
 -- nothing is left but the response
 rest-none : (u : Unit) (unit : List ℕ) (full : ℕ) (e : Exchange) (r : Response) → e .sent ≡ total e → r ≡ Status 0x00 (residualOf (e .wanted) (e .expected)) → Rest u unit full e [] r
@@ -73,30 +75,32 @@ offset-is full e d h = ap (λ f. f .offset) h
 
 -- the port after one frame of an open exchange
 module _ (u : Unit) (p : Port) (a x i j : ℕ) (o : lookupOf p a x ≡ Open i j) where
-  advanced-port : hasMore (exchangeOf p i j) ≡ true → movedOn p i j ≡ withLogin p i (withExchange (loginAt p i) j (advanced (exchangeOf p i j) (nextBytes (fullOf p i) (exchangeOf p i j))))
-  unfolding movedOn nextExchange
-  advanced-port more = rw more
-
   pub ended-port : hasMore (exchangeOf p i j) ≡ false → movedOn p i j ≡ withLogin p i (endedAt (loginAt p i) j)
   unfolding movedOn nextExchange
   ended-port more = rw more
 
-  -- the exchange, one data frame on
+  -- the exchange, one data frame on or with its data asked for
   module _ (q : Port) (more : hasMore (exchangeOf p i j) ≡ true) (is : q ≡ movedOn p i j) where
     next : Exchange
-    next = advanced (exchangeOf p i j) (nextBytes (fullOf p i) (exchangeOf p i j))
+    next = nextExchange (fullOf p i) (exchangeOf p i j)
 
     is-on : q ≡ withLogin p i (withExchange (loginAt p i) j next)
-    unfolding next
-    is-on = is ∙ advanced-port more
+    unfolding next movedOn
+    is-on = is
+
+    next-has : hasId x next ≡ true
+    unfolding hasId next nextExchange
+    next-has = rw more (on-cond (λ f. hasId x f ≡ true) (isWrite (exchangeOf p i j)) (open-has p a x i j o) (open-has p a x i j o))
 
     pub next-open : lookupOf q a x ≡ Open i j
-    unfolding hasId next
-    next-open = ap (λ s. lookupOf s a x) is-on ∙ lookup-same p a x i j o next (open-has p a x i j o)
+    next-open = ap (λ s. lookupOf s a x) is-on ∙ lookup-same p a x i j o next next-has
 
-    pub next-exchange : exchangeOf q i j ≡ advanced (exchangeOf p i j) (nextBytes (fullOf p i) (exchangeOf p i j))
+    pub next-moved : exchangeOf q i j ≡ nextExchange (fullOf p i) (exchangeOf p i j)
     unfolding next
-    next-exchange = ap (λ s. exchangeOf s i j) is-on ∙ exchange-stored p a x i j o next
+    next-moved = ap (λ s. exchangeOf s i j) is-on ∙ exchange-stored p a x i j o next
+
+    pub next-exchange : isWrite (exchangeOf p i j) ≡ false → exchangeOf q i j ≡ advanced (exchangeOf p i j) (nextBytes (fullOf p i) (exchangeOf p i j))
+    next-exchange to = next-moved ∙ sends-exchange (fullOf p i) (exchangeOf p i j) more to
 
     next-login : loginAt q i ≡ withExchange (loginAt p i) j next
     next-login = ap (λ s. loginAt s i) is-on ∙ login-stored p a x i j o (withExchange (loginAt p i) j next)
@@ -130,7 +134,7 @@ module _ (u : Unit) (unit : List ℕ) (a x i j : ℕ) where
       let said : nextReply (fullOf p i) e ≡ Respond r = cc in
       let is-step : stepOf p a x start (length (cut unit start len)) ≡ Frame i j k = cc in
       let t = is-response (fullOf p i) e r said in
-      let within = sent-within (fullOf p i) e (runs u p a x i j w o .fits) in
+      let within = sent-most u p a x i j w o in
       let done = none-left (fullOf p i) e (t .0) in
       let is = port-is u p a x start (cut unit start len) i j k is-step ∙ ended-port u p a x i j o (t .0) in
       let free : isClosed (exchangeOf q i j) ≡ true = rw is (rw (exchange-stored p a x i j o emptyExchange)) in
@@ -147,16 +151,16 @@ module _ (u : Unit) (unit : List ℕ) (a x i j : ℕ) where
       let t = is-data full e d said in
       let p₁ = nextOf u p a x start W .port in
       let is = port-is u p a x start W i j k is-step in
-      let e-is = next-exchange u p a x i j o p₁ (t .0) is in
+      let e-is = next-exchange u p a x i j o p₁ (t .0) is (t .2) in
       let enough₁ : total (exchangeOf p₁ i j) ≤ length (dataOf u unit (exchangeOf p₁ i j)) = rw e-is enough in
       let more = run-serves (next-kept u p a x start W w) (next-open u p a x i j o p₁ (t .0) is) enough₁ rest in
       let left : Rest u unit full (advanced e (nextBytes full e)) fs r = rw (next-full u p a x i j o p₁ (t .0) is, e-is) at (more .0) in
-      let fits = runs u p a x i j w o .fits in
+      let fits = sending (runs u p a x i j w o) (t .2) .fits in
       let pos = full-pos u p a x i j w o in
       let small = total-small u p a x i j w o in
       let short = more-left full e (t .0) in
       let here : payloadAt u p a x m n k W ≡ payloadAt u p a x i j k W = ap (λ (s : ℕ). payloadAt u p a x s n k W) is-i ∙ ap (λ (s : ℕ). payloadAt u p a x i s k W) is-j in
-      let payload = here ∙ payload-is u p a x i j k W d said ∙ source-is u unit full e start len k (t .0) (passed p a x start (length W) i j k is-step .place) in (
+      let payload = here ∙ payload-is u p a x i j k W d said ∙ source-is u unit full e start len k (t .0) (t .2) (passed p a x start (length W) i j k is-step .place) in (
         rest-one u unit full e _ fs r pos short enough (then-sent full e pos fits short small) (frames-then full e pos fits short small) (offset-is full e d (t .1)) (next-counted u p a x i j d w o said) payload left,
         record { closed = more .1 .closed; only = λ h. more .1 .only h ∙ next-ended u p a x i j o p₁ (t .0) is },
       )
@@ -204,7 +208,7 @@ made-case true c kind n x y z lx ly lz h = let m : n ≤ 36 = leb-true n 36 (and
 made-case false true kind n x y z lx ly lz h = let m : n ≡ 8 = eqb-true n 8 h in omega arith
 made-case false false kind n x y z lx ly lz h = let m : n ≤ 18 = leb-true n 18 (and-right (leb kind kindSenseOther && leb 1 n) (leb n 18) h) in omega arith
 
-pub made-enough : (u : Unit) (e : Exchange) → length (u .identity) ≡ 28 → eqb (e .kind) kindRead ≡ false → wantedFits u e ≡ true → total e ≤ length (madeBytes u (e .kind))
+pub made-enough : (u : Unit) (e : Exchange) → length (u .identity) ≡ 28 → eqb (e .kind) kindBlocks ≡ false → wantedFits u e ≡ true → total e ≤ length (madeBytes u (e .kind))
 unfolding madeBytes inquiryBytes capacityBytes senseBytes
 made-enough u e long other h =
     let m = made-case (leb (e .kind) kindInquiryOther) (eqb (e .kind) kindCapacity) (e .kind) (e .wanted) (inquiryBytes (u .identity) (e .kind)) (capacityBytes (u .capacity)) (senseBytes (senseOf (e .kind))) (rw long) refl refl (is-made u e other h) in

@@ -1,5 +1,5 @@
--- The next frame of an open exchange (document 01, "Commands" and "Numbers returned for refused calls").
-use Prim.Native.Nat.{ℕ, _+_}
+-- The next frame of an open exchange (document 01, "Commands" and "Numbers returned for refused calls"; document 02, request 2).
+use Prim.Native.Nat.{ℕ, _+_, _-_, min}
 use mathlib.Core.Bool.{Bool, cond, not, _&&_}
 use mathlib.Core.List.{List}
 use lib.Dec.{eqb, ltb}
@@ -9,7 +9,7 @@ use Rattle.tables.specs.declared.Found.the-variants.{At, Nothing}
 use Rattle.tables.specs.Lists.{onFound}
 use Rattle.wire.specs.Bytes.{onto}
 use Rattle.frame.specs.declared.Header.{Header}
-use Rattle.cover.specs.Cover.{positionOf, coverOf}
+use Rattle.cover.specs.Cover.{positionOf, coverOf, tooLong}
 use Rattle.refusal.specs.declared.Refusal.{Refusal}
 use Rattle.refusal.specs.declared.Refusal.the-variants.{NoExchange, Unproven, BadWindow}
 use Rattle.refusal.specs.declared.Said.{Said}
@@ -20,27 +20,27 @@ use Rattle.state.specs.declared.Port.{Port}
 use Rattle.state.specs.declared.Unit.{Unit}
 use Rattle.state.specs.Standing.{Standing}
 use Rattle.state.specs.Standing as standing
-use Rattle.state.specs.Changes.{emptyExchange, ownOf, loginAt, exchangeAt, withLogin, withExchange, advanced}
-use Rattle.state.specs.Kinds.{kindRead}
+use Rattle.state.specs.Changes.{emptyExchange, ownOf, loginAt, exchangeAt, withLogin, withExchange, advanced, asked}
+use Rattle.state.specs.Kinds.{kindBlocks, isWrite}
 use Rattle.state.specs.Tables.{lookupOf}
 use Rattle.formed.specs.Formed.{fullFrame, total, nextBytes}
 use Rattle.residual.specs.Residual.{residualOf}
 use Rattle.reply.specs.declared.DataFrame.{DataFrame}
 use Rattle.reply.specs.declared.Response.the-variants.{Status}
 use Rattle.reply.specs.declared.Reply.{Reply}
-use Rattle.reply.specs.declared.Reply.the-variants.{Respond, Data}
+use Rattle.reply.specs.declared.Reply.the-variants as reply
 use Rattle.reply.specs.Reply.{bytesOf}
 use Rattle.serve.specs.Made.{madeBytes}
 
--- data are left to send: fewer bytes were sent than are "to send"
+-- data are left to send: fewer bytes were sent than are "to send", of a WRITE by the host
 unfoldable pub hasMore : Exchange → Bool
 hasMore e = ltb (e .sent) (total e)
 
 -- the next frame carries READ data; "made data and FCP_RSP need no cover"
 unfoldable pub readsMore : Exchange → Bool
-readsMore e = eqb (e .kind) kindRead && hasMore e
+readsMore e = eqb (e .kind) kindBlocks && not (isWrite e) && hasMore e
 
--- the unit's byte at which the next READ data begin
+-- the unit's byte at which the next READ or WRITE data begin
 abbrev pub position : Exchange → ℕ
 position e = positionOf (e .start) (e .sent)
 
@@ -50,23 +50,32 @@ placeOf full e start len = cond (readsMore e) (coverOf (position e) (nextBytes f
 
 -- "a window: .. at most 65,536 bytes": in a longer one nowhere
 unfoldable pub windowPlace : ℕ → Exchange → ℕ → ℕ → Found
-windowPlace full e start len = cond (ltb 65536 len) Nothing (placeOf full e start len)
+windowPlace full e start len = cond (tooLong len) Nothing (placeOf full e start len)
 
 -- "OFFSET is the byte offset; SEQ_CNT the frame's number"; "A frame carries the login's W18 size, 2,048 at most, or what is left"
 unfoldable pub frameOf : ℕ → Exchange → DataFrame
 frameOf full e = record { offset = e .sent; count = e .count; size = nextBytes full e; last = eqb (e .sent + nextBytes full e) (total e) }
 
--- a data frame while there are data; "FCP_RSP follows", with the residual
+-- "next frames are FCP_XFER_RDY .. for the bytes left, 65,536 at most" (02, 2)
+abbrev pub burstOf : Exchange → ℕ
+burstOf e = min (total e - e .sent) 65536
+
+-- of a WRITE with bytes left: FCP_XFER_RDY, "nothing while data is awaited"
+unfoldable pub readyReply : Exchange → Reply
+readyReply e = cond (eqb (e .awaited) 1) reply.Nothing (reply.Ready (e .sent) (burstOf e))
+
+-- while there are data, a data frame, or of a WRITE what asks for them; "FCP_RSP follows", with the residual
 unfoldable pub nextReply : ℕ → Exchange → Reply
-nextReply full e = cond (hasMore e) (Data (frameOf full e)) (Respond (Status 0x00 (residualOf (e .wanted) (e .expected))))
+nextReply full e =
+    cond (hasMore e) (cond (isWrite e) (readyReply e) (reply.Data (frameOf full e))) (reply.Respond (Status 0x00 (residualOf (e .wanted) (e .expected))))
 
 -- the exchange after it; FCP_RSP "frees the place"
 unfoldable pub nextExchange : ℕ → Exchange → Exchange
-nextExchange full e = cond (hasMore e) (advanced e (nextBytes full e)) emptyExchange
+nextExchange full e = cond (hasMore e) (cond (isWrite e) (asked e) (advanced e (nextBytes full e))) emptyExchange
 
--- what the frame's data are taken from, from place k on: the window's bytes W for READ, else the made data
+-- what a data frame's bytes are taken from, from place k on: the window's bytes W for READ, else the made data
 unfoldable pub sourceOf : Unit → Exchange → ℕ → List ℕ → List ℕ
-sourceOf u e k W = drop k (cond (eqb (e .kind) kindRead) W (madeBytes u (e .kind)))
+sourceOf u e k W = drop k (cond (eqb (e .kind) kindBlocks) W (madeBytes u (e .kind)))
 
 -- "The port names address and OX_ID for each next frame": it is sent as a reply to a frame of that address and OX_ID, so D_ID is the address and S_ID ours
 unfoldable pub askedBy : ℕ → ℕ → ℕ → Header

@@ -2,10 +2,10 @@
 use Prim.Native.Nat.{ℕ}
 use mathlib.Core.Bool.{Bool, true, false, not, _&&_, _||_}
 use mathlib.Core.List.{List, [], _∷_}
-use lib.Dec.{eqb, ltb}
-use Rattle.cover.specs.Cover.{holds}
+use lib.Dec.{eqb}
+use Rattle.cover.specs.Cover.{holds, tooLong}
 use Rattle.refusal.specs.declared.Refusal.{Refusal}
-use Rattle.refusal.specs.declared.Refusal.the-variants.{ShortBuffer, IllFormed, BadSize, NotOurs, BadSource, UnknownForm, Unproven, BadSetup, NoExchange, BadWindow}
+use Rattle.refusal.specs.declared.Refusal.the-variants.{ShortBuffer, IllFormed, BadSize, NotOurs, BadSource, UnknownForm, Unproven, BadSetup, NoExchange, BadWindow, NoWrite}
 use Rattle.state.specs.declared.Port.{Port}
 use Rattle.state.specs.Standing.{Standing}
 use Rattle.state.specs.Standing as standing
@@ -30,11 +30,11 @@ unprovenThere p (standing.Open i j) = not (eqb (loginAt p i .proven) 1)
 abbrev pub covers : Port → ℕ → ℕ → ℕ → ℕ → Bool
 covers p start len i j = holds (position (exchangeOf p i j)) (nextBytes (fullOf p i) (exchangeOf p i j)) start len
 
--- 10: "window too long or not covering"; "made data and FCP_RSP need no cover"
+-- 10: "window too long or not covering"; "made data and FCP_RSP need no cover", nor FCP_XFER_RDY
 abbrev pub badWindow : Port → ℕ → ℕ → Standing → Bool
 badWindow p start len standing.NoLogin = false
 badWindow p start len (standing.NoExchange i) = false
-badWindow p start len (standing.Open i j) = ltb 65536 len || readsMore (exchangeOf p i j) && not (covers p start len i j)
+badWindow p start len (standing.Open i j) = tooLong len || readsMore (exchangeOf p i j) && not (covers p start len i j)
 
 -- "When", of 9, 7 and 10, for a next frame of address a and OX_ID x with a window of len bytes from block start on; 1 and 2 are the entry's, and the others are not given to a next frame
 abbrev pub appliesNext : Port → ℕ → ℕ → ℕ → ℕ → Refusal → Bool
@@ -48,6 +48,7 @@ appliesNext p a x start len Unproven = unprovenThere p (lookupOf p a x)
 appliesNext p a x start len BadSetup = false
 appliesNext p a x start len NoExchange = noExchange (lookupOf p a x)
 appliesNext p a x start len BadWindow = badWindow p start len (lookupOf p a x)
+appliesNext p a x start len NoWrite = false
 
 -- "Next frame out: .. 9, 7, 10"
 abbrev pub servedOrder : List Refusal

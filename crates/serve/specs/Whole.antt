@@ -1,7 +1,7 @@
 -- What the theorems of this crate speak of: what a next frame changes, and all the frames of an exchange one after the other.
 use Prim.Native.Nat.{ℕ, _+_, _-_, _*_, _%_}
 use mathlib.Core.Path.{_≡_}
-use mathlib.Core.Bool.{Bool, true, false, cond}
+use mathlib.Core.Bool.{Bool, true, false, cond, not}
 use mathlib.Core.List.{List, [], _∷_, _++_}
 use lib.Dec.{eqb}
 use lib.ListN.{length, take, drop}
@@ -13,7 +13,7 @@ use Rattle.state.specs.declared.Port.{Port}
 use Rattle.state.specs.declared.Unit.{Unit}
 use Rattle.state.specs.Standing.{Open}
 use Rattle.state.specs.Changes.{ownOf, loginAt, withPlaces, withLogin, endedAt, isClosed}
-use Rattle.state.specs.Kinds.{kindRead}
+use Rattle.state.specs.Kinds.{kindBlocks}
 use Rattle.state.specs.Tables.{lookupOf}
 use Rattle.formed.specs.Formed.{total, framesOf, wellFormed}
 use Rattle.residual.specs.Residual.{residualOf}
@@ -25,9 +25,9 @@ use Rattle.reply.specs.Payload.{payloadOf}
 use Rattle.serve.specs.Made.{madeBytes}
 use Rattle.serve.specs.Next.{nextReply, nextExchange, sourceOf, askedBy, exchangeOf, fullOf, Frame, stepOf, nextOf}
 
--- a frame was given, and the call not refused
+-- a frame was given: the call was not refused, and there was something to send
 abbrev pub isSent : Said → Bool
-isSent (Sent n) = true
+isSent (Sent n) = not (eqb n 0)
 isSent (Refused y) = false
 
 -- q is the port p after a next frame of the exchange of a and x: this exchange has moved on, and its login's other exchanges and fields, the other logins and the setup are as they were
@@ -96,7 +96,7 @@ pub data InOrder : ℕ → ℕ → List Piece → Type 0 where
 
 -- all that an exchange may send: the unit's bytes from its first block on for READ, else the made data
 abbrev pub dataOf : Unit → List ℕ → Exchange → List ℕ
-dataOf u unit e = cond (eqb (e .kind) kindRead) (drop (512 * e .start) unit) (madeBytes u (e .kind))
+dataOf u unit e = cond (eqb (e .kind) kindBlocks) (drop (512 * e .start) unit) (madeBytes u (e .kind))
 
 -- these are the frames that are left of an exchange: the bytes not yet sent, each once and in order, in as few frames as they take, and its response
 pub record Rest (u : Unit) (unit : List ℕ) (full : ℕ) (e : Exchange) (pieces : List Piece) (r : Response) : Type 0 where

@@ -1,8 +1,9 @@
-// The next frame of an open exchange: its data frames one after the other, and then its FCP_RSP.
+// The next frame of an open exchange: its data frames one after the other, of a WRITE its FCP_XFER_RDYs, and then its FCP_RSP.
 use calls::Turn;
 use calls::View;
 use calls::refuse_turn;
 use cover::covered;
+use cover::too_long;
 use formed::full_frame;
 use formed::total_of;
 use frame::Header;
@@ -21,6 +22,7 @@ use state::Exchange;
 use state::Own;
 use state::Unit;
 use state::advance;
+use state::ask_data;
 use state::empty_exchange;
 use state::exchange_at;
 use state::find_exchange;
@@ -33,15 +35,13 @@ use wire::put_front;
 ghost use mathlib.Core.Path.{_≡_};
 ghost use Prim.Native.Nat.{_-_, _≤_};
 ghost use lib.ListN.{length, drop};
+ghost use Rattle.state.specs.Kinds.{isWrite};
 ghost use Rattle.reply.specs.Payload.{senseBytes};
 ghost use Rattle.reply.specs.Reply.{sentOf, writtenOf};
 ghost use Rattle.formed.specs.Formed.{fullFrame, nextBytes};
 ghost use Rattle.serve.specs.Made.{inquiryFirst, inquiryBytes, capacityBytes, senseOf, madeBytes};
-ghost use Rattle.serve.specs.Next.{hasMore, readsMore, placeOf, windowPlace, frameOf, nextReply, nextExchange, sourceOf, askedBy};
+ghost use Rattle.serve.specs.Next.{hasMore, readsMore, burstOf, readyReply, placeOf, windowPlace, frameOf, nextReply, nextExchange, sourceOf, askedBy};
 ghost use Rattle.serve.specs.Turn.{nextTurn, nextTurnBuffer};
-
-// The bytes of a window at most.
-const MOST_WINDOW: usize = 65536;
 
 // The next frame of the exchange of an address and an OX_ID, from a window of the unit's bytes that starts at a block; v is what a call of that address sees.
 // Refused by the first of 9, 7, 10 that fits. A buffer under 2,136 bytes is left alone, and whether the state is well formed is the caller's to tell.
@@ -81,7 +81,7 @@ pub fn next(v: View, address: u32, ox_id: u16, start: u64, window: &[u8], reply:
 fn window_place(size: u16, e: Exchange, start: u64, len: usize) -> Found
     ensures { λ r. ⌜ r ≡ windowPlace (fullFrame size) e start len ⌝ }
 {
-    if MOST_WINDOW < len {
+    if too_long(len) {
         return Found::Nothing;
     }
     place_of(size, e, start, len)
@@ -101,11 +101,17 @@ fn place_of(size: u16, e: Exchange, start: u64, len: usize) -> Found
 fn reads_more(e: Exchange) -> bool
     ensures { λ r. ⌜ r ≡ readsMore e ⌝ }
 {
-    if e.kind == Exchange::READ {
-        has_more(e)
-    } else {
-        false
+    if e.kind != Exchange::BLOCKS {
+        return false;
     }
+    if is_write(e) { false } else { has_more(e) }
+}
+
+// Whether the data of an exchange come from the host.
+fn is_write(e: Exchange) -> bool
+    ensures { λ r. ⌜ r ≡ isWrite e ⌝ }
+{
+    e.direction == Exchange::FROM_HOST
 }
 
 // Whether an exchange has data left to send.
@@ -136,14 +142,14 @@ fn put_frame(v: View, h: Header, e: Exchange, k: usize, window: &[u8], reply: &m
     let l = v.login;
     let o = v.own;
     let r = next_reply(l.size, e);
-    if e.kind == Exchange::READ {
+    if e.kind == Exchange::BLOCKS {
         return put_from(o, h, r, window, k, reply);
     }
     put_made(v, h, r, e.kind, k, reply)
 }
 
 // Writes a reply whose data are the made data of a kind from place k on.
-fn put_made(v: View, h: Header, r: Reply, kind: u32, k: usize, reply: &mut [u8]) -> usize
+fn put_made(v: View, h: Header, r: Reply, kind: u16, k: usize, reply: &mut [u8]) -> usize
     ensures { λ n. ⌜ n ≡ sentOf (v .own) h r (drop k (madeBytes (v .unit) kind)) (length (now (reply .entry))) ⌝ }
     ensures { λ _. ⌜ now (reply .exit) ≡ writtenOf (v .own) h r (drop k (madeBytes (v .unit) kind)) (now (reply .entry)) ⌝ }
 {
@@ -192,11 +198,40 @@ fn asked_by(own: u32, address: u32, ox_id: u16) -> Header
     }
 }
 
-// The next data frame, or FCP_RSP where all data are sent.
+// What asks for the data of a WRITE: FCP_XFER_RDY, and nothing while they are awaited.
+fn ready_reply(e: Exchange) -> Reply
+    ensures { λ r. ⌜ r ≡ readyReply e ⌝ }
+{
+    if e.awaited == 1 {
+        return Reply::Nothing;
+    }
+    Reply::Ready(e.sent, burst_of(e))
+}
+
+// The bytes that are asked for at a time: those left, 65,536 at most.
+fn burst_of(e: Exchange) -> u32
+    ensures { λ r. ⌜ r ≡ burstOf e ⌝ }
+{
+    let all = total_of(e);
+    if all <= e.sent {
+        return 0;
+    }
+    let left = all - e.sent;
+    if left < Exchange::MOST_BURST {
+        left
+    } else {
+        Exchange::MOST_BURST
+    }
+}
+
+// The next data frame, what asks for one, or FCP_RSP where all data are sent.
 fn next_reply(size: u16, e: Exchange) -> Reply
     ensures { λ r. ⌜ r ≡ nextReply (fullFrame size) e ⌝ }
 {
     if has_more(e) {
+        if is_write(e) {
+            return ready_reply(e);
+        }
         return Reply::Data(frame_of(size, e));
     }
     let x = Response::Status(0, residual_of(e.wanted, e.expected));
@@ -216,18 +251,21 @@ fn frame_of(size: u16, e: Exchange) -> DataFrame
     }
 }
 
-// The exchange after its next frame: one data frame on, or its place freed.
+// The exchange after its next frame: one data frame on, its data asked for, or its place freed.
 fn next_exchange(size: u16, e: Exchange) -> Exchange
     ensures { λ r. ⌜ r ≡ nextExchange (fullFrame size) e ⌝ }
 {
     if has_more(e) {
+        if is_write(e) {
+            return ask_data(e);
+        }
         return advance(e, next_bytes(size, e));
     }
     empty_exchange()
 }
 
 // INQUIRY data, of another unit than 0 with 7Fh first.
-fn inquiry_bytes(identity: [u8; 28], kind: u32) -> [u8; 36]
+fn inquiry_bytes(identity: [u8; 28], kind: u16) -> [u8; 36]
     ensures { λ r. ⌜ r ≡ inquiryBytes identity kind ⌝ }
 {
     let first = inquiry_first(kind);
@@ -239,7 +277,7 @@ fn inquiry_bytes(identity: [u8; 28], kind: u32) -> [u8; 36]
 }
 
 // The first byte of INQUIRY data.
-fn inquiry_first(kind: u32) -> u8
+fn inquiry_first(kind: u16) -> u8
     ensures { λ r. ⌜ r ≡ inquiryFirst kind ⌝ }
 {
     if kind == Exchange::INQUIRY_OTHER_UNIT {
@@ -265,7 +303,7 @@ fn last_block(capacity: u64) -> u64
 }
 
 // What REQUEST SENSE tells.
-fn sense_of(kind: u32) -> Sense
+fn sense_of(kind: u16) -> Sense
     ensures { λ r. ⌜ r ≡ senseOf kind ⌝ }
 {
     if kind == Exchange::SENSE_RESET {

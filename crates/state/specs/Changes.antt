@@ -25,6 +25,8 @@ emptyExchange =
       wanted = 0;
       expected = 0;
       sent = 0;
+      direction = 0;
+      awaited = 0;
     }
 
 -- a free place for a login with these names and exchanges
@@ -125,6 +127,40 @@ advanced e n =
       wanted = e .wanted;
       expected = e .expected;
       sent = (e .sent + n) % 4294967296;
+      direction = e .direction;
+      awaited = e .awaited;
+    }
+
+-- FCP_XFER_RDY was sent (02, 2): data are awaited
+abbrev pub asked : Exchange → Exchange
+asked e =
+    record {
+      kind = e .kind;
+      «ox_id» = e .«ox_id»;
+      count = e .count;
+      blocks = e .blocks;
+      start = e .start;
+      wanted = e .wanted;
+      expected = e .expected;
+      sent = e .sent;
+      direction = e .direction;
+      awaited = 1;
+    }
+
+-- a data frame of n bytes more was taken (02, 2); after it data are awaited, or not
+abbrev pub taken : Exchange → ℕ → ℕ → Exchange
+taken e n awaited =
+    record {
+      kind = e .kind;
+      «ox_id» = e .«ox_id»;
+      count = e .count;
+      blocks = e .blocks;
+      start = e .start;
+      wanted = e .wanted;
+      expected = e .expected;
+      sent = (e .sent + n) % 4294967296;
+      direction = e .direction;
+      awaited = awaited;
     }
 
 abbrev pub isUsed : Login → Bool

@@ -1,13 +1,16 @@
--- What an exchange sends, by its kind.
+-- What the data of an exchange are, by its kind, and where they go, by its direction.
 use Prim.Native.Nat.{ℕ}
+use mathlib.Core.Bool.{Bool}
+use lib.Dec.{eqb}
+use Rattle.state.specs.declared.Exchange.{Exchange}
 
 -- nothing: its place is free
 abbrev pub kindFree : ℕ
 kindFree = 0
 
--- READ(10): blocks of the unit
-abbrev pub kindRead : ℕ
-kindRead = 1
+-- READ(10) and WRITE(10): blocks of the unit
+abbrev pub kindBlocks : ℕ
+kindBlocks = 1
 
 -- INQUIRY data, and those for another LUN, with 7Fh first
 abbrev pub kindInquiry : ℕ
@@ -32,3 +35,14 @@ kindSenseCleared = 7
 
 abbrev pub kindSenseOther : ℕ
 kindSenseOther = 8
+
+-- "The exchange record gains a direction" (02, 2): data go to the host, or come from it
+abbrev pub toHost : ℕ
+toHost = 0
+
+abbrev pub fromHost : ℕ
+fromHost = 1
+
+-- a WRITE
+abbrev pub isWrite : Exchange → Bool
+isWrite e = eqb (e .direction) fromHost

@@ -18,6 +18,7 @@ pub use searches::free_exchange;
 pub use searches::is_closed;
 pub use searches::is_free;
 pub use stored::advance;
+pub use stored::ask_data;
 pub use stored::empty_exchange;
 pub use stored::empty_login;
 pub use stored::end_exchange;
@@ -27,46 +28,58 @@ pub use stored::login_at;
 pub use stored::put_exchange;
 pub use stored::put_login;
 pub use stored::set_attention;
+pub use stored::take_data;
 use tables::Found;
 ghost use mathlib.Core.Path.{_≡_};
 ghost use Rattle.state.specs.Changes.{ownOf, changedOf, changedAll};
 
-// A place for an open exchange of a login. What it sends is told by kind; a free place has kind 0.
+// A place for an open exchange of a login. What its data are is told by kind; a free place has kind 0.
 #[repr(C)]
 pub struct Exchange {
-    // READ: the first block, and how many
+    // READ and WRITE: the first block, and how many
     pub start: u64,
     pub blocks: u32,
-    // the bytes that the command wants, those that the host expects (FCP_DL), and those sent
+    // the bytes that the command wants, those that the host expects (FCP_DL), and those sent, by the drive or by the host
     pub wanted: u32,
     pub expected: u32,
     pub sent: u32,
     pub ox_id: u16,
-    // the data frames sent, going round at 65,536
+    // the data frames that the drive sent, going round at 65,536
     pub count: u16,
-    pub kind: u32,
+    pub kind: u16,
+    // where its data go: 0 to the host, 1 from it
+    pub direction: u8,
+    // 1 while data that were asked for have not all come
+    pub awaited: u8,
 }
 
 impl Exchange {
-    pub const FREE: u32 = 0;
+    pub const FREE: u16 = 0;
 
-    pub const READ: u32 = 1;
+    pub const BLOCKS: u16 = 1;
 
-    pub const INQUIRY: u32 = 2;
+    pub const INQUIRY: u16 = 2;
 
-    pub const INQUIRY_OTHER_UNIT: u32 = 3;
+    pub const INQUIRY_OTHER_UNIT: u16 = 3;
 
-    pub const READ_CAPACITY: u32 = 4;
+    pub const READ_CAPACITY: u16 = 4;
 
-    pub const SENSE_NONE: u32 = 5;
+    pub const SENSE_NONE: u16 = 5;
 
-    pub const SENSE_RESET: u32 = 6;
+    pub const SENSE_RESET: u16 = 6;
 
-    pub const SENSE_CLEARED: u32 = 7;
+    pub const SENSE_CLEARED: u16 = 7;
 
-    pub const SENSE_OTHER_UNIT: u32 = 8;
-    // the blocks of a READ at most
-    pub const MOST_READ: u64 = 65535;
+    pub const SENSE_OTHER_UNIT: u16 = 8;
+
+    pub const TO_HOST: u8 = 0;
+
+    pub const FROM_HOST: u8 = 1;
+
+    // the bytes that are asked for at a time, at most
+    pub const MOST_BURST: u32 = 65536;
+    // the blocks of a READ or WRITE at most
+    pub const MOST_BLOCKS: u64 = 65535;
 }
 
 // A place for a login. Flags are 0 or 1; attention is 0, 29h or 2Fh.
@@ -114,11 +127,12 @@ pub struct Own {
     pub accept: [u8; 112],
 }
 
-// The logical unit: its capacity in blocks of 512 bytes, and its 28 identity bytes.
+// The logical unit: its capacity in blocks of 512 bytes, its 28 identity bytes, and whether hosts may write it, 0 or 1.
 #[repr(C)]
 pub struct Unit {
     pub capacity: u64,
     pub identity: [u8; 28],
+    pub writable: u8,
 }
 
 // What a drive is made from.
@@ -128,6 +142,7 @@ pub struct Setup {
     pub address: u32,
     pub identity: [u8; 28],
     pub accept: [u8; 112],
+    pub writable: u8,
 }
 
 impl Setup {

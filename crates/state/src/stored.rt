@@ -3,7 +3,7 @@ use crate::Exchange;
 use crate::Login;
 use crate::Port;
 ghost use mathlib.Core.Path.{_≡_};
-ghost use Rattle.state.specs.Changes.{emptyExchange, emptyLogin, loginAt, exchangeAt, withLogin, withExchange, withoutExchanges, withAttention, advanced, endedAt};
+ghost use Rattle.state.specs.Changes.{emptyExchange, emptyLogin, loginAt, exchangeAt, withLogin, withExchange, withoutExchanges, withAttention, advanced, asked, taken, endedAt};
 
 pub fn empty_exchange() -> Exchange
     ensures { λ r. ⌜ r ≡ emptyExchange ⌝ }
@@ -17,6 +17,8 @@ pub fn empty_exchange() -> Exchange
         wanted: 0,
         expected: 0,
         sent: 0,
+        direction: 0,
+        awaited: 0,
     }
 }
 
@@ -104,6 +106,25 @@ pub fn advance(e: Exchange, n: u32) -> Exchange
     let mut f = e;
     f.sent = std::num::wrapping_add_u32(e.sent, n);
     f.count = std::num::wrapping_add_u16(e.count, 1);
+    f
+}
+
+// Data were asked for, and are awaited.
+pub fn ask_data(e: Exchange) -> Exchange
+    ensures { λ r. ⌜ r ≡ asked e ⌝ }
+{
+    let mut f = e;
+    f.awaited = 1;
+    f
+}
+
+// A data frame of n bytes more was taken; after it data are awaited, or not.
+pub fn take_data(e: Exchange, n: u32, awaited: u8) -> Exchange
+    ensures { λ r. ⌜ r ≡ taken e n awaited ⌝ }
+{
+    let mut f = e;
+    f.sent = std::num::wrapping_add_u32(e.sent, n);
+    f.awaited = awaited;
     f
 }
 

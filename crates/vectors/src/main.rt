@@ -1,15 +1,17 @@
 // Runs a drive over records from standard input and writes a line for each: its name, what was answered, and what the table of logins then holds.
-// A record is one of recorder's (S, F, N, E), or one of these; numbers are big-endian:
+// A record is one of recorder's (S, F, D, N, E), or one of these; numbers are big-endian:
 //   n  the name of the next line, written as it is
 //   k  many next frames out, of which none is shown: the body of N up to the window, and how many (4 bytes); the window has 65,520 bytes of no meaning
 //   l  shows all that the login at a place (1 byte) keeps, but for its exchanges
 //   e  shows the eight places for exchanges of the login at a place (1 byte)
 // What a call answers is the reply in hexadecimal, - for nothing to send, or refused and the number, which for what is no call is 255.
+// After that of a D its window stands in hexadecimal as it is after the call.
 // Where it cannot go on it says so on standard error, with the record's number.
 use libc::STDERR_FILENO;
 use libc::STDOUT_FILENO;
 use recording::Session;
 use recording::Told;
+use recording::rest_of;
 use recording::start;
 use recording::tell;
 use saying::End;
@@ -40,7 +42,7 @@ fn main() {
     let mut number: u64 = 0;
     while number < u64::MAX {
         number += 1;
-        let mut body = io::buffer();
+        let mut body = [0u8; 70000];
         let r = records::next(&mut body);
         if r.over {
             let e = r.end;
@@ -48,7 +50,7 @@ fn main() {
             return;
         }
         let len = r.len;
-        let w = taken(s, r.letter, &body[..len]);
+        let w = taken(s, r.letter, &mut body[..len]);
         if !w.written {
             stop(number, End::Unwritten);
             return;
@@ -66,7 +68,7 @@ fn stop(number: u64, end: End) {
 }
 
 // Does what a record says.
-fn taken(s: Session, letter: u8, body: &[u8]) -> Shown {
+fn taken(s: Session, letter: u8, body: &mut [u8]) -> Shown {
     match letter {
         b'n' => {
             print(body);
@@ -74,7 +76,10 @@ fn taken(s: Session, letter: u8, body: &[u8]) -> Shown {
         }
         b'k' => after(passed(s, body), true),
         b'l' | b'e' => after(s, look(s, letter, body)),
-        _ => answered(tell(s, letter, body)),
+        _ => {
+            let from = rest_of(s, letter, body);
+            answered(tell(s, letter, body), body, from)
+        }
     }
 }
 
@@ -102,10 +107,10 @@ fn look(s: Session, letter: u8, body: &[u8]) -> bool {
 fn passed(s: Session, body: &[u8]) -> Session {
     let mut asking = io::large_buffer();
     put_front(&mut asking, body);
-    repeated(s, &asking, be32(body, 16))
+    repeated(s, &mut asking, be32(body, 16))
 }
 
-fn repeated(s: Session, asking: &[u8], count: u32) -> Session {
+fn repeated(s: Session, asking: &mut [u8], count: u32) -> Session {
     let mut e = s;
     let mut n: u32 = 0;
     while n < count {
@@ -116,14 +121,18 @@ fn repeated(s: Session, asking: &[u8], count: u32) -> Session {
     e
 }
 
-// Shows what a call answered and the table after it.
-fn answered(t: Told) -> Shown {
+// Shows what a call answered, the bytes of its body from a place on, and the table after it.
+fn answered(t: Told, body: &[u8], from: usize) -> Shown {
     let s = t.session;
     let d = s.drive;
     let p = d.port;
     let line = t.line;
     let bytes = line.bytes;
     print_answer(&bytes);
+    if from < body.len() {
+        put(b' ');
+        print_hex(body, from, body.len());
+    }
     after(s, print_table(p))
 }
 
@@ -199,18 +208,25 @@ fn print_exchange(e: Exchange, full: bool) {
     }
 }
 
-// An exchange is its OX_ID, what it sends, of a READ the first block and how many, then in bytes what is wanted, FCP_DL and what is sent, and the frames sent.
+// An exchange is its OX_ID, what is sent, of a READ or WRITE the first block and how many, then in bytes what is wanted, FCP_DL and what is sent, the frames that the drive sent,
+// and whether data come from the host and are awaited.
 fn print_whole(e: Exchange) {
     print_16(e.ox_id);
     put(b'=');
-    print_kind(e.kind);
+    print_kind(e.kind, e.direction);
     print_numbers(e.start, e.blocks, e.wanted);
     print_numbers(e.expected as u64, e.sent, e.count as u32);
+    if e.direction != Exchange::TO_HOST {
+        print(b",from-host");
+    }
+    if e.awaited != 0 {
+        print(b",awaited");
+    }
 }
 
-fn print_kind(kind: u32) {
+fn print_kind(kind: u16, direction: u8) {
     match kind {
-        Exchange::READ => print(b"READ"),
+        Exchange::BLOCKS => print_blocks(direction),
         Exchange::INQUIRY => print(b"INQUIRY"),
         Exchange::INQUIRY_OTHER_UNIT => print(b"INQUIRY-7F"),
         Exchange::READ_CAPACITY => print(b"CAPACITY"),
@@ -218,14 +234,22 @@ fn print_kind(kind: u32) {
     }
 }
 
-fn print_sense(kind: u32) {
+fn print_blocks(direction: u8) {
+    if direction == Exchange::FROM_HOST {
+        print(b"WRITE");
+    } else {
+        print(b"READ");
+    }
+}
+
+fn print_sense(kind: u16) {
     print(b"SENSE-");
     print_16(sense(kind));
     print_byte(0x00);
 }
 
 // Key and code of the sense that an exchange sends, FFFFh for what is no sense. The qualifier is 00h.
-fn sense(kind: u32) -> u16 {
+fn sense(kind: u16) -> u16 {
     match kind {
         Exchange::SENSE_NONE => 0x0000,
         Exchange::SENSE_RESET => 0x0629,

@@ -1,4 +1,4 @@
-// The window of a next frame as one thing: the block that it starts at, and the lent bytes.
+// The window of a next frame, and of a frame in, as one thing: the block that it starts at, and the lent bytes.
 use calls::Turn;
 use calls::View;
 use calls::look;
@@ -9,11 +9,48 @@ use refusal::Refusal;
 ghost use mathlib.Core.Path.{_≡_};
 ghost use lib.ListN.{length};
 ghost use Rattle.drive.specs.Entry.{nextFrame, nextFrameBuffer};
-ghost use Rattle.drive.specs.Turn.{nextOutTurn, nextOutBuffer};
+ghost use Rattle.drive.specs.Turn.{passedTurn, passedBuffer, passedWindow, nextOutTurn, nextOutBuffer};
 
 pub struct Window<'a> {
     pub start: u64,
     pub bytes: &'a [u8],
+}
+
+// The same where data may be stored.
+pub struct Space<'a> {
+    pub start: u64,
+    pub bytes: &'a mut [u8],
+}
+
+// What a frame in that passed comes to, with a space for its data: hands block and bytes on to what its sender sees.
+pub fn passed_turn_into<'a>(
+    v: View,
+    h: Header,
+    frame: &[u8],
+    w: Space<'a>,
+    reply: &mut [u8],
+) -> Turn
+    ensures { λ r. ⌜ (r ≡ passedTurn v h (now (frame .entry)) (w .entry .start) (length (now (w .entry .bytes))) (length (now (reply .entry))))
+        × (now (reply .exit) ≡ passedBuffer v h (now (frame .entry)) (w .entry .start) (length (now (w .entry .bytes))) (now (reply .entry)))
+        × (now (w .exit .1 .0) ≡ passedWindow v h (now (frame .entry)) (w .entry .start) (now (w .entry .bytes))) ⌝ }
+{
+    drive::passed_turn(v, h, frame, w.start, &mut *w.bytes, reply)
+}
+
+// The same with plain parameters, for callers that hold no space.
+pub fn passed_turn(
+    v: View,
+    h: Header,
+    frame: &[u8],
+    start: u64,
+    bytes: &mut [u8],
+    reply: &mut [u8],
+) -> Turn
+    ensures { λ r. ⌜ (r ≡ passedTurn v h (now (frame .entry)) start (length (now (bytes .entry))) (length (now (reply .entry))))
+        × (now (reply .exit) ≡ passedBuffer v h (now (frame .entry)) start (length (now (bytes .entry))) (now (reply .entry)))
+        × (now (bytes .exit) ≡ passedWindow v h (now (frame .entry)) start (now (bytes .entry))) ⌝ }
+{
+    passed_turn_into(v, h, frame, Space { start, bytes }, reply)
 }
 
 // What the next frame out of the exchange of an address and an OX_ID comes to, from a window: hands block and bytes on to what the port at that address sees.

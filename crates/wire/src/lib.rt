@@ -1,6 +1,6 @@
 // Big-endian numbers read from a lent slice, their bytes, and bytes copied into one. Reading past the end gives 0, and what does not fit is not written.
 ghost use mathlib.Core.Path.{_≡_};
-ghost use Prim.Native.Nat.{_%_, _≤_, _<_, min};
+ghost use Prim.Native.Nat.{_-_, _%_, _≤_, _<_, min};
 ghost use lib.ListN.{getD};
 ghost use Rattle.wire.specs.Bytes.{num, bytes, part, nameOf, onto, over, fillCount, fillOf};
 
@@ -128,12 +128,11 @@ pub fn put_front(out: &mut [u8], src: &[u8])
 }
 
 // Copies src over out from a place on, as much of it as fits.
-pub fn put_at(out: &mut [u8], at: u16, src: &[u8])
+pub fn put_at(out: &mut [u8], at: usize, src: &[u8])
     ensures { λ _. ⌜ now (out .exit) ≡ over (now (out .entry)) at (now (src .entry)) ⌝ }
 {
-    let a = at as usize;
-    if a <= out.len() {
-        put_front(&mut out[a..], src);
+    if at <= out.len() {
+        put_front(&mut out[at..], src);
     }
 }
 
@@ -160,6 +159,13 @@ fn low(n: u32) -> u8
     ensures { λ r. ⌜ r ≡ n % 256 ⌝ }
 {
     (n % 256) as u8
+}
+
+// A size less another, 0 where that is more.
+pub fn less(a: usize, b: usize) -> usize
+    ensures { λ r. ⌜ (r ≡ a - b) × (r ≤ a) ⌝ }
+{
+    if a < b { 0 } else { a - b }
 }
 
 // The smaller of two sizes.

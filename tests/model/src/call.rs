@@ -1,6 +1,7 @@
 //! A call of a history: a record for the recorder, and its line in a replay file.
 
 use crate::random::Random;
+use model::frame::Header;
 
 /// A record: its letter and body. The body may end in made bytes, given by their number and a seed, so that a window of
 /// 65,536 bytes is a short line too.
@@ -37,7 +38,9 @@ impl Call {
         let b = self.full_body();
         let number = |from: usize, to: usize| b[from..to].iter().fold(0u64, |n, &b| n << 8 | u64::from(b));
         match self.letter {
-            b'S' if b.len() >= 152 => format!("make a drive: capacity {}, own address {:02X}", number(0, 8), number(8, 12)),
+            b'S' if b.len() >= 153 => {
+                format!("make a drive: capacity {}, own address {:02X}, writable {}", number(0, 8), number(8, 12), b[152])
+            }
             b'E' if b.len() == 1 => format!("event {}", b[0]),
             b'N' if b.len() >= 16 => format!(
                 "next frame: address {:02X}, OX_ID {:04X}, room {}, window of {} bytes at block {}",
@@ -47,25 +50,12 @@ impl Call {
                 b.len() - 16,
                 number(8, 16)
             ),
-            b'F' if b.len() >= 26 => {
-                let what = match (b[2], b.get(26)) {
-                    (0x22, Some(code)) => format!("link request {code:02X}h"),
-                    (0x23, ..) => "link reply".into(),
-                    (0x81, ..) => "ABTS".into(),
-                    (0x06, ..) if b.len() == 58 => {
-                        format!("command {:02X}h, task flags {:02X}h, FCP_DL {}", b[38], b[36], number(54, 58))
-                    }
-                    (r_ctl, ..) => format!("R_CTL {r_ctl:02X}h"),
-                };
-                format!(
-                    "{what} from {:02X}, OX_ID {:04X}, {} bytes, room {}",
-                    number(7, 10),
-                    number(18, 20),
-                    b.len() - 2,
-                    number(0, 2)
-                )
+            b'F' if b.len() >= 2 => format!("{}, room {}", frame_words(&b[2..]), number(0, 2)),
+            b'D' if b.len() >= 12 && b.len() - 12 >= number(10, 12) as usize => {
+                let (frame, window) = b[12..].split_at(number(10, 12) as usize);
+                let window = format!("window of {} bytes at block {}", window.len(), number(2, 10));
+                format!("{}, room {}, {window}", frame_words(frame), number(0, 2))
             }
-            b'F' if b.len() >= 2 => format!("a frame of {} bytes, room {}", b.len() - 2, number(0, 2)),
             _ => format!("letter {:02X}h with {} bytes", self.letter, b.len()),
         }
     }
@@ -87,6 +77,26 @@ impl Call {
         }
         words.next().is_none().then_some(call)
     }
+}
+
+/// What a frame is, in words.
+fn frame_words(f: &[u8]) -> String {
+    if f.len() < 24 {
+        return format!("a frame of {} bytes", f.len());
+    }
+    let h = Header::read(f);
+    let what = match (h.r_ctl, f.get(24)) {
+        (0x22, Some(code)) => format!("link request {code:02X}h"),
+        (0x23, ..) => "link reply".into(),
+        (0x81, ..) => "ABTS".into(),
+        (0x06, ..) if f.len() == 56 => {
+            let fcp_dl = u32::from_be_bytes([f[52], f[53], f[54], f[55]]);
+            format!("command {:02X}h, task flags {:02X}h, data bits {}, FCP_DL {fcp_dl}", f[36], f[34], f[35] & 3)
+        }
+        (0x01, ..) => format!("data at {}, fill {}", h.offset, h.fill()),
+        (r_ctl, ..) => format!("R_CTL {r_ctl:02X}h"),
+    };
+    format!("{what} from {:02X}, OX_ID {:04X}, {} bytes", h.s_id, h.ox_id, f.len())
 }
 
 /// The record's bytes, of a body that was made already.

@@ -1,6 +1,6 @@
-//! 01, Commands: FCP_CMND, task flags, the nine tests, what is wanted, and FCP_RSP.
+//! 01, Commands: FCP_CMND, task flags, the nine tests, what is wanted, and FCP_RSP; 02, request 2: WRITE(10).
 
-use crate::drive::{Attention, Drive, Exchange, Source};
+use crate::drive::{Attention, Drive, Exchange, Login, Source};
 use crate::frame::{reply, Header, Row};
 use crate::rules::{hit, when, Rule};
 
@@ -44,12 +44,12 @@ impl Command {
         self.lun != [0; 8]
     }
 
-    /// READ(10): CDB bytes 2-5.
+    /// READ(10), WRITE(10): CDB bytes 2-5.
     fn address(&self) -> u64 {
         u32::from_be_bytes(self.cdb[2..6].try_into().unwrap()).into()
     }
 
-    /// READ(10): CDB bytes 7-8.
+    /// READ(10), WRITE(10): CDB bytes 7-8.
     fn count(&self) -> u64 {
         u16::from_be_bytes(self.cdb[7..9].try_into().unwrap()).into()
     }
@@ -131,6 +131,7 @@ impl Drive {
             0x20 => {
                 hit(Rule::TargetReset);
                 when(c.other_lun(), Rule::TargetResetOtherLun);
+                when(self.logins.iter().flatten().any(Login::writes), Rule::TargetResetWrite);
                 for login in self.logins.iter_mut().flatten() {
                     login.end_exchanges();
                     login.attention = Attention::Reset;
@@ -141,6 +142,7 @@ impl Drive {
             _ if when(c.other_lun(), Rule::TaskOtherLun) => 0x05,
             0x04 => {
                 hit(Rule::ClearTaskSet);
+                when(self.logins.iter().flatten().any(Login::writes), Rule::ClearWrite);
                 for (i, login) in self.logins.iter_mut().enumerate() {
                     let Some(login) = login else { continue };
                     // "after 04h each other login that lost one gets 2Fh unless 29h stands"
@@ -161,6 +163,7 @@ impl Drive {
             _ => {
                 hit(Rule::AbortTaskSet);
                 when(self.at(sender).open() > 0, Rule::AbortTaskSetEnds);
+                when(self.at(sender).writes(), Rule::AbortTaskSetWrite);
                 self.at_mut(sender).end_exchanges();
                 // "Done: 00."
                 0x00
@@ -176,6 +179,7 @@ impl Drive {
             hit(Rule::Test1);
             when(self.at(i).free_place().is_none(), Rule::Test1Eight);
             when(self.at(i).attention != Attention::None, Rule::Test1Attention);
+            self.count_test_1(i, place, code);
             self.at_mut(i).exchanges[place] = None;
             return Outcome::Check((0x0B, 0x4E, 0x00));
         }
@@ -197,10 +201,11 @@ impl Drive {
         if when(![0x00, 0x03, 0x12, 0x25, 0x28, 0x2A].contains(&code), Rule::Test4) {
             return Outcome::Check((0x05, 0x20, 0x00));
         }
-        // "(5) 2Ah, 07/27/00"
-        if when(code == WRITE_10, Rule::Test5) {
+        // "(5) 2Ah, 07/27/00"; 02, 2: "read-only units still give 07/27/00 at test 5"
+        if when(code == WRITE_10 && !self.setup.allows_writing(), Rule::Test5) {
             return Outcome::Check((0x07, 0x27, 0x00));
         }
+        // 02, 2: "tests 6 and 7 treat WRITE(10) as READ(10)"
         // "(6) INQUIRY byte 1 bit 0 or byte 2, READ CAPACITY bytes 2-5 or byte 8 bit 0, READ(10) byte 1 bit 0 set, 05/24/00"
         let cdb = &c.cdb;
         let field = match code {
@@ -209,6 +214,7 @@ impl Drive {
                 when(cdb[2..6] != [0; 4], Rule::Test6CapacityAddress) || when(cdb[8] & 1 != 0, Rule::Test6CapacityBit)
             }
             READ_10 => when(cdb[1] & 1 != 0, Rule::Test6ReadBit),
+            WRITE_10 => when(cdb[1] & 1 != 0, Rule::Test6WriteBit),
             _ => false,
         };
         if field {
@@ -216,9 +222,10 @@ impl Drive {
         }
         // "(7) READ(10) address not below capacity, or address plus count above it, 05/21/00"
         let capacity = self.setup.capacity;
-        if code == READ_10
+        if (code == READ_10 || code == WRITE_10)
             && (when(c.address() >= capacity, Rule::Test7Address) || when(c.address() + c.count() > capacity, Rule::Test7Count))
         {
+            when(code == WRITE_10, Rule::Test7Write);
             return Outcome::Check((0x05, 0x21, 0x00));
         }
         // "Wanted: 0; 18 or byte 4 if smaller ..; 36 or byte 4 if smaller ..; 8 ..; count × 512"
@@ -237,17 +244,25 @@ impl Drive {
                 REQUEST_SENSE => Rule::DoneRequestSense,
                 INQUIRY => Rule::DoneInquiry,
                 READ_CAPACITY => Rule::DoneReadCapacity,
+                WRITE_10 if wanted == 0 => Rule::DoneWriteNone,
+                WRITE_10 => Rule::DoneWrite,
                 _ if wanted == 0 => Rule::DoneReadNone,
                 _ => Rule::DoneRead,
             });
             return Outcome::Done(wanted);
         }
-        // "(8) bytes to send without the read bit, RSP_CODE 02"
-        if when(!c.read, Rule::Test8) {
+        // "(8) bytes to send without the read bit, RSP_CODE 02"; 02, 2: "test 8 asks the write bit for a write"
+        let lacks_bit = match code {
+            WRITE_10 => when(!c.write, Rule::Test8Write),
+            _ => when(!c.read, Rule::Test8),
+        };
+        if lacks_bit {
+            when(code == WRITE_10 && c.read, Rule::Test8WriteRead);
             return Outcome::RspCode(0x02);
         }
-        // "(9) bytes to send, eight open, status 28h"
+        // "(9) bytes to send, eight open, status 28h", or bytes to take
         if when(self.at(i).free_place().is_none(), Rule::Test9) {
+            when(code == WRITE_10, Rule::Test9Write);
             when(code == REQUEST_SENSE && self.at(i).attention != Attention::None, Rule::Test9Attention);
             return Outcome::Full;
         }
@@ -260,6 +275,10 @@ impl Drive {
                 let last = (capacity - 1) as u32;
                 Source::Made([last.to_be_bytes(), 512u32.to_be_bytes()].concat())
             }
+            WRITE_10 => {
+                self.count_write(c, i);
+                Source::Host(c.address())
+            }
             _ => {
                 hit(Rule::OpensRead);
                 when(c.address() + c.count() == capacity, Rule::OpensReadToEnd);
@@ -267,7 +286,42 @@ impl Drive {
                 Source::Unit(c.address())
             }
         };
-        Outcome::Opens(Exchange { ox_id, source, wanted, fcp_dl: c.fcp_dl, sent: 0 })
+        Outcome::Opens(Exchange { ox_id, source, wanted, fcp_dl: c.fcp_dl, sent: 0, asked: 0 })
+    }
+
+    /// Counts a WRITE(10) that opens.
+    fn count_write(&self, c: &Command, i: usize) {
+        let (from, to) = (c.address(), c.address() + c.count());
+        hit(Rule::OpensWrite);
+        when(to == self.setup.capacity, Rule::OpensWriteToEnd);
+        when(from >= 8_388_608, Rule::OpensWritePast);
+        when(c.count() > 128, Rule::OpensWriteBursts);
+        when(c.fcp_dl % 512 != 0 && c.fcp_dl < c.count() as u32 * 512, Rule::OpensWriteHalf);
+        let overlaps = |e: &Exchange| match e.source {
+            Source::Host(start) => start < to && from < start + u64::from(e.wanted) / 512,
+            _ => false,
+        };
+        let overlap = |login: &Login| login.exchanges.iter().flatten().any(overlaps);
+        when(overlap(self.at(i)), Rule::OpensWriteOverlap);
+        when(self.logins.iter().flatten().any(|l| l.address != self.at(i).address && overlap(l)), Rule::OpensWriteOverlapOther);
+        let open = self.at(i).exchanges.iter().flatten();
+        when(open.clone().any(Exchange::writes) && open.clone().any(|e| !e.writes()), Rule::OpensWriteMixed);
+        when(open.filter(|e| e.writes()).count() == 7, Rule::OpensWriteEighth);
+    }
+
+    /// Counts what test 1 ends, where it is a write, and a WRITE(10) under an open OX_ID.
+    fn count_test_1(&self, i: usize, place: usize, code: u8) {
+        let e = self.at(i).exchanges[place].as_ref().unwrap();
+        if e.writes() {
+            hit(if e.sent == e.total() {
+                Rule::Test1Written
+            } else if e.sent > 0 {
+                Rule::Test1HalfWritten
+            } else {
+                Rule::Test1Write
+            });
+        }
+        when(code == WRITE_10, Rule::Test1ByWrite);
     }
 
     /// "00/00/00, the attention, cleared as its exchange opens, or 05/25/00 for another LUN"
@@ -336,7 +390,7 @@ pub(crate) fn fcp_rsp(status: u8, wanted: u32, fcp_dl: u32) -> Vec<u8> {
 }
 
 /// "then 8 bytes with the code at 3 (flag 01h)"; "RSP_CODE and task answers give 0" as FCP_RESID.
-fn rsp_code(code: u8) -> Vec<u8> {
+pub(crate) fn rsp_code(code: u8) -> Vec<u8> {
     let mut payload = vec![0; 32];
     payload[10] = 0x01;
     payload[20..24].copy_from_slice(&8u32.to_be_bytes());

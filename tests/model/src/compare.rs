@@ -58,8 +58,8 @@ pub fn compare(
         .stderr(Stdio::piped())
         .spawn()
         .map_err(|e| format!("cannot run {}: {e}", program.words[0]))?;
-    let (to, from) = pipes(&mut child);
-    let result = converse(program, slow, cut, &mut next, to, from);
+    let (to, lent, from) = pipes(&mut child);
+    let result = converse(program, slow, cut, &mut next, (to, lent, from));
     // ended or not, the child is not left behind
     if result.is_some() || !ends(&mut child, program.wait) {
         let _ = child.kill();
@@ -74,9 +74,13 @@ pub fn compare(
     Ok(result)
 }
 
+/// What goes to the child, how many bytes of a window stand behind each answer but 255, and what it wrote.
+type Pipes = (Sender<Vec<u8>>, Sender<usize>, Receiver<Written>);
+
 /// Threads that write to the child and read from it, so that neither side waits for the other.
-fn pipes(child: &mut Child) -> (Sender<Vec<u8>>, Receiver<Written>) {
+fn pipes(child: &mut Child) -> Pipes {
     let (to, input) = channel::<Vec<u8>>();
+    let (lent, windows) = channel::<usize>();
     let (output, from) = channel();
     let mut stdin = child.stdin.take().unwrap();
     let stdout = child.stdout.take().unwrap();
@@ -90,24 +94,27 @@ fn pipes(child: &mut Child) -> (Sender<Vec<u8>>, Receiver<Written>) {
     std::thread::spawn(move || {
         let mut stdout = BufReader::with_capacity(1 << 16, stdout);
         loop {
-            let written = read_answer(&mut stdout);
+            // after the last call no answer is due
+            let window = windows.recv().unwrap_or(0);
+            let written = read_answer(&mut stdout, window);
             let end = matches!(written, Written::End(_));
             if output.send(written).is_err() || end {
                 break;
             }
         }
     });
-    (to, from)
+    (to, lent, from)
 }
 
-fn read_answer(from: &mut impl Read) -> Written {
+fn read_answer(from: &mut impl Read, window: usize) -> Written {
     let mut answer = vec![];
     let mut read = |answer: &mut Vec<u8>, n: usize| from.by_ref().take(n as u64).read_to_end(answer).is_ok_and(|m| m == n);
     if !read(&mut answer, 3) {
         return Written::End(answer);
     }
     let length = usize::from(u16::from_be_bytes([answer[1], answer[2]]));
-    if !read(&mut answer, length + 1) {
+    let window = if answer[0] == 255 { 0 } else { window };
+    if !read(&mut answer, length + 1) || !read(&mut answer, window) {
         return Written::End(answer);
     }
     Written::Answer(answer)
@@ -118,8 +125,7 @@ fn converse(
     slow: usize,
     cut: &[u8],
     next: &mut impl FnMut() -> Option<(u8, Vec<u8>, Answer)>,
-    to: Sender<Vec<u8>>,
-    from: Receiver<Written>,
+    (to, lent, from): Pipes,
 ) -> Option<Difference> {
     let mut waiting: VecDeque<Answer> = VecDeque::new();
     let mut answered = 0;
@@ -135,6 +141,7 @@ fn converse(
                     break;
                 };
                 bytes.extend(record(letter, &body));
+                let _ = lent.send(answer.window.len());
                 waiting.push_back(answer);
             }
             // a child that ended is seen on its output
@@ -142,20 +149,28 @@ fn converse(
             continue;
         }
         let expected = waiting.pop_front().unwrap().bytes();
+        let mut windows = None;
         let found = match from.recv_timeout(program.wait) {
             Ok(Written::Answer(bytes)) if bytes == expected => {
                 answered += 1;
                 continue;
             }
-            Ok(Written::Answer(bytes)) => show(&bytes),
+            Ok(Written::Answer(bytes)) => {
+                windows = windows_differ(&expected, &bytes);
+                show(&bytes)
+            }
             Ok(Written::End(bytes)) => format!("{} and the end of its output", hex(&bytes)),
             Err(RecvTimeoutError::Timeout) => format!("nothing within {} seconds", program.wait.as_secs()),
             Err(RecvTimeoutError::Disconnected) => "nothing".into(),
         };
-        return Some(Difference { call: answered, expected: show(&expected), answered: found });
+        let (expected, found) = match windows {
+            Some((e, f)) => (format!("{} {e}", show(&expected)), format!("{found} {f}")),
+            None => (show(&expected), found),
+        };
+        return Some(Difference { call: answered, expected, answered: found });
     }
     let _ = to.send(cut.to_vec());
-    drop(to);
+    drop((to, lent));
     let found = match from.recv_timeout(program.wait) {
         Ok(Written::End(bytes)) if bytes.is_empty() => return None,
         Ok(Written::End(bytes)) | Ok(Written::Answer(bytes)) => hex(&bytes),
@@ -175,10 +190,27 @@ fn ends(child: &mut Child, wait: Duration) -> bool {
     }
 }
 
-/// An answer's bytes: number, length, reply, last byte.
+/// An answer's bytes: number, length, reply, last byte, and how many of a window follow.
 pub fn show(answer: &[u8]) -> String {
-    let n = answer.len();
-    format!("{} {} {} {}", hex(&answer[..1]), hex(&answer[1..3]), hex(&answer[3..n - 1]), hex(&answer[n - 1..]))
+    let (head, window) = answer.split_at(4 + reply_length(answer));
+    let n = head.len();
+    let mut text = format!("{} {} {} {}", hex(&head[..1]), hex(&head[1..3]), hex(&head[3..n - 1]), hex(&head[n - 1..]));
+    if !window.is_empty() {
+        text += &format!(" window of {} bytes", window.len());
+    }
+    text
+}
+
+fn reply_length(answer: &[u8]) -> usize {
+    u16::from_be_bytes([answer[1], answer[2]]).into()
+}
+
+/// Of two windows of one length: where they differ first, and some bytes of each from there.
+fn windows_differ(expected: &[u8], found: &[u8]) -> Option<(String, String)> {
+    let (one, other) = (&expected[4 + reply_length(expected)..], &found[4 + reply_length(found)..]);
+    let at = one.iter().zip(other).position(|(a, b)| a != b).filter(|_| one.len() == other.len())?;
+    let some = |bytes: &[u8]| format!("from byte {at} {}", hex(&bytes[at..bytes.len().min(at + 16)]));
+    Some((some(one), some(other)))
 }
 
 /// Runs the program over given calls.

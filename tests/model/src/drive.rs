@@ -38,29 +38,43 @@ pub enum Attention {
     Cleared,
 }
 
-/// An open exchange: what it sends, how much, and how far it is.
+/// An open exchange: what it sends or takes, how much, and how far it is.
 #[derive(Clone, Debug, PartialEq)]
 pub struct Exchange {
     pub ox_id: u16,
     pub source: Source,
     pub wanted: u32,
     pub fcp_dl: u32,
+    /// bytes sent; of a write, bytes received
     pub sent: u32,
+    /// of a write, the end of the burst last asked for, 0 before the first; data is awaited while less is received
+    pub asked: u32,
 }
 
-/// Where an exchange's bytes come from.
+/// Where an exchange's bytes come from: 02, 2: "The exchange record gains a direction".
 #[derive(Clone, Debug, PartialEq)]
 pub enum Source {
     /// READ(10): the unit's bytes from this block on, out of the lent window
     Unit(u64),
     /// INQUIRY, READ CAPACITY, REQUEST SENSE: made data, fixed as the exchange opens
     Made(Vec<u8>),
+    /// WRITE(10): the host's data frames, for the unit's bytes from this block on, into the lent window
+    Host(u64),
 }
 
 impl Exchange {
     /// "To send: the smaller of wanted and FCP_DL."
     pub fn total(&self) -> u32 {
         self.wanted.min(self.fcp_dl)
+    }
+
+    pub fn writes(&self) -> bool {
+        matches!(self.source, Source::Host(_))
+    }
+
+    /// Data of a write is awaited.
+    pub fn awaited(&self) -> bool {
+        self.sent < self.asked
     }
 }
 
@@ -76,6 +90,10 @@ impl Login {
 
     pub fn open(&self) -> usize {
         self.exchanges.iter().flatten().count()
+    }
+
+    pub fn writes(&self) -> bool {
+        self.exchanges.iter().flatten().any(Exchange::writes)
     }
 
     pub fn end_exchanges(&mut self) {
@@ -98,6 +116,13 @@ pub struct Window<'a> {
     pub bytes: &'a [u8],
 }
 
+/// 02, 2: "FCP_DATA frames go in order into a lent window": the window lent with a frame.
+#[derive(Debug)]
+pub struct Lent<'a> {
+    pub start: u64,
+    pub bytes: &'a mut [u8],
+}
+
 impl Drive {
     /// "Making a drive: 8."
     pub fn new(setup: Setup) -> Result<Drive, u8> {
@@ -109,8 +134,9 @@ impl Drive {
         Ok(Drive { setup, logins: Default::default() })
     }
 
-    /// Frame in: the reply's length, 0 for nothing to send, or the refusal. "Frame in: 1 to 7 in order."
-    pub fn frame_in(&mut self, frame: &[u8], reply: &mut [u8]) -> Result<usize, u8> {
+    /// Frame in: the reply's length, 0 for nothing to send, or the refusal. "Frame in: 1 to 7 in order." 02, 2: "Refusals: 11, data frame
+    /// for no open write, after 7; then 10 for its window". The window is a data frame's; with another frame it is not looked at.
+    pub fn frame_in(&mut self, frame: &[u8], window: Lent, reply: &mut [u8]) -> Result<usize, u8> {
         // "1: reply buffer under 2,136 bytes"
         if when(reply.len() < ROOM, Rule::InRoom) {
             return Err(1);
@@ -145,6 +171,7 @@ impl Drive {
             0x22 => Some(self.link_service(&h, payload)),
             0x81 => Some(self.abts(&h)),
             0x06 => self.command(&h, payload),
+            0x01 => self.data_in(&h, payload, window)?,
             // "A 23h frame that passes is answered with nothing and changes nothing."
             _ => {
                 hit(Rule::InDone);
@@ -175,10 +202,11 @@ impl Drive {
         }
         // "10: window too long or not covering"
         if when(window.bytes.len() > WINDOW, Rule::NextLong) {
+            self.count_long(login, place);
             return Err(10);
         }
         let answer = self.next(login, place, window)?;
-        Ok(stand(Some(answer), reply))
+        Ok(stand(answer, reply))
     }
 
     /// "Events: loop reset marks every login unproven; verification time over ends the unproven ones; power on ends all."
@@ -195,6 +223,7 @@ impl Drive {
                 for place in &mut self.logins {
                     if let Some(login) = place {
                         if when(!login.proven, Rule::TimeOverEnds) {
+                            when(login.writes(), Rule::TimeOverWrite);
                             *place = None;
                         } else {
                             hit(Rule::TimeOverLeaves);
@@ -203,6 +232,7 @@ impl Drive {
                 }
             }
             Event::PowerOn => {
+                when(self.logins.iter().flatten().any(Login::writes), Rule::PowerOnWrite);
                 hit(Rule::PowerOn);
                 self.logins = Default::default();
             }
@@ -235,11 +265,17 @@ impl Drive {
 }
 
 /// "Form unknown: R_CTL, TYPE not one of (22h, 01h), (23h, 01h), (81h, 00h), (06h, 08h); or DF_CTL, SEQ_CNT or the low two
-/// bits of F_CTL not 0; or a 22h frame without payload."
+/// bits of F_CTL not 0; or a 22h frame without payload." 02, 2: "The form rule admits (01h, 08h), with any SEQ_CNT and a fill count
+/// within its payload."
 fn form_unknown(h: &Header, payload: &[u8]) -> bool {
-    let known = [(0x22, 0x01), (0x23, 0x01), (0x81, 0x00), (0x06, 0x08)];
-    when(!known.contains(&(h.r_ctl, h.kind)), Rule::FormPair)
-        || when(h.df_ctl != 0, Rule::FormDfCtl)
+    let known = [(0x22, 0x01), (0x23, 0x01), (0x81, 0x00), (0x06, 0x08), (0x01, 0x08)];
+    if when(!known.contains(&(h.r_ctl, h.kind)), Rule::FormPair) {
+        return true;
+    }
+    if h.r_ctl == 0x01 {
+        return when(h.df_ctl != 0, Rule::FormDataDfCtl) || when(h.fill() > payload.len(), Rule::FormDataFill);
+    }
+    when(h.df_ctl != 0, Rule::FormDfCtl)
         || when(h.seq_cnt != 0, Rule::FormSeqCnt)
         || when(h.f_ctl & 3 != 0, Rule::FormFCtl)
         || when(h.r_ctl == 0x22 && payload.is_empty(), Rule::FormNoPayload)
@@ -252,6 +288,7 @@ fn spared(h: &Header, payload: &[u8]) -> bool {
         0x22 => Rule::UnprovenLink,
         0x23 => Rule::UnprovenDone,
         0x81 => Rule::UnprovenAbts,
+        0x01 => Rule::UnprovenData,
         _ => Rule::UnprovenCommand,
     };
     hit(rule);

@@ -1,4 +1,4 @@
-//! 01, Header and reply headers.
+//! 01, Header and reply headers, with the FCP_XFER_RDY of 02, request 2.
 
 /// "24 bytes: R_CTL, D_ID(3), reserved, S_ID(3), TYPE, F_CTL(3), SEQ_ID, DF_CTL, SEQ_CNT(2), OX_ID(2), RX_ID(2), OFFSET(4)."
 #[derive(Clone, Debug, Default, PartialEq)]
@@ -41,6 +41,11 @@ impl Header {
         }
     }
 
+    /// The fill count: "the low two bits of F_CTL".
+    pub fn fill(&self) -> usize {
+        (self.f_ctl & 3) as usize
+    }
+
     pub fn bytes(&self) -> Vec<u8> {
         let mut f = vec![self.r_ctl];
         f.extend(&self.d_id.to_be_bytes()[1..]);
@@ -75,6 +80,8 @@ pub enum Row {
     Data,
     /// FCP_RSP
     Rsp,
+    /// 02, 2: "FCP_XFER_RDY (R_CTL 05h, F_CTL 890000, ..)"
+    Ready,
 }
 
 impl Row {
@@ -88,6 +95,7 @@ impl Row {
             Row::LastData => (0x01, 0x08, 0x880008, 0x01),
             Row::Data => (0x01, 0x08, 0x800008, 0x01),
             Row::Rsp => (0x07, 0x08, 0x990000, 0x00),
+            Row::Ready => (0x05, 0x08, 0x890000, 0x00),
         }
     }
 }

@@ -4,6 +4,7 @@ mod calls;
 mod frames;
 mod moves;
 mod plans;
+mod writes;
 
 use crate::call::{unhex, Call};
 use crate::random::Random;
@@ -12,6 +13,7 @@ use model::frame::Header;
 use model::record::{Answer, Recorder};
 use model::setup::LOOP_ADDRESSES;
 use std::collections::VecDeque;
+use writes::Change;
 
 /// Frames that libfc's own code builds, to own address E8h from address 01h.
 const REAL: &str = include_str!("../libfc.frames");
@@ -27,7 +29,7 @@ pub enum Kind {
     Damage,
     /// setups and what is no call
     Setups,
-    /// one READ of more than 65,536 frames
+    /// a WRITE of three bursts, then a READ of more than 65,536 frames
     Long,
 }
 
@@ -68,7 +70,9 @@ enum Plan {
     /// the same without looking at attention and open exchanges
     Paired(u32, usize),
     Clear(u32),
+    /// a READ or, where the unit may be written, at times a WRITE
     Read(u32),
+    WriteOut(u32),
     Inquiry(u32),
     Sense(u32),
     Task(u32, u8),
@@ -82,6 +86,14 @@ enum Plan {
     Exact(u32, u16, usize),
     /// the host of the first address comes back at the second
     Move(u32, u32),
+    /// a data frame
+    Data(u32, u16),
+    /// a write to its end, in so many steps at most, with data frames of so many bytes
+    Write(u32, u16, usize, usize),
+    /// whatever is missing for a write under that OX_ID to await data, in so many steps at most
+    Awaited(u32, u16, usize),
+    /// a data frame with one change
+    Changed(u32, u16, Change),
 }
 
 pub struct History {
@@ -137,10 +149,8 @@ impl History {
         if let Some(fault) = self.drive().and_then(Drive::ill_formed) {
             panic!("the model itself is ill formed: {fault}, after {}", call.line());
         }
-        if call.letter == b'F' && answer.number == 0 && answer.reply.is_empty() && body.len() >= 26 && body[2] == 0x06 {
-            let h = Header::read(&body[2..]);
-            self.recent.push_front((h.s_id, h.ox_id));
-            self.recent.truncate(40);
+        if answer.number == 0 && answer.reply.is_empty() {
+            self.note_opened(call.letter, &body);
         }
         if call.letter == b'S' && answer.number == 0 {
             let own = self.own();
@@ -149,6 +159,21 @@ impl History {
             }
         }
         (call, body, answer)
+    }
+
+    /// A frame that was answered in silence: a command opened an exchange.
+    fn note_opened(&mut self, letter: u8, body: &[u8]) {
+        let front = match letter {
+            b'F' => 2,
+            b'D' => 12,
+            _ => return,
+        };
+        let frame = &body[front..];
+        if frame[0] == 0x06 {
+            let h = Header::read(frame);
+            self.recent.push_front((h.s_id, h.ox_id));
+            self.recent.truncate(40);
+        }
     }
 
     fn drive(&self) -> Option<&Drive> {
@@ -306,7 +331,7 @@ impl History {
                 2 => {
                     let frame = self.any_frame();
                     let room = self.room();
-                    self.send(room, &frame)
+                    self.deliver(room, &frame)
                 }
                 3 => self.some_next(),
                 4 | 5 => self.bad_setup(),
@@ -342,6 +367,9 @@ impl History {
             (18, if setups { 2 } else { 0 }),
             (19, 1),
             (20, if restless { 12 } else { 6 }),
+            (21, 60),
+            (22, 2),
+            (23, 12),
         ]);
         match choice {
             0 => Some(self.some_next()),
@@ -349,7 +377,7 @@ impl History {
                 let s_id = self.commander();
                 let frame = self.command_frame(s_id);
                 let room = self.room();
-                Some(self.send(room, &frame))
+                Some(self.deliver(room, &frame))
             }
             2 | 3 | 4 | 5 => {
                 let frame = match choice {
@@ -359,7 +387,7 @@ impl History {
                     _ => self.real_frame(),
                 };
                 let room = self.room();
-                Some(self.send(room, &frame))
+                Some(self.deliver(room, &frame))
             }
             // one exchange to its end
             6 => {
@@ -395,7 +423,7 @@ impl History {
                     self.damage(&mut frame);
                 }
                 let room = self.room();
-                Some(self.send(room, &frame))
+                Some(self.deliver(room, &frame))
             }
             10 => {
                 self.plan_loop_reset();
@@ -428,8 +456,17 @@ impl History {
                 self.plan_many_frames();
                 None
             }
-            _ => {
+            20 => {
                 self.plan_move();
+                None
+            }
+            21 => Some(self.some_data()),
+            22 => {
+                self.plan_bursts();
+                None
+            }
+            _ => {
+                self.plan_write();
                 None
             }
         }

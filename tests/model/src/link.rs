@@ -55,6 +55,7 @@ impl Drive {
         // "Of right size, it ends the sender's login and exchanges first, accepted or not (house)."
         when(self.place_of(h.s_id).is_some(), Rule::PlogiEnds);
         when(self.login(h.s_id).is_some_and(|l| l.open() > 0), Rule::PlogiEndsExchanges);
+        when(self.login(h.s_id).is_some_and(Login::writes), Rule::PlogiWrite);
         when(self.logins.iter().flatten().count() == LOGINS && self.place_of(h.s_id).is_some(), Rule::PlogiMemberOfFull);
         let before = self.place_of(h.s_id);
         self.end_login(h.s_id);
@@ -110,6 +111,7 @@ impl Drive {
         let (left, used) = (self.at(i), self.logins.iter().flatten().count());
         hit(if sender.is_none() { Rule::Moved } else { Rule::MovedOnto });
         when(left.open() > 0, Rule::MovedExchanges);
+        when(left.writes(), Rule::MovedWrite);
         when(!left.proven, Rule::MovedUnproven);
         when(!left.paired, Rule::MovedUnpaired);
         when(left.parameters.node_name != new.node_name, Rule::MovedNode);
@@ -147,6 +149,7 @@ impl Drive {
         // "Names differ from the login's ..: drive LOGO, login ended."
         if !same_names(&self.at(i).parameters, &payload[20..28], &payload[28..36], Rule::PdiscPort, Rule::PdiscNode) {
             when(self.elsewhere(&payload[20..28], h.s_id).is_some(), Rule::PdiscElsewhere);
+            when(self.at(i).writes(), Rule::PdiscWrite);
             self.end_login(h.s_id);
             return self.drive_logo(h.s_id);
         }
@@ -168,6 +171,7 @@ impl Drive {
         let same = same_names(&self.at(i).parameters, &payload[8..16], &payload[16..24], Rule::AdiscPort, Rule::AdiscNode);
         if !same || when(three(&payload[25..28]) != h.s_id, Rule::AdiscAddress) {
             when(self.elsewhere(&payload[8..16], h.s_id).is_some(), Rule::AdiscElsewhere);
+            when(self.at(i).writes(), Rule::AdiscWrite);
             self.end_login(h.s_id);
             return self.drive_logo(h.s_id);
         }
@@ -191,6 +195,7 @@ impl Drive {
         }
         // "Ends the login if any; ACC of 4 bytes."
         hit(if self.place_of(h.s_id).is_some() { Rule::LogoEnds } else { Rule::LogoNoLogin });
+        when(self.login(h.s_id).is_some_and(Login::writes), Rule::LogoWrite);
         self.end_login(h.s_id);
         self.accept(h, &ACC)
     }
@@ -208,6 +213,7 @@ impl Drive {
         // "it marks the login paired and ends nothing; ACC 02 10 00 14, 08 00 21 00, two zero words, 00 00 00 12"
         hit(if self.at(i).paired { Rule::PrliAgain } else { Rule::PrliAcc });
         when(self.at(i).open() > 0, Rule::PrliEndsNothing);
+        when(self.at(i).writes(), Rule::PrliWrite);
         self.at_mut(i).paired = true;
         self.accept(h, &[2, 0x10, 0, 0x14, 8, 0, 0x21, 0, 0, 0, 0, 0, 0, 0, 0, 0, 0, 0, 0, 0x12])
     }
@@ -220,6 +226,7 @@ impl Drive {
         // "PRLO ends the pairing and its exchanges; ACC 02 10 00 14, 08 00 01 00, three zero words."
         hit(if self.at(i).paired { Rule::PrloAcc } else { Rule::PrloUnpaired });
         when(self.at(i).open() > 0, Rule::PrloEndsExchanges);
+        when(self.at(i).writes(), Rule::PrloWrite);
         self.at_mut(i).paired = false;
         self.at_mut(i).end_exchanges();
         self.accept(h, &[2, 0x10, 0, 0x14, 8, 0, 1, 0, 0, 0, 0, 0, 0, 0, 0, 0, 0, 0, 0, 0])
@@ -234,6 +241,7 @@ impl Drive {
         // "that OX_ID open 03,17"
         let ox_id = u16::from_be_bytes([payload[8], payload[9]]);
         if when(self.at(i).place_of(ox_id).is_some(), Rule::RrqOpen) {
+            when(self.at(i).exchanges.iter().flatten().any(|e| e.writes() && e.ox_id == ox_id), Rule::RrqWrite);
             return self.reject(h, 0x03, 0x17);
         }
         // "else ACC of 4 bytes"
@@ -255,6 +263,9 @@ impl Drive {
         // "Else the sender's exchange of that OX_ID, if any, ends"
         if let Some(place) = self.at(i).place_of(h.ox_id) {
             hit(Rule::AbtsEnds);
+            let e = self.at(i).exchanges[place].as_ref().unwrap();
+            when(e.writes(), Rule::AbtsWrite);
+            when(e.writes() && e.awaited(), Rule::AbtsAwaited);
             self.at_mut(i).exchanges[place] = None;
         } else {
             hit(Rule::AbtsNone);

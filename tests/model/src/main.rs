@@ -34,8 +34,8 @@ usage: model [options] --program PROGRAM [ARGUMENT..]   compare a recorder with 
        model --serve                                    be a recorder: the model on standard input and output
 options:
   --seed N        which histories (1)
-  --calls N       calls in random histories (100,000); the long read comes on top
-  --no-long       leave out the READ of more than 65,536 frames
+  --calls N       calls in random histories (100,000); the long history comes on top
+  --no-long       leave out the WRITE of 257 blocks and the READ of more than 65,536 frames
   --progress      a line for each history
   --counts        how often each rule branch was taken
   --no-shrink     leave a history that differs as long as it is
@@ -43,7 +43,7 @@ options:
   --wait N        seconds to wait for an answer (60)
   --save FILE     write a history that differs to FILE, too
 PROGRAM and all words after it are a recorder's command line. Of two the first, which may be slow, takes every fifth history, and the
-other the rest and the long read; each replays a file. Exit status: 0 all alike, 1 a difference, 2 not run.";
+other the rest and the long history; each replays a file. Exit status: 0 all alike, 1 a difference, 2 not run.";
 
 struct Options {
     seed: u64,
@@ -195,7 +195,7 @@ impl Part {
     }
 }
 
-/// The histories of a run: random ones, then the long read.
+/// The histories of a run: random ones, then the long one.
 fn parts(o: &Options) -> Vec<Part> {
     let mut random = Random::new(o.seed);
     let mut parts = vec![];

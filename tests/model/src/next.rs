@@ -1,13 +1,15 @@
-//! 01, Commands, last part: the next frame of an open exchange.
+//! 01, Commands, last part: the next frame of an open exchange; of a write (02, request 2) the FCP_XFER_RDY is in `write.rs`.
 
 use crate::command::{fcp_rsp, GOOD};
 use crate::drive::{Drive, Source, Window, BLOCK};
 use crate::frame::{data, reply, Row};
 use crate::rules::{hit, when, Rule};
+use std::cmp::Ordering::{Equal, Greater, Less};
 
 impl Drive {
-    /// The next frame of the exchange at `place` of the login at `i`: FCP_DATA, or FCP_RSP where all is sent.
-    pub(crate) fn next(&mut self, i: usize, place: usize, window: Window) -> Result<Vec<u8>, u8> {
+    /// The next frame of the exchange at `place` of the login at `i`: FCP_DATA, or FCP_RSP where all is sent. 02, 2: of a write
+    /// "next frames are FCP_XFER_RDY .., nothing while data is awaited, then FCP_RSP with the residual by 01's rule".
+    pub(crate) fn next(&mut self, i: usize, place: usize, window: Window) -> Result<Option<Vec<u8>>, u8> {
         let own = self.setup.address;
         let login = self.at_mut(i);
         let address = login.address;
@@ -18,17 +20,18 @@ impl Drive {
         let total = exchange.total();
         // "FCP_RSP follows and frees the place."
         if exchange.sent == total {
-            hit(if exchange.wanted == exchange.fcp_dl {
-                Rule::NextRspExact
-            } else if exchange.wanted > exchange.fcp_dl {
-                Rule::NextRspOver
-            } else {
-                Rule::NextRspUnder
+            hit(match (exchange.wanted.cmp(&exchange.fcp_dl), exchange.writes()) {
+                (Equal, false) => Rule::NextRspExact,
+                (Greater, false) => Rule::NextRspOver,
+                (Less, false) => Rule::NextRspUnder,
+                (Equal, true) => Rule::NextRspWriteExact,
+                (Greater, true) => Rule::NextRspWriteOver,
+                (Less, true) => Rule::NextRspWriteUnder,
             });
             let payload = fcp_rsp(GOOD, exchange.wanted, exchange.fcp_dl);
             let ox_id = exchange.ox_id;
             login.exchanges[place] = None;
-            return Ok(reply(Row::Rsp, address, own, ox_id, &payload));
+            return Ok(Some(reply(Row::Rsp, address, own, ox_id, &payload)));
         }
         let left = total - exchange.sent;
         let n = full.min(left) as usize;
@@ -43,6 +46,7 @@ impl Drive {
                 hit(Rule::NextMade);
                 &bytes[exchange.sent as usize..][..n]
             }
+            Source::Host(_) => return Ok(exchange.ready(address, own)),
         };
         // "SEQ_CNT the frame's number from 0, going round at 65,536"
         let number = exchange.sent / full;
@@ -56,7 +60,7 @@ impl Drive {
         let row = if last { Row::LastData } else { Row::Data };
         let frame = data(row, address, own, exchange.ox_id, seq_cnt, offset, bytes);
         exchange.sent += n as u32;
-        Ok(frame)
+        Ok(Some(frame))
     }
 }
 

@@ -1,7 +1,7 @@
 //! The record format of the program recorder: calls on standard input, answers on standard output.
 //! "Big-endian records: letter, u32 length n of the body, body."
 
-use crate::drive::{Drive, Event, Window};
+use crate::drive::{Drive, Event, Lent, Window};
 use crate::rules::{hit, when, Rule};
 use crate::setup::Setup;
 use std::io::{Read, Write};
@@ -20,18 +20,20 @@ pub struct Answer {
     pub number: u8,
     pub reply: Vec<u8>,
     pub kept: u8,
+    /// of a D, "all bytes of the window after the call, after a refusal too"
+    pub window: Vec<u8>,
 }
 
 impl Answer {
     /// "255 stands for what is no call .., with length 0 and last byte 1"
     fn no_call(rule: Rule) -> Answer {
         hit(rule);
-        Answer { number: 255, reply: vec![], kept: 1 }
+        Answer::bare(255)
     }
 
     /// A call that lends no buffer.
     fn bare(number: u8) -> Answer {
-        Answer { number, reply: vec![], kept: 1 }
+        Answer { number, reply: vec![], kept: 1, window: vec![] }
     }
 
     pub fn bytes(&self) -> Vec<u8> {
@@ -39,6 +41,7 @@ impl Answer {
         b.extend((self.reply.len() as u16).to_be_bytes());
         b.extend(&self.reply);
         b.push(self.kept);
+        b.extend(&self.window);
         b
     }
 }
@@ -60,21 +63,24 @@ impl Recorder {
             b'F' => self.frame(body),
             b'N' => self.next(body),
             b'E' => self.event(body),
+            b'D' => self.data(body),
             _ => Answer::no_call(Rule::NoCallLetter),
         }
     }
 
-    /// "S capacity u64, own address u32, identity 28, accept words 112."
+    /// "S capacity u64, own address u32, identity 28, accept words 112." 02, 2 appends writable u8.
     fn setup(&mut self, body: &[u8]) -> Answer {
-        if body.len() < 152 {
+        if body.len() < 153 {
+            when(body.len() == 152, Rule::NoCallOldSetup);
             return Answer::no_call(Rule::NoCallShort);
         }
-        when(body.len() > 152, Rule::CallLonger);
+        when(body.len() > 153, Rule::CallLonger);
         let setup = Setup {
             capacity: u64::from_be_bytes(body[0..8].try_into().unwrap()),
             address: u32::from_be_bytes(body[8..12].try_into().unwrap()),
             identity: body[12..40].try_into().unwrap(),
             accept: body[40..152].try_into().unwrap(),
+            writable: body[152],
         };
         match Drive::new(setup) {
             Ok(drive) => {
@@ -90,13 +96,36 @@ impl Recorder {
         }
     }
 
-    /// "F room of the reply buffer u16 (at most 4,096), frame."
+    /// "F room of the reply buffer u16 (at most 4,096), frame." It "lends an empty window at block 0".
     fn frame(&mut self, body: &[u8]) -> Answer {
         if body.len() < 2 {
             return Answer::no_call(Rule::NoCallShort);
         }
         let room = usize::from(u16::from_be_bytes([body[0], body[1]]));
-        self.lending(room, |drive, reply| drive.frame_in(&body[2..], reply))
+        self.lending(room, |drive, reply| drive.frame_in(&body[2..], Lent { start: 0, bytes: &mut [] }, reply))
+    }
+
+    /// "D room u16, start u64, frame length u16, frame, window. The usual answer, then all bytes of the window after the call, after a
+    /// refusal too."
+    fn data(&mut self, body: &[u8]) -> Answer {
+        if body.len() < 12 {
+            return Answer::no_call(Rule::NoCallShort);
+        }
+        let room = usize::from(u16::from_be_bytes([body[0], body[1]]));
+        let start = u64::from_be_bytes(body[2..10].try_into().unwrap());
+        let length = usize::from(u16::from_be_bytes([body[10], body[11]]));
+        // "A frame length past the body is no call."
+        if body.len() - 12 < length {
+            return Answer::no_call(Rule::NoCallFrame);
+        }
+        let (frame, window) = body[12..].split_at(length);
+        let mut window = window.to_vec();
+        let mut answer = self.lending(room, |drive, reply| drive.frame_in(frame, Lent { start, bytes: &mut window }, reply));
+        // what is no call has "nothing more"
+        if answer.number != 255 {
+            answer.window = window;
+        }
+        answer
     }
 
     /// "N address u32, OX_ID u16, room u16, window start u64, window bytes."
@@ -146,7 +175,7 @@ impl Recorder {
             Err(number) => (number, 0),
         };
         let kept = lent[length..].iter().all(|&b| b == FILL);
-        Answer { number, reply: lent[..length].to_vec(), kept: kept.into() }
+        Answer { number, reply: lent[..length].to_vec(), kept: kept.into(), window: vec![] }
     }
 }
 

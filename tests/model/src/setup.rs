@@ -1,4 +1,5 @@
-//! 01, Setup: the limits of a drive, the valid addresses, and the PLOGI rules which setup shares with PLOGI and PDISC.
+//! 01, Setup: the limits of a drive, the valid addresses, and the PLOGI rules which setup shares with PLOGI and PDISC; 02, request 2:
+//! whether the unit may be written.
 
 use crate::rules::{hit, when, Rule};
 
@@ -25,6 +26,8 @@ pub struct Setup {
     pub address: u32,
     pub identity: [u8; 28],
     pub accept: [u8; 112],
+    /// 1 for a unit that may be written, 0 for one that is read only
+    pub writable: u8,
 }
 
 impl Setup {
@@ -41,6 +44,10 @@ impl Setup {
         if when(!valid_address(self.address), Rule::SetupAddress) {
             return false;
         }
+        // 02, 2: "units whose setup allows it": one flag, 0 or 1
+        if when(self.writable > 1, Rule::SetupWritable) {
+            return false;
+        }
         // "words 1 to 28 of the login accept, which must pass the PLOGI rules below with W20/B1 = 01h"
         match judge(&self.accept) {
             Err(fault) => {
@@ -49,6 +56,10 @@ impl Setup {
             }
             Ok(parameters) => !when(parameters.open_sequences != 1, Rule::SetupOpenSequencesNotOne),
         }
+    }
+
+    pub fn allows_writing(&self) -> bool {
+        self.writable == 1
     }
 
     pub fn port_name(&self) -> [u8; 8] {

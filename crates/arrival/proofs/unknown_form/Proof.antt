@@ -12,23 +12,19 @@ returns c = rw (sym (c .before .before .before .known-pair .ensures) ∙ c .befo
 
 returns-2 : tie.Need-returns-2
 unfolding unknownForm
-returns-2 c = rw (sym (c .before .before .before .before .before .known-pair .ensures) ∙ c .before .before .before .before .if1 .taken, eq-eqb _ _ (c .before .before .if2 .left), ne-eqb _ _ (c .if3 .taken))
+returns-2 c = rw (sym (c .before .before .before .before .before .known-pair .ensures) ∙ c .before .before .before .before .if1 .taken, eq-eqb _ _ (c .before .before .if2 .left), sym (c .before .bad-sequence .ensures) ∙ c .if3 .taken)
 
 returns-3 : tie.Need-returns-3
 unfolding unknownForm
-returns-3 c = rw (sym (c .before .before .before .before .before .before .before .known-pair .ensures) ∙ c .before .before .before .before .before .before .if1 .taken, eq-eqb _ _ (c .before .before .before .before .if2 .left), eq-eqb _ _ (c .before .before .if3 .left), ne-eqb _ _ (c .if4 .taken))
+returns-3 c = rw (sym (c .before .before .before .before .before .before .before .known-pair .ensures) ∙ c .before .before .before .before .before .before .if1 .taken, eq-eqb _ _ (c .before .before .before .before .if2 .left), sym (c .before .before .before .bad-sequence .ensures) ∙ c .before .before .if3 .left, eq-eqb _ _ (c .if4 .taken))
 
 returns-4 : tie.Need-returns-4
 unfolding unknownForm
-returns-4 c = rw (sym (c .before .before .before .before .before .before .before .before .before .known-pair .ensures) ∙ c .before .before .before .before .before .before .before .before .if1 .taken, eq-eqb _ _ (c .before .before .before .before .before .before .if2 .left), eq-eqb _ _ (c .before .before .before .before .if3 .left), eq-eqb _ _ (c .before .before .if4 .left), eq-eqb _ _ (c .if5 .taken))
+returns-4 c = rw (sym (c .before .before .before .before .before .before .before .known-pair .ensures) ∙ c .before .before .before .before .before .before .if1 .taken, eq-eqb _ _ (c .before .before .before .before .if2 .left), sym (c .before .before .before .bad-sequence .ensures) ∙ c .before .before .if3 .left, ne-eqb _ _ (c .if4 .left))
 
 returns-5 : tie.Need-returns-5
 unfolding unknownForm
-returns-5 c = rw (sym (c .before .before .before .before .before .before .before .before .before .known-pair .ensures) ∙ c .before .before .before .before .before .before .before .before .if1 .taken, eq-eqb _ _ (c .before .before .before .before .before .before .if2 .left), eq-eqb _ _ (c .before .before .before .before .if3 .left), eq-eqb _ _ (c .before .before .if4 .left), ne-eqb _ _ (c .if5 .left))
-
-returns-6 : tie.Need-returns-6
-unfolding unknownForm
-returns-6 c = rw (sym (c .before .known-pair .ensures) ∙ c .if1 .left)
+returns-5 c = rw (sym (c .before .known-pair .ensures) ∙ c .if1 .left)
 
 pub unknown-form-spec : {M : Type 1} → statement M
 unknown-form-spec =
@@ -36,8 +32,8 @@ unknown-form-spec =
     (tie.spec
     (λ c κs. search needs)
     returns
+    (λ c κs. search needs)
     returns-2
     returns-3
     returns-4
-    returns-5
-    returns-6)
+    returns-5)

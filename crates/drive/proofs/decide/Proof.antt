@@ -1,4 +1,4 @@
--- `drive::decide` meets its contract: a kind an arm. Assumes nothing.
+-- `drive::decide` meets its contract: a form an arm. Assumes nothing.
 use mathlib.Core.Path.{sym, _∙_}
 use Rattle.drive.specs.Turn.{decisionOf}
 use borrow.Author.Needs.{needs}
@@ -21,6 +21,10 @@ returns-4 : tie.Need-returns-4
 unfolding decisionOf
 returns-4 c = rw (sym (c .before .before .before .form-of .ensures) ∙ c .before .enum-told4 .given .1) (c .command .ensures)
 
+returns-5 : tie.Need-returns-5
+unfolding decisionOf
+returns-5 c = rw (sym (c .before .before .before .form-of .ensures) ∙ c .before .enum-told5 .given .1) (c .take .ensures)
+
 pub decide-spec : {M : Type 1} → statement M
 decide-spec =
     tie.close
@@ -34,7 +38,10 @@ decide-spec =
     (λ c κs. search needs)
     (λ c. search needs)
     (λ c κs. search needs)
+    (λ c. search needs)
+    (λ c κs. search needs)
     returns
     returns-2
     returns-3
-    returns-4)
+    returns-4
+    returns-5)

@@ -15,7 +15,7 @@ returns c =
     ap {B = Drive}
     (λ (l : Login).
     record {
-      unit = record { capacity = s .capacity; identity = s .identity };
+      unit = record { capacity = s .capacity; identity = s .identity; writable = s .writable };
       port = record { address = s .address; accept = s .accept; logins = replicate 8 l };
     })
     (c .empty-login .ensures)

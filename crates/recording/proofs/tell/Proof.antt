@@ -1,43 +1,43 @@
--- `recording::tell` meets its contract: a letter an arm. Assumes nothing.
-use borrow.Author.Tests.{ne-eqb}
-use Rattle.recording.specs.Calls.{toldBy}
+-- `recording::tell` meets its contract: a D that is a call, or a letter whose body is only read. Assumes nothing.
+use mathlib.Core.Path.{_≡_, sym, _∙_}
+use mathlib.Core.Bool.{true, false}
+use Rattle.recording.specs.Calls.{isDataCall, toldBy, bodyAfter}
+use Rattle.recording.proofs.Laws.{told-if, told-else}
+use Rattle.recording.proofs.Data.{data-fits}
 use borrow.Author.Needs.{needs}
 use Rattle.recording.proofs.tell.Statement.{statement}
 use Rattle.recording.proofs.tell.Tie as tie
 
+tell-data-requires : tie.Need-tell-data-requires
+tell-data-requires c κs =
+    let t = c .before in
+    data-fits _ _ _ (sym (t .before .is-data-call .ensures) ∙ t .if1 .taken)
+
 returns : tie.Need-returns
-unfolding toldBy
-returns c = rw (c .before .match .keys1) (c .tell-setup .ensures)
+unfolding toldBy bodyAfter
+returns c =
+    let d = c .before .before in
+    let t = d .before .before in
+    let a = t .before .before .before .before .args in
+    let e : isDataCall (a .s) (a .letter) (a .body .now) ≡ true = sym (t .before .is-data-call .ensures) ∙ t .if1 .taken in
+    (told-if _ _ e (d .tell-data .ensures .0), rw e (d .tell-data .ensures .1))
 
 returns-2 : tie.Need-returns-2
-unfolding toldBy
-returns-2 c = rw (c .before .match .keys2) (c .tell-frame .ensures)
-
-returns-3 : tie.Need-returns-3
-unfolding toldBy
-returns-3 c = rw (c .before .match .keys3) (c .tell-next .ensures)
-
-returns-4 : tie.Need-returns-4
-unfolding toldBy
-returns-4 c = rw (c .before .match .keys4) (c .tell-event .ensures)
-
-returns-5 : tie.Need-returns-5
-unfolding toldBy
-returns-5 c =
-    let m = c .before .match .rest in
-    rw (ne-eqb _ _ (m .0 .0 .0 .1), ne-eqb _ _ (m .0 .0 .1), ne-eqb _ _ (m .0 .1), ne-eqb _ _ (m .1)) (c .no-call .ensures)
+unfolding toldBy bodyAfter
+returns-2 c =
+    let t = c .before .before in
+    let a = t .before .before .before .before .args in
+    let e : isDataCall (a .s) (a .letter) (a .body .now) ≡ false = sym (t .before .is-data-call .ensures) ∙ t .if1 .left in
+    (told-else _ _ e (c .tell-read .ensures), rw e)
 
 pub tell-spec : {M : Type 1} → statement M
 tell-spec =
     tie.close
     (tie.spec
     (λ c κs. search needs)
+    tell-data-requires
     (λ c κs. search needs)
-    (λ c κs. search needs)
-    (λ c κs. search needs)
-    (λ c κs. search needs)
+    (λ c. search needs)
     returns
-    returns-2
-    returns-3
-    returns-4
-    returns-5)
+    (λ c. search needs)
+    returns-2)

@@ -21,9 +21,10 @@ returns-2 c =
 returns-3 : tie.Need-returns-3
 unfolding frameCall
 returns-3 c =
-    let t = c .before .before in
+    let h = c .before in
+    let t = h .before .before .before in
     let b = t .before .before in
-    rw (le-ltb _ _ (b .before .if1 .left), sym (b .be16 .ensures), le-ltb _ _ (t .before .if2 .left)) (told-if _ _ (t .if3 .taken) (rw (rest-is 2 (b .before .before .before .args .body .now)) at (c .hand-frame .ensures)))
+    rw (le-ltb _ _ (b .before .if1 .left), sym (b .be16 .ensures), le-ltb _ _ (t .before .if2 .left)) (told-if _ _ (t .if3 .taken) (rw (rest-is 2 (b .before .before .before .args .body .now)) at (h .hand-frame .ensures .0)))
 
 returns-4 : tie.Need-returns-4
 unfolding frameCall
@@ -42,6 +43,7 @@ tell-frame-spec =
     (λ c. search needs)
     (λ c κs. search needs)
     returns-2
+    (λ c. search needs)
     (λ c. search needs)
     (λ c. search needs)
     (λ c. search needs)

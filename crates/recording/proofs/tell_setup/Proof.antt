@@ -13,10 +13,10 @@ unfolding setupCall
 returns c = rw (lt-ltb _ _ (c .before .if1 .taken)) (c .no-call .ensures)
 
 slice-aggregate-setup-in : tie.Need-slice-aggregate-setup-in
-slice-aggregate-setup-in c = sym (length-take-le 152 (c .before .before .before .args .body .now) (c .before .if1 .left))
+slice-aggregate-setup-in c = sym (length-take-le 153 (c .before .before .before .args .body .now) (c .before .if1 .left))
 
 setup-in-requires : tie.Need-setup-in-requires
-setup-in-requires c κs = length-take-le 152 (c .before .before .before .args .body .now) (c .before .if1 .left)
+setup-in-requires c κs = length-take-le 153 (c .before .before .before .args .body .now) (c .before .if1 .left)
 
 returns-2 : tie.Need-returns-2
 unfolding setupCall

@@ -30,11 +30,16 @@ returns-7 c = rw (c .before .before .before .before .before .r3 .given .1) (c .b
 returns-8 : tie.Need-returns-8
 returns-8 c = rw (c .before .before .before .before .before .r4 .given .1) (c .before .before .put-data .ensures)
 
+returns-9 : tie.Need-returns-9
+returns-9 c = rw (c .before .before .before .before .before .r5 .given .1) (c .before .before .put-ready .ensures)
+
 pub put-payload-spec : {M : Type 1} → statement M
 put-payload-spec =
     tie.close
     (tie.spec
     (λ c. search needs)
+    (λ c. search needs)
+    (λ c κs. search needs)
     (λ c. search needs)
     (λ c κs. search needs)
     (λ c. search needs)
@@ -63,4 +68,6 @@ put-payload-spec =
     (λ c. search needs)
     returns-7
     (λ c. search needs)
-    returns-8)
+    returns-8
+    (λ c. search needs)
+    returns-9)

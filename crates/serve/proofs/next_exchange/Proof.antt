@@ -7,11 +7,19 @@ use Rattle.serve.proofs.next_exchange.Tie as tie
 
 returns : tie.Need-returns
 unfolding nextExchange
-returns c = rw (sym (c .before .before .before .has-more .ensures) ∙ c .before .before .if1 .taken) (rw (c .before .next-bytes .ensures .0) at (c .advance .ensures))
+returns c =
+    let w = c .before .before in
+    rw (sym (w .before .before .has-more .ensures) ∙ w .before .if1 .taken, sym (w .is-write .ensures) ∙ c .before .if2 .taken) (c .ask-data .ensures)
 
 returns-2 : tie.Need-returns-2
 unfolding nextExchange
-returns-2 c = rw (sym (c .before .before .has-more .ensures) ∙ c .before .if1 .left) (c .empty-exchange .ensures)
+returns-2 c =
+    let w = c .before .before .before in
+    rw (sym (w .before .before .has-more .ensures) ∙ w .before .if1 .taken, sym (w .is-write .ensures) ∙ c .before .before .if2 .left) (rw (c .before .next-bytes .ensures .0) at (c .advance .ensures))
+
+returns-3 : tie.Need-returns-3
+unfolding nextExchange
+returns-3 c = rw (sym (c .before .before .has-more .ensures) ∙ c .before .if1 .left) (c .empty-exchange .ensures)
 
 pub next-exchange-spec : {M : Type 1} → statement M
 next-exchange-spec =
@@ -22,4 +30,7 @@ next-exchange-spec =
     (λ c κs. search needs)
     returns
     (λ c κs. search needs)
-    returns-2)
+    (λ c κs. search needs)
+    returns-2
+    (λ c κs. search needs)
+    returns-3)

@@ -20,7 +20,6 @@ main-spec =
     (λ c κs. tt)
     (λ c. tt)
     (λ c. omega arith)
-    (λ c κs. tt)
     (λ c. search needs)
     (λ c κs. tt)
     (λ c κs. tt)

@@ -1,4 +1,4 @@
-//! Records: frames with room, next frames with windows, setups, and what is no call.
+//! Records: frames with room, next frames with windows, setups, and what is no call. Those of writes are in `writes.rs`.
 
 use super::{History, Kind, SIZES_GOOD};
 use crate::call::{record, Call};
@@ -60,11 +60,11 @@ impl History {
             3 => self.capacity(),
             _ => 0,
         };
-        let length = match self.random.below(120) {
+        let length = match self.random.below(180) {
             0 => WINDOW,
             1 => WINDOW + 1,
             2 => self.random.within(WINDOW + 1, 69_984),
-            3..=40 => self.random.below(600),
+            3..=60 => self.random.below(600),
             _ => 0,
         };
         (start, length)
@@ -72,12 +72,19 @@ impl History {
 
     /// A window for the next frame: mostly one that covers, at times just not.
     pub(super) fn window(&mut self, address: u32, ox_id: u16) -> (u64, usize) {
-        let Some((position, n)) = self.wants(address, ox_id) else { return self.any_window() };
-        let (start, exact) = self.exact_window(address, ox_id);
-        let inside = (position % 512) as usize;
+        match self.wants(address, ox_id) {
+            Some((position, n)) => self.fit(position, n, 330),
+            None => self.any_window(),
+        }
+    }
+
+    /// A window for the `n` bytes at `position`: mostly one that covers, at times just not. Long ones in `long` of 25,000.
+    pub(super) fn fit(&mut self, position: u64, n: usize, long: usize) -> (u64, usize) {
+        let (start, inside) = (position / 512, (position % 512) as usize);
+        let exact = inside + n;
         match self.random.below(100) {
             // long windows seldom
-            72 | 73 | 90 | 91 if self.random.chance(500) => (start, exact),
+            72 | 73 | 90 | 91 if !self.random.chance(long) => (start, exact),
             0..=44 => (start, exact),
             45..=59 => (start, exact + self.random.below(64)),
             60..=71 => {
@@ -90,15 +97,15 @@ impl History {
                 (start - back, WINDOW)
             }
             73 => (start, WINDOW),
-            74..=80 => (start, exact - 1),
+            74..=80 => (start, exact.saturating_sub(1)),
             81 | 82 => (start, inside),
             83..=86 => (start + 1, exact + 512),
             87 => (start + 1, exact.saturating_sub(512)),
             88 => {
                 let back = (self.random.within(1, 3) as u64).min(start);
-                (start - back, exact + 512 * back as usize - 1)
+                (start - back, (exact + 512 * back as usize).saturating_sub(1))
             }
-            89 => (start, self.random.below(exact)),
+            89 => (start, self.random.below(exact.max(1))),
             90 => (start, WINDOW + 1),
             91 => {
                 let back = 128.min(start);
@@ -131,6 +138,10 @@ impl History {
             }
             _ => (self.sender(), self.ox_id()),
         };
+        // a write that awaits data mostly gets some
+        if self.awaited(address, ox_id) && self.random.chance(850) {
+            return self.data_call(address, ox_id);
+        }
         match self.random.below(150) {
             0 => address |= 1 << self.random.within(8, 31),
             1 => address = self.own(),
@@ -163,6 +174,7 @@ impl History {
         body.extend(own.to_be_bytes());
         body.extend(self.random.bytes(28));
         body.extend(words);
+        body.push(u8::from(self.random.chance(850)));
         body
     }
 
@@ -170,7 +182,7 @@ impl History {
     pub(super) fn bad_setup(&mut self) -> Call {
         let mut body = self.setup_body();
         for _ in 0..self.random.pick(&[1, 1, 2]) {
-            match self.random.below(8) {
+            match self.random.below(9) {
                 0 | 6 => {
                     let capacity = self.random.pick(&[0, 1 << 32, (1 << 32) + 1, u64::MAX, 1 << 63, 0x0000_0001_0000_0064]);
                     body[0..8].copy_from_slice(&capacity.to_be_bytes());
@@ -178,7 +190,8 @@ impl History {
                 1 => body[11] = self.random.u8(),
                 2 => body[self.random.within(8, 10)] = 1 << self.random.below(8),
                 3 => body[117] = self.random.pick(&[0, 2, 3, 0x81, 0xFF]),
-                _ => self.break_words(&mut body[40..]),
+                4 => body[152] = self.random.pick(&[2, 2, 3, 0x10, 0x80, 0x81, 0xFF]),
+                _ => self.break_words(&mut body[40..152]),
             }
         }
         Call::new(b'S', body)
@@ -186,13 +199,13 @@ impl History {
 
     /// What is no call, or only just one.
     pub(super) fn no_call(&mut self) -> Call {
-        match self.random.below(12) {
+        match self.random.below(14) {
             0 => {
                 let letter = self.random.u8();
                 let n = self.random.below(20);
                 Call::new(letter, self.random.bytes(n))
             }
-            1 => Call::new(self.random.pick(b"sfneTRMO\0"), self.setup_body()),
+            1 => Call::new(self.random.pick(b"sfnedTRMO\0"), self.setup_body()),
             2 => Call::new(b'E', vec![self.random.pick(&[0, 4, 5, 0x80, 0xFF])]),
             3 => Call::new(b'E', vec![]),
             4 => {
@@ -205,11 +218,11 @@ impl History {
             }
             6 => {
                 let mut body = self.setup_body();
-                body.truncate(self.random.pick(&[0, 1, 12, 40, 100, 151]));
+                body.truncate(self.random.pick(&[0, 1, 12, 40, 100, 151, 152, 152]));
                 Call::new(b'S', body)
             }
             7 if self.random.chance(600) => {
-                let letter = self.random.pick(b"SFNEX");
+                let letter = self.random.pick(b"SFNEDX");
                 let mut body = if letter == b'S' { self.setup_body() } else { self.room().to_be_bytes().to_vec() };
                 if letter == b'E' {
                     body = vec![1];
@@ -235,8 +248,38 @@ impl History {
                 Call::new(b'S', body)
             }
             11 if self.random.chance(300) => Call::new(b'E', vec![1, 3]),
+            12 | 13 => self.no_data_call(),
             _ => Call::new(self.random.pick(b"XYZ"), vec![]),
         }
+    }
+
+    /// A `D` that is no call, or only just one: cut, with a frame length past its body or up to its end, or with too much room.
+    fn no_data_call(&mut self) -> Call {
+        let frame = self.any_frame();
+        let room = self.random.pick(&[2_136, 2_136, 2_136, 4_096, 4_097, 0, 2_135]);
+        let length = self.random.pick(&[0, 0, 1, 40]);
+        let mut call = self.data_record(room, 0, &frame, length);
+        match self.random.below(6) {
+            0 => {
+                call = Call::new(b'D', call.body);
+                let n = self.random.pick(&[0, 1, 2, 9, 10, 11]);
+                call.body.truncate(n);
+            }
+            1 | 2 => {
+                // the frame length one more than there is, or much more
+                let more = self.random.pick(&[1, 1, 4, 30_000]);
+                let past = (frame.len() + length + more) as u16;
+                call.body[10..12].copy_from_slice(&past.to_be_bytes());
+            }
+            3 => call.body[10..12].fill(0),
+            4 => {
+                // the window is the frame's end
+                let whole = (frame.len() + length) as u16;
+                call.body[10..12].copy_from_slice(&whole.to_be_bytes());
+            }
+            _ => {}
+        }
+        call
     }
 
     /// The front part of a record, which ends the recorder.

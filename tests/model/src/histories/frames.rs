@@ -288,11 +288,7 @@ impl History {
                 let (address, count) = self.range();
                 cdb[2..6].copy_from_slice(&address.to_be_bytes());
                 cdb[7..9].copy_from_slice(&count.to_be_bytes());
-                if code == 0x28 {
-                    u32::from(count) * 512
-                } else {
-                    0
-                }
+                u32::from(count) * 512
             }
             _ => 0,
         };
@@ -311,7 +307,7 @@ impl History {
             8 => wanted + 1_024,
             9 => wanted / 2,
             10 => 1,
-            // so much of a long read as ends soon
+            // so much of a long read or write as ends soon
             11..=18 if wanted > 8_192 => self.random.within(1, 8_192) as u32,
             _ => wanted,
         }
@@ -319,7 +315,8 @@ impl History {
 
     /// A command frame, sometimes with one to three things wrong.
     pub(super) fn command_frame(&mut self, s_id: u32) -> Vec<u8> {
-        let code = self.weighted(&[(0x28, 50), (0x12, 14), (0x03, 12), (0x25, 10), (0x00, 6), (0x2A, 2), (0xFF, 2)]);
+        let write = if self.writable() { 36 } else { 8 };
+        let code = self.weighted(&[(0x28, 46), (0x12, 14), (0x03, 12), (0x25, 10), (0x00, 6), (0x2A, write), (0xFF, 2)]);
         let code = if code == 0xFF { self.random.u8() } else { code };
         let (mut cdb, wanted) = self.cdb(code);
         let fcp_dl = self.fcp_dl(wanted);
@@ -328,22 +325,27 @@ impl History {
         if self.random.chance(300) {
             bits |= self.random.u8() & 0xFC;
         }
+        // on a read-only unit test 5 comes before 6
+        if code == 0x2A && !self.writable() && self.random.chance(200) {
+            cdb[1] |= 1;
+        }
         let mut size = 32;
         let mut ox_id = self.ox_id();
         if self.random.chance(350) {
             for _ in 0..self.random.pick(&[1, 1, 1, 2, 2, 3]) {
-                match self.random.below(16) {
+                match self.random.below(17) {
                     0..=2 => lun[self.random.below(8)] = 1 << self.random.below(8),
                     3 | 4 => flags = self.task_flags(),
                     5 => bits |= 3,
-                    6 => bits &= 0xFD,
+                    6 => bits &= self.random.pick(&[0xFD, 0xFD, 0xFC, 0xFE]),
                     7 => size = self.random.pick(&[0, 28, 36, 4, 64, 12]),
                     8 | 9 => ox_id = self.named_ox_id(s_id),
                     10 => cdb[1] ^= 1,
                     11 => cdb[1] ^= 1 << self.random.below(8),
                     12 => cdb[self.random.within(2, 5)] ^= 1 << self.random.below(8),
                     13 => cdb[8] ^= 1,
-                    14 => cdb[self.random.within(1, 15)] ^= 1 << self.random.below(8),
+                    14 => bits ^= 3,
+                    15 => cdb[self.random.within(1, 15)] ^= 1 << self.random.below(8),
                     _ => cdb[0] = self.random.u8(),
                 }
             }
@@ -381,7 +383,7 @@ impl History {
                 cdb[4] = if code == 0x03 { 18 } else { 36 };
                 fcp_dl = cdb[4].into();
             }
-            0x28 => {
+            0x28 | 0x2A => {
                 let capacity = self.capacity();
                 let count = self.random.within(1, 6).min(capacity as usize) as u64;
                 let address = match self.random.below(3) {
@@ -397,7 +399,7 @@ impl History {
             }
             _ => {}
         }
-        let payload = self.cmnd([0; 8], 0, 2, &cdb, fcp_dl);
+        let payload = self.cmnd([0; 8], 0, if code == 0x2A { 1 } else { 2 }, &cdb, fcp_dl);
         let mut ox_id = self.ox_id();
         while self.exchange(s_id, ox_id).is_some() {
             ox_id = self.random.u16();
@@ -407,16 +409,25 @@ impl History {
 
     /// Any frame that a host sends.
     pub(super) fn any_frame(&mut self) -> Vec<u8> {
-        match self.random.below(12) {
+        match self.random.below(13) {
             0..=5 => self.link_frame(),
             6 => self.abts_frame(),
             7 => self.done_frame(),
             8 => self.real_frame(),
+            9 => self.stray_data(),
             _ => {
                 let s_id = self.commander();
                 self.command_frame(s_id)
             }
         }
+    }
+
+    /// A data frame for some open exchange, or for none.
+    fn stray_data(&mut self) -> Vec<u8> {
+        let open = self.open();
+        let (s_id, ox_id) =
+            if open.is_empty() || self.random.chance(100) { (self.sender(), self.ox_id()) } else { self.random.pick(&open) };
+        self.some_data_frame(s_id, ox_id)
     }
 
     /// One of libfc's frames, to us.

@@ -135,7 +135,7 @@ impl History {
         for ox_id in open {
             let address = self.random.pick(&[from, from, to]);
             if self.random.chance(700) {
-                plans.push(Plan::Next(address, ox_id));
+                plans.push(if self.random.chance(300) { Plan::Data(address, ox_id) } else { Plan::Next(address, ox_id) });
             }
         }
         for _ in 0..self.random.within(1, 3) {

@@ -12,13 +12,20 @@ impl History {
     /// Eight open at a login, then more.
     pub(super) fn plan_burst(&mut self, s_id: u32) {
         let inquiries = self.random.chance(300);
+        let writes = self.random.chance(250);
         if self.random.chance(500) {
             self.plans.push_back(Plan::Ready(s_id, 6));
         } else {
             self.plans.push_back(Plan::Paired(s_id, 4));
         }
         for _ in 0..self.random.within(7, 11) {
-            self.plans.push_back(if inquiries || self.random.chance(100) { Plan::Inquiry(s_id) } else { Plan::Read(s_id) });
+            self.plans.push_back(if writes {
+                Plan::WriteOut(s_id)
+            } else if inquiries || self.random.chance(100) {
+                Plan::Inquiry(s_id)
+            } else {
+                Plan::Read(s_id)
+            });
         }
         if self.random.chance(400) {
             self.plans.push_back(Plan::Sense(s_id));
@@ -55,6 +62,8 @@ impl History {
         for (address, ox_id) in self.open() {
             if self.random.chance(300) {
                 self.plans.push_back(Plan::Next(address, ox_id));
+            } else if self.random.chance(300) {
+                self.plans.push_back(Plan::Data(address, ox_id));
             }
         }
         for a in self.addresses(|_| true) {
@@ -175,6 +184,9 @@ impl History {
         if self.random.chance(60) {
             return self.plan_move_sweep();
         }
+        if self.random.chance(150) {
+            return self.plan_data_sweep();
+        }
         let s_id = self.commander();
         let code = self.random.pick(&[0x03, 0x05, 0x12, 0x20, 0x20, 0x21, 0x50, 0x52]);
         let ox_id = self.ox_id();
@@ -282,11 +294,12 @@ impl History {
         self.plans.push_back(Plan::Setup);
     }
 
-    /// A READ of 65,540 full frames and a last one of 1 byte, past byte 4,294,967,296; 256 bytes a frame.
+    /// A READ of 65,540 full frames and a last one of 1 byte, past byte 4,294,967,296; 256 bytes a frame. Before it, a long WRITE.
     pub(super) fn plan_long_read(&mut self) {
         let mut body = self.setup_body();
         body[0..8].copy_from_slice(&4_294_967_295u64.to_be_bytes());
         body[11] = 0xE8;
+        body[152] = 1;
         self.plans.push_back(Plan::Call(Call::new(b'S', body)));
         let (host, ox_id) = (0x01, 0x1234);
         self.hosts = vec![Host { address: host, port_name: [1; 8], node_name: [2; 8], size: 256 }];
@@ -296,6 +309,7 @@ impl History {
             |r_ctl, kind| Header { r_ctl, d_id: 0xE8, s_id: host, kind, ox_id, rx_id: 0xFFFF, ..Header::default() }.bytes();
         self.plans.push_back(Plan::Frame([header(0x22, 0x01), payload].concat()));
         self.plans.extend([Plan::Pair(host), Plan::Clear(host)]);
+        self.plan_long_write(host, ox_id);
         let mut cdb = vec![0x28, 0];
         cdb.extend(8_388_600u32.to_be_bytes());
         cdb.extend([0, 0xFF, 0xFF]);
@@ -315,7 +329,7 @@ impl History {
                 {
                     frame[3] = self.own() as u8;
                 }
-                Some(self.send(2136, &frame))
+                Some(self.deliver(2136, &frame))
             }
             Plan::Setup => Some(Call::new(b'S', self.setup_body())),
             Plan::Login(a) => {
@@ -358,7 +372,11 @@ impl History {
                 self.carry_out(missing)
             }
             Plan::Clear(a) => self.clean(a, 0x00),
-            Plan::Read(a) => self.clean(a, 0x28),
+            Plan::Read(a) => {
+                let write = self.writable() && self.random.chance(350);
+                self.clean(a, if write { 0x2A } else { 0x28 })
+            }
+            Plan::WriteOut(a) => self.clean(a, 0x2A),
             Plan::Inquiry(a) => self.clean(a, 0x12),
             Plan::Sense(a) => self.clean(a, 0x03),
             Plan::Task(a, flag) => {
@@ -377,10 +395,13 @@ impl History {
             Plan::Event(event) => Some(Call::new(b'E', vec![event])),
             Plan::Move(from, to) => self.come_back(from, to),
             Plan::Next(a, ox_id) => Some(self.next_call(a, ox_id)),
-            Plan::Drain(_, _, 0) | Plan::Exact(_, _, 0) => None,
+            Plan::Drain(_, _, 0) | Plan::Exact(_, _, 0) | Plan::Write(_, _, 0, _) | Plan::Awaited(_, _, 0) => None,
             Plan::Drain(a, ox_id, left) => {
                 self.exchange(a, ox_id)?;
                 self.plans.push_front(Plan::Drain(a, ox_id, left - 1));
+                if self.awaited(a, ox_id) && self.random.chance(850) {
+                    return Some(self.data_call(a, ox_id));
+                }
                 Some(self.next_call(a, ox_id))
             }
             Plan::Exact(a, ox_id, left) => {
@@ -392,6 +413,21 @@ impl History {
                 let (start, length) = self.exact_window(a, ox_id);
                 Some(self.next_record(a, ox_id, 2136, start, length))
             }
+            Plan::Data(a, ox_id) => Some(self.data_call(a, ox_id)),
+            Plan::Write(a, ox_id, left, most) => {
+                self.exchange(a, ox_id).filter(|(_, e)| e.writes())?;
+                self.plans.push_front(Plan::Write(a, ox_id, left - 1, most));
+                Some(self.write_step(a, ox_id, most))
+            }
+            Plan::Awaited(a, ox_id, steps) => {
+                let missing = self.missing_for_data(a, ox_id)?;
+                self.plans.push_front(Plan::Awaited(a, ox_id, steps - 1));
+                for plan in missing.into_iter().rev() {
+                    self.plans.push_front(plan);
+                }
+                None
+            }
+            Plan::Changed(a, ox_id, change) => self.changed_data(a, ox_id, change),
         }
     }
 

@@ -37,7 +37,9 @@ returns-5 c =
 
 returns-6 : tie.Need-returns-6
 unfolding decodedOf
-returns-6 c = decodes (c .decoded-as6 .ensures) (rw (c .before .match .keys6)) tt
+returns-6 c =
+    let r = c .before .before in
+    decodes (c .decoded-as6 .ensures) (rw (r .before .match .keys6, r .range-102 .ensures .0, c .before .low-bit2 .ensures)) (r .range-102 .ensures .1)
 
 returns-7 : tie.Need-returns-7
 unfolding decodedOf
@@ -60,6 +62,9 @@ decode-spec =
     (λ c κs. search needs)
     (λ c. search needs)
     (λ c κs. search needs)
+    (λ c κs. search needs)
+    (λ c κs. search needs)
+    (λ c. search needs)
     (λ c κs. search needs)
     (λ c κs. search needs)
     (λ c κs. search needs)

@@ -6,6 +6,9 @@ use Rattle.command.proofs.tests.is_outside.Tie as tie
 returns-5 : tie.Need-returns-5
 returns-5 c = rw (c .before .before .o .given .1) (c .is-beyond .ensures)
 
+returns-6 : tie.Need-returns-6
+returns-6 c = rw (c .before .before .o2 .given .1) (c .is-beyond2 .ensures)
+
 pub is-outside-spec : {M : Type 1} → statement M
 is-outside-spec =
     tie.close
@@ -17,11 +20,12 @@ is-outside-spec =
     (λ c. search needs)
     (λ c κs. search needs)
     (λ c. search needs)
+    (λ c κs. search needs)
     (λ c. search needs)
     (λ c. search needs)
     (λ c. search needs)
     (λ c. search needs)
     (λ c. search needs)
     returns-5
-    (λ c. search needs)
+    returns-6
     (λ c. search needs))

@@ -43,7 +43,7 @@ returns-4 c =
     let d = i₁ .before .before in
     let a = d .before .before .args in
     asked-is (a .u) (a .attention) (a .ox-id) (a .c) (d .decode .ensures .0)
-    (rw (sym (i₁ .before .other-unit .ensures) ∙ i₁ .if1 .left, sym (i₂ .before .attention-stands .ensures) ∙ i₂ .if2 .left, sym (i₃ .before .is-unknown .ensures) ∙ i₃ .if3 .left, sym (c .before .is-write .ensures) ∙ c .if4 .taken))
+    (rw (sym (i₁ .before .other-unit .ensures) ∙ i₁ .if1 .left, sym (i₂ .before .attention-stands .ensures) ∙ i₂ .if2 .left, sym (i₃ .before .is-unknown .ensures) ∙ i₃ .if3 .left, sym (c .before .write-protected .ensures) ∙ c .if4 .taken))
 
 returns-5 : tie.Need-returns-5
 unfolding testedBy
@@ -55,7 +55,7 @@ returns-5 c =
     let d = i₁ .before .before in
     let a = d .before .before .args in
     asked-is (a .u) (a .attention) (a .ox-id) (a .c) (d .decode .ensures .0)
-    (rw (sym (i₁ .before .other-unit .ensures) ∙ i₁ .if1 .left, sym (i₂ .before .attention-stands .ensures) ∙ i₂ .if2 .left, sym (i₃ .before .is-unknown .ensures) ∙ i₃ .if3 .left, sym (i₄ .before .is-write .ensures) ∙ i₄ .if4 .left, c .if5 .taken))
+    (rw (sym (i₁ .before .other-unit .ensures) ∙ i₁ .if1 .left, sym (i₂ .before .attention-stands .ensures) ∙ i₂ .if2 .left, sym (i₃ .before .is-unknown .ensures) ∙ i₃ .if3 .left, sym (i₄ .before .write-protected .ensures) ∙ i₄ .if4 .left, c .if5 .taken))
 
 returns-6 : tie.Need-returns-6
 unfolding testedBy
@@ -68,7 +68,7 @@ returns-6 c =
     let d = i₁ .before .before in
     let a = d .before .before .args in
     asked-is (a .u) (a .attention) (a .ox-id) (a .c) (d .decode .ensures .0)
-    (rw (sym (i₁ .before .other-unit .ensures) ∙ i₁ .if1 .left, sym (i₂ .before .attention-stands .ensures) ∙ i₂ .if2 .left, sym (i₃ .before .is-unknown .ensures) ∙ i₃ .if3 .left, sym (i₄ .before .is-write .ensures) ∙ i₄ .if4 .left, i₅ .if5 .left, sym (c .before .is-outside .ensures) ∙ c .if6 .taken))
+    (rw (sym (i₁ .before .other-unit .ensures) ∙ i₁ .if1 .left, sym (i₂ .before .attention-stands .ensures) ∙ i₂ .if2 .left, sym (i₃ .before .is-unknown .ensures) ∙ i₃ .if3 .left, sym (i₄ .before .write-protected .ensures) ∙ i₄ .if4 .left, i₅ .if5 .left, sym (c .before .is-outside .ensures) ∙ c .if6 .taken))
 
 returns-7 : tie.Need-returns-7
 unfolding testedBy
@@ -82,7 +82,7 @@ returns-7 c =
     let d = i₁ .before .before in
     let a = d .before .before .args in
     asked-is (a .u) (a .attention) (a .ox-id) (a .c) (d .decode .ensures .0)
-    (rw (sym (i₁ .before .other-unit .ensures) ∙ i₁ .if1 .left, sym (i₂ .before .attention-stands .ensures) ∙ i₂ .if2 .left, sym (i₃ .before .is-unknown .ensures) ∙ i₃ .if3 .left, sym (i₄ .before .is-write .ensures) ∙ i₄ .if4 .left, i₅ .if5 .left, sym (i₆ .before .is-outside .ensures) ∙ i₆ .if6 .left) (ap Wants (c .exchange-for .ensures)))
+    (rw (sym (i₁ .before .other-unit .ensures) ∙ i₁ .if1 .left, sym (i₂ .before .attention-stands .ensures) ∙ i₂ .if2 .left, sym (i₃ .before .is-unknown .ensures) ∙ i₃ .if3 .left, sym (i₄ .before .write-protected .ensures) ∙ i₄ .if4 .left, i₅ .if5 .left, sym (i₆ .before .is-outside .ensures) ∙ i₆ .if6 .left) (ap Wants (c .exchange-for .ensures)))
 
 pub tested-spec : {M : Type 1} → statement M
 tested-spec =

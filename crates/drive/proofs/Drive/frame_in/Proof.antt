@@ -6,19 +6,19 @@ use Rattle.drive.proofs.Drive.frame_in.Tie as tie
 
 returns : tie.Need-returns
 returns c =
-    let a = c .before .before .before .before .args in
-    says-short (a .self) (a .frame .now) (a .reply .now) (c .before .if1 .taken) _ (c .refuse .ensures)
+    let a = c .before .before .before .before .before .args in
+    says-short (a .self) (a .frame .now) (a .start) (a .window .now) (a .reply .now) (c .before .if1 .taken) _ (c .refuse .ensures)
 
 returns-2 : tie.Need-returns-2
 returns-2 c =
-    let a = c .before .before .before .before .before .before .before .before .before .before .before .before .args in
-    says-refused (a .self) (a .frame .now) (a .reply .now) (c .before .before .before .before .before .before .before .before .before .if1 .left) _ (c .before .before .before .before .before .before .read-header .ensures) _ (c .before .before .before .before .before .look .ensures) _ (c .before .before .before .before .judged .ensures) _ _ (c .before .before .j .given .1) (c .refuse2 .ensures)
+    let a = c .before .before .before .before .before .before .before .before .before .before .before .before .before .args in
+    says-refused (a .self) (a .frame .now) (a .start) (a .window .now) (a .reply .now) (c .before .before .before .before .before .before .before .before .before .if1 .left) _ (c .before .before .before .before .before .before .read-header .ensures) _ (c .before .before .before .before .before .look .ensures) _ (c .before .before .before .before .judged .ensures) _ _ (c .before .before .j .given .1) (c .refuse2 .ensures)
 
 returns-3 : tie.Need-returns-3
 returns-3 c =
-    let a = c .before .before .before .before .before .before .before .before .before .before .before .before .before .before .before .args in
-    let t = c .before .before .before .passed-turn in
-    says-passed (a .self) (a .frame .now) (a .reply .now) (c .before .before .before .before .before .before .before .before .before .before .before .before .if1 .left) _ (c .before .before .before .before .before .before .before .before .before .read-header .ensures) _ (c .before .before .before .before .before .before .before .before .look .ensures) _ (c .before .before .before .before .before .before .before .judged .ensures) _ _ _ _ (c .before .before .before .before .before .enum-told .given .1) (t .ensures .0) (t .ensures .1) (c .after .ensures)
+    let a = c .before .before .before .before .before .before .before .before .before .before .before .before .before .before .before .before .before .before .before .args in
+    let t = c .before .before .before .before .before .passed-turn in
+    says-passed (a .self) (a .frame .now) (a .start) (a .window .now) (a .reply .now) (c .before .before .before .before .before .before .before .before .before .before .before .before .before .before .before .if1 .left) _ (c .before .before .before .before .before .before .before .before .before .before .before .before .read-header .ensures) _ (c .before .before .before .before .before .before .before .before .before .before .before .look .ensures) _ (c .before .before .before .before .before .before .before .before .before .before .judged .ensures) _ _ _ _ _ (c .before .before .before .before .before .before .before .before .enum-told .given .1) (t .ensures .0) (t .ensures .1 .0) (t .ensures .1 .1) (c .after .ensures)
 
 pub frame-in-spec : {M : Type 1} → statement M
 frame-in-spec =
@@ -35,5 +35,6 @@ frame-in-spec =
     (λ c κs. search needs)
     (λ c κs. search needs)
     returns-2
+    (λ c. search needs)
     (λ c. search needs)
     returns-3)

@@ -20,11 +20,15 @@ returns-3 c = rw (sym (c .before .before .before .before .is-closed .ensures) �
 
 returns-4 : tie.Need-returns-4
 unfolding exchangeFine
-returns-4 c = rw (sym (c .before .before .before .before .before .before .before .is-closed .ensures) ∙ c .before .before .before .before .before .before .if1 .left, eq-eqb _ _ (c .before .before .before .before .before .if2 .left), le-leb _ _ (c .before .before .before .if3 .left), sym (c .before .before .wanted-fits .ensures) ∙ c .before .if4 .taken) (c .sent-fits .ensures)
+returns-4 c = rw (sym (c .before .before .before .before .before .before .before .before .before .is-closed .ensures) ∙ c .before .before .before .before .before .before .before .before .if1 .left, eq-eqb _ _ (c .before .before .before .before .before .before .before .if2 .left), le-leb _ _ (c .before .before .before .before .before .if3 .left), sym (c .before .before .before .before .wanted-fits .ensures) ∙ c .before .before .before .if4 .taken, sym (c .before .before .direction-fits .ensures) ∙ c .before .if5 .taken) (c .moved-fits .ensures)
 
 returns-5 : tie.Need-returns-5
 unfolding exchangeFine
-returns-5 c = rw (sym (c .before .before .before .before .before .before .is-closed .ensures) ∙ c .before .before .before .before .before .if1 .left, eq-eqb _ _ (c .before .before .before .before .if2 .left), le-leb _ _ (c .before .before .if3 .left), sym (c .before .wanted-fits .ensures) ∙ c .if4 .left)
+returns-5 c = rw (sym (c .before .before .before .before .before .before .before .before .is-closed .ensures) ∙ c .before .before .before .before .before .before .before .if1 .left, eq-eqb _ _ (c .before .before .before .before .before .before .if2 .left), le-leb _ _ (c .before .before .before .before .if3 .left), sym (c .before .before .before .wanted-fits .ensures) ∙ c .before .before .if4 .taken, sym (c .before .direction-fits .ensures) ∙ c .if5 .left)
+
+returns-6 : tie.Need-returns-6
+unfolding exchangeFine
+returns-6 c = rw (sym (c .before .before .before .before .before .before .is-closed .ensures) ∙ c .before .before .before .before .before .if1 .left, eq-eqb _ _ (c .before .before .before .before .if2 .left), le-leb _ _ (c .before .before .if3 .left), sym (c .before .wanted-fits .ensures) ∙ c .if4 .left)
 
 pub exchange-fine-spec : {M : Type 1} → statement M
 exchange-fine-spec =
@@ -36,5 +40,7 @@ exchange-fine-spec =
     returns-3
     (λ c κs. search needs)
     (λ c κs. search needs)
+    (λ c κs. search needs)
     returns-4
-    returns-5)
+    returns-5
+    returns-6)

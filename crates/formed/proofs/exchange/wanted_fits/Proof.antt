@@ -7,7 +7,7 @@ use Rattle.formed.proofs.exchange.wanted_fits.Tie as tie
 
 returns : tie.Need-returns
 unfolding wantedFits
-returns c = rw (eq-eqb _ _ (c .before .if1 .taken)) (c .read-fits .ensures)
+returns c = rw (eq-eqb _ _ (c .before .if1 .taken)) (c .blocks-fit .ensures)
 
 returns-2 : tie.Need-returns-2
 unfolding wantedFits

@@ -27,6 +27,9 @@ returns-7 c = rw (c .before .enum-told7 .given .1) (c .answer-head6 .ensures)
 returns-8 : tie.Need-returns-8
 returns-8 c = rw (c .before .before .r .given .1) (c .data-head .ensures)
 
+returns-9 : tie.Need-returns-9
+returns-9 c = rw (c .before .enum-told8 .given .1) (c .answer-head7 .ensures)
+
 pub reply-head-spec : {M : Type 1} → statement M
 reply-head-spec =
     tie.close
@@ -49,6 +52,9 @@ reply-head-spec =
     (λ c κs. search needs)
     (λ c. search needs)
     (λ c κs. search needs)
+    (λ c. search needs)
+    (λ c. search needs)
+    (λ c κs. search needs)
     returns
     returns-2
     returns-3
@@ -56,4 +62,5 @@ reply-head-spec =
     returns-5
     returns-6
     returns-7
-    returns-8)
+    returns-8
+    returns-9)
