@@ -90,10 +90,10 @@ enum jhartupal_refusal {
 #define JHARTUPAL_NAME 8            /* bytes of a port name or node name */
 
 /* Bytes of stack that a call takes at most on either machine, beside what memcpy and memset take; bench/stack reckons them. */
-#define JHARTUPAL_STACK_MAKE 5632  /* jhartupal_make */
-#define JHARTUPAL_STACK_FRAME 4224 /* jhartupal_frame */
-#define JHARTUPAL_STACK_NEXT 2560  /* jhartupal_next */
-#define JHARTUPAL_STACK_EVENT 1280 /* jhartupal_loop_reset, jhartupal_time_over, jhartupal_power_on */
+#define JHARTUPAL_STACK_MAKE 5248  /* jhartupal_make */
+#define JHARTUPAL_STACK_FRAME 2816 /* jhartupal_frame */
+#define JHARTUPAL_STACK_NEXT 2368  /* jhartupal_next */
+#define JHARTUPAL_STACK_EVENT 1088 /* jhartupal_loop_reset, jhartupal_time_over, jhartupal_power_on */
 
 /* What the data of an exchange are. */
 enum jhartupal_kind {
@@ -167,10 +167,10 @@ struct jhartupal_exchange {
     uint32_t sent;     /* bytes sent, of a WRITE by the host: at most total. Where less, to the host a multiple of full; a WRITE's: awaited, below */
     uint16_t ox_id;    /* its OX_ID, no other open exchange's of this login */
     uint16_t count;    /* data frames that the drive sent, sent / full rounded up, going round at 65,536: the next SEQ_CNT. WRITE: 0 */
-    uint16_t kind;     /* what its data are: enum jhartupal_kind */
-    uint8_t direction; /* where they go: enum jhartupal_direction. From the host only blocks, and only where the unit is writable */
+    uint8_t direction; /* where its data go: enum jhartupal_direction. From the host only blocks, and only where the unit is writable */
     uint8_t awaited;   /* 1: data of a WRITE that were asked for are to come, and sent is below total; 0: none, and a WRITE's sent is total or a multiple
                         * of JHARTUPAL_MOST_BURST. To the host 0 */
+    uint16_t kind;     /* what its data are: enum jhartupal_kind */
 };
 
 /* A place for a login. Where used is 0 it is free: it has no open exchange, and nothing is asked of its other fields. */
@@ -240,9 +240,9 @@ JHARTUPAL_PLACE(exchange, expected, 16);
 JHARTUPAL_PLACE(exchange, sent, 20);
 JHARTUPAL_PLACE(exchange, ox_id, 24);
 JHARTUPAL_PLACE(exchange, count, 26);
-JHARTUPAL_PLACE(exchange, kind, 28);
-JHARTUPAL_PLACE(exchange, direction, 30);
-JHARTUPAL_PLACE(exchange, awaited, 31);
+JHARTUPAL_PLACE(exchange, direction, 28);
+JHARTUPAL_PLACE(exchange, awaited, 29);
+JHARTUPAL_PLACE(exchange, kind, 30);
 JHARTUPAL_SIZE(login, 288);
 JHARTUPAL_PLACE(login, used, 0);
 JHARTUPAL_PLACE(login, proven, 1);

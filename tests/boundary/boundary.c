@@ -12,8 +12,8 @@ struct field {
 
 static const struct field exchange_fields[] = {FIELD(exchange, start, 0, 8),     FIELD(exchange, blocks, 8, 4), FIELD(exchange, wanted, 12, 4),
                                                FIELD(exchange, expected, 16, 4), FIELD(exchange, sent, 20, 4),  FIELD(exchange, ox_id, 24, 2),
-                                               FIELD(exchange, count, 26, 2),    FIELD(exchange, kind, 28, 2),  FIELD(exchange, direction, 30, 1),
-                                               FIELD(exchange, awaited, 31, 1)};
+                                               FIELD(exchange, count, 26, 2),    FIELD(exchange, direction, 28, 1), FIELD(exchange, awaited, 29, 1),
+                                               FIELD(exchange, kind, 30, 2)};
 static const struct field login_fields[] = {FIELD(login, used, 0, 1),       FIELD(login, proven, 1, 1),    FIELD(login, paired, 2, 1), FIELD(login, attention, 3, 1),
                                             FIELD(login, concurrent, 4, 1), FIELD(login, sequences, 5, 1), FIELD(login, size, 6, 2),   FIELD(login, address, 8, 4),
                                             FIELD(login, port_name, 12, 8), FIELD(login, node_name, 20, 8)};

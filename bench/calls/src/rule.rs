@@ -10,9 +10,9 @@ pub struct Exchange {
     pub sent: u32,
     pub ox_id: u16,
     pub count: u16,
-    pub kind: u16,
     pub direction: u8,
     pub awaited: u8,
+    pub kind: u16,
 }
 
 #[repr(C)]

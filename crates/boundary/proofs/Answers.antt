@@ -7,8 +7,11 @@ use mathlib.Core.List.{List, [], _∷_, map}
 use native.Mathlib.Omega.{arith}
 use lib.Dec.{T, eqb, eqb→eq}
 use lib.ListN.{length}
-use Rattle.tables.specs.Lists.{all}
+use Rattle.tables.specs.declared.Found.{Found}
+use Rattle.tables.specs.declared.Found.the-variants.{At, Nothing}
+use Rattle.tables.specs.Lists.{all, onFound}
 use Rattle.tables.proofs.Bools.{and-left, and-right}
+use Rattle.frame.specs.declared.Header.{Header}
 use Rattle.frame.specs.Head.{headerOf}
 use Rattle.refusal.specs.declared.Refusal.{Refusal}
 use Rattle.refusal.specs.declared.Refusal.the-variants.{IllFormed}
@@ -19,8 +22,8 @@ use Rattle.state.specs.declared.Port.{Port}
 use Rattle.state.specs.declared.Unit.{Unit}
 use Rattle.state.specs.declared.Change.{Change}
 use Rattle.state.specs.declared.Change.the-variants.{Keep, EndAll, EndLogin, EndHost, Unprove, EndUnproven, EndExchangesOf, Reset, Clear}
-use Rattle.state.specs.Changes.{isUsed, hasAddress, isHost, freedOf, endedOf, hostEnded, unproven, verified, abortedOf, resetOf, clearedBy, withLogins, changedOf, changedAll}
-use Rattle.formed.specs.declared.Key.{Key}
+use Rattle.state.specs.Changes.{emptyLogin, ownOf, isUsed, hasAddress, isHost, freedOf, endedOf, hostEnded, unproven, verified, abortedOf, resetOf, clearedBy, withLogins, changedOf, changedAll}
+use Rattle.state.specs.Tables.{loginIn}
 use Rattle.formed.specs.Formed.{loginFine, wellFormed}
 use Rattle.formed.specs.Keys.{keyOf, loginKey, keysOf}
 use Rattle.formed.proofs.Keys.{used-free, key-name, fine-by}
@@ -28,19 +31,20 @@ use Rattle.formed.proofs.Parts.{formed-parts}
 use Rattle.calls.specs.declared.Sight.{Sight}
 use Rattle.calls.specs.declared.Turn.{Turn}
 use Rattle.calls.specs.declared.View.{View}
-use Rattle.calls.specs.View.{sightOf, viewOf}
+use Rattle.calls.specs.View.{seatOf, sightOf, viewFrom, viewOf}
 use Rattle.calls.specs.Turn.{storedAt, portAfter}
 use Rattle.calls.proofs.Seats.{key-address}
-use Rattle.calls.proofs.Views.{view-keys}
 use Rattle.calls.proofs.Decisions.{keep-is}
+use Rattle.taking.specs.Taking.{isData, takingTurn, takingBuffer, takingWindow}
+use Rattle.taking.proofs.Others.{taking-keeps}
 use Rattle.arrival.specs.Arrival.{shortBuffer}
 use Rattle.drive.specs.declared.Answer.{Answer}
 use Rattle.drive.specs.declared.Drive.{Drive}
 use Rattle.drive.specs.declared.Event.{Event}
 use Rattle.drive.specs.Drive.{refused, nothingSent, changeOf, afterEvent, eventAnswer}
 use Rattle.drive.specs.Entry.{frameIn, frameInBuffer, frameInWindow, nextFrame}
-use Rattle.drive.specs.Turn.{refusalOf, passedTurn, nextOutTurn, answerTo}
-use Rattle.drive.proofs.Turns.{passed-formed, frame-turn, RefusedBy, frame-refused, next-out-turn, next-out-keeps}
+use Rattle.drive.specs.Turn.{unprovenAt, unprovenIn, refusalOf, passedTurn, passedBuffer, arrivedTurn, arrivedBuffer, arrivedWindow, nextOutTurn, answerTo}
+use Rattle.drive.proofs.Turns.{arrived-formed, frame-turn, frame-turn-buffer, frame-turn-window, RefusedBy, frame-refused, next-out-turn, next-out-keeps}
 use Rattle.boundary.specs.Boundary.{codeOf, Tells}
 use Rattle.boundary.specs.Settled.{reaches, marksOf, reachedBy, reachedOf, settledOf, happenedSaid}
 use Rattle.boundary.proofs.Lent.{withPort, stored, settled, happened}
@@ -49,6 +53,15 @@ use Rattle.boundary.proofs.Reached.{spared-last}
 twice : {A : Type 0} (b : Bool) (x y : A) → cond b (cond b x y) y ≡ cond b x y
 twice true x y = refl
 twice false x y = refl
+
+-- which arm of a definition is taken
+pub held-arm : {A : Type 0} (z : Bool) (x y : A) → T z → x ≡ cond z x y
+held-arm true x y e = refl
+held-arm false x y e = absurd e
+
+pub failed-arm : {A : Type 0} (z : Bool) (x y : A) → T (not z) → y ≡ cond z x y
+failed-arm true x y e = absurd e
+failed-arm false x y e = refl
 
 module _ (u : Unit) (own : ℕ) where
   -- a login that is fine and is not reached is one that the change leaves
@@ -94,18 +107,43 @@ refusal-told e = (ap (λ (z : Answer). codeOf (z .said)) (sym e), ap (λ (z : An
 turn-told : (d : Drive) (t : Turn) {p : Port} {a : Answer} → p ≡ portAfter (d .port) t → answerTo d t ≡ a → Tells a (codeOf (t .said)) (withPort d p)
 turn-told d t e is = (ap (λ (z : Answer). codeOf (z .said)) is, ap (withPort d) e ∙ ap (λ (z : Answer). z .drive) is)
 
--- what a call of the port at an address sees
+-- what every call sees, and what a call of the port at an address does
+abbrev sight : Drive → Sight
+sight d = sightOf (d .unit) (d .port)
+
 abbrev seen : Drive → ℕ → View
 seen d x = viewOf (d .unit) (d .port) x
 
--- a frame whose refusal has a number is refused with it, the buffer and the window left as they were; one that passes comes to the turn of one that passed
-module _ (d : Drive) (f : List ℕ) (start : ℕ) (W : List ℕ) where
-  abbrev number : ℕ
-  number = refusalOf (seen d (headerOf f .«s_id»)) (headerOf f) f start (length W)
+-- a turn that changes no login but the one it stores
+kept-told : (d : Drive) (t : Turn) {a : Answer} → t .change ≡ Keep → answerTo d t ≡ a → Tells a (codeOf (t .said)) (stored d t)
+kept-told d t keeps is = turn-told d t (ap (storedAt (t .at) (t .login)) (sym (ap (λ (c : Change). changedAll c (d .port)) keeps ∙ keep-is (d .port)))) is
 
+-- a frame in: the number of its refusal, by what is read before a view is made
+module _ (d : Drive) (f : List ℕ) (start : ℕ) (W : List ℕ) where
+  abbrev h : Header
+  h = headerOf f
+
+  abbrev v : View
+  v = seen d (h .«s_id»)
+
+  abbrev seat : Found
+  seat = seatOf (sight d .keys) (h .«s_id»)
+
+  abbrev number : ℕ
+  number = refusalOf (sight d .fine) (unprovenAt seat (loginIn (d .port) seat .proven)) (d .port .address) h f
+
+  number-seen : number ≡ refusalOf (v .fine) (unprovenIn v) (v .own .address) h f
+  unfolding viewOf viewFrom ownOf
+  number-seen = by seat
+    where
+      by : (s : Found) → refusalOf (sight d .fine) (unprovenAt s (loginIn (d .port) s .proven)) (d .port .address) h f ≡ refusalOf (sight d .fine) (unprovenAt s (onFound s (λ _. loginIn (d .port) s) emptyLogin .proven)) (d .port .address) h f
+      by (At i) = refl
+      by Nothing = refl
+
+  -- one that has a number is refused with it, the buffer and the window left as they were
   module _ (some : T (not (eqb number 0))) where
     by-number : RefusedBy d f start W number
-    by-number = frame-refused d f start W (λ z. subst (λ (n : ℕ). T (not (eqb n 0))) z some)
+    by-number = subst (RefusedBy d f start W) (sym number-seen) (frame-refused d f start W (λ z. subst (λ (n : ℕ). T (not (eqb n 0))) (number-seen ∙ z) some))
 
     pub number-fits : 65536 + number < 2 ^ 64
     number-fits = let few = numbers (by-number .refusal) .1 in omega (arith, few, by-number .number)
@@ -117,22 +155,38 @@ module _ (d : Drive) (f : List ℕ) (start : ℕ) (W : List ℕ) where
       sym (by-number .window (length l) long),
     )
 
-  pub passed-by : T (not (not (eqb number 0))) → number ≡ 0
-  passed-by none = eqb→eq number 0 (by (eqb number 0) none)
-    where
-      by : (b : Bool) → T (not (not b)) → T b
-      by true h = h
-      by false h = h
+  -- one that has none comes to its turn: a data frame's, or another's
+  module _ (none : T (not (not (eqb number 0)))) (l : List ℕ) (long : shortBuffer (length l) ≡ false) where
+    zero : refusalOf (v .fine) (unprovenIn v) (v .own .address) h f ≡ 0
+    zero = sym number-seen ∙ eqb→eq number 0 (by (eqb number 0) none)
+      where
+        by : (b : Bool) → T (not (not b)) → T b
+        by true e = e
+        by false e = e
 
-  module _ (zero : number ≡ 0) (room : ℕ) where
-    abbrev turn : Turn
-    turn = passedTurn (seen d (headerOf f .«s_id»)) (headerOf f) f start (length W) room
+    module _ (is : T (isData h)) where
+      abbrev turn-data : Turn
+      turn-data = takingTurn v h (length f) start (length W) (length l)
 
-    pub frame-settles : shortBuffer room ≡ false → Tells (frameIn d f start W room) (codeOf (turn .said)) (settled d (seen d (headerOf f .«s_id») .keys) turn)
-    frame-settles long =
-        turn-told d turn
-        (ap (λ (ks : List Key). settledOf (d .port) ks turn) (view-keys (d .unit) (d .port) (headerOf f .«s_id»)) ∙ settled-answer (d .unit) (d .port) (passed-formed d f start W zero) turn)
-        (frame-turn d f start W zero room long)
+      pub frame-data : Tells (frameIn d f start W (length l)) (codeOf (turn-data .said)) (stored d turn-data) × (takingBuffer v h (length f) start (length W) l ≡ frameInBuffer d f start W l) × (takingWindow v h f start W ≡ frameInWindow d f start W (length l))
+      unfolding arrivedTurn arrivedBuffer arrivedWindow
+      frame-data = (
+        kept-told d turn-data (taking-keeps v h (length f) start (length W) (length l)) (ap (answerTo d) (held-arm (isData h) turn-data _ is) ∙ frame-turn d f start W zero (length l) long),
+        held-arm (isData h) _ (passedBuffer v h f l) is ∙ frame-turn-buffer d f start W zero l long,
+        held-arm (isData h) _ W is ∙ frame-turn-window d f start W zero (length l) long,
+      )
+
+    module _ (is : T (not (isData h))) where
+      abbrev turn-other : Turn
+      turn-other = passedTurn v h f (length l)
+
+      pub frame-other : Tells (frameIn d f start W (length l)) (codeOf (turn-other .said)) (settled d (sight d .keys) turn-other) × (passedBuffer v h f l ≡ frameInBuffer d f start W l) × (W ≡ frameInWindow d f start W (length l))
+      unfolding arrivedTurn arrivedBuffer arrivedWindow
+      frame-other = (
+        turn-told d turn-other (settled-answer (d .unit) (d .port) (arrived-formed d f start W zero) turn-other) (ap (answerTo d) (failed-arm (isData h) _ turn-other is) ∙ frame-turn d f start W zero (length l) long),
+        failed-arm (isData h) (takingBuffer v h (length f) start (length W) l) _ is ∙ frame-turn-buffer d f start W zero l long,
+        failed-arm (isData h) (takingWindow v h f start W) _ is ∙ frame-turn-window d f start W zero (length l) long,
+      )
 
 -- a next frame changes no login but the one it stores
 module _ (d : Drive) (a x start : ℕ) (W : List ℕ) (room : ℕ) where
@@ -140,24 +194,19 @@ module _ (d : Drive) (a x start : ℕ) (W : List ℕ) (room : ℕ) where
   turn-out = nextOutTurn (seen d a) a x start W room
 
   pub next-stores : shortBuffer room ≡ false → Tells (nextFrame d a x start W room) (codeOf (turn-out .said)) (stored d turn-out)
-  next-stores long =
-      let kept = ap (λ (c : Change). changedAll c (d .port)) (next-out-keeps (seen d a) a x start W room) ∙ keep-is (d .port) in
-      turn-told d turn-out (ap (storedAt (turn-out .at) (turn-out .login)) (sym kept)) (next-out-turn d a x start W room long)
+  next-stores long = kept-told d turn-out (next-out-keeps (seen d a) a x start W room) (next-out-turn d a x start W room long)
 
 -- an event changes a drive that is well formed, and no other
 module _ (d : Drive) (e : Event) where
-  abbrev sight : Sight
-  sight = sightOf (d .unit) (d .port)
-
   abbrev reached : Port
-  reached = reachedOf (d .port) (marksOf (changeOf e) (sight .keys)) (changeOf e)
+  reached = reachedOf (d .port) (marksOf (changeOf e) (sight d .keys)) (changeOf e)
 
   happens : (fine : Bool) → wellFormed (d .unit) (d .port) ≡ fine → Tells (cond fine (nothingSent (afterEvent e d)) (refused IllFormed d)) (codeOf (happenedSaid fine)) (withPort d (cond fine reached (d .port)))
   unfolding afterEvent
   happens true w = (refl, ap (withPort d) (reached-changed (d .unit) (d .port) w (changeOf e)))
   happens false w = (refl, refl)
 
-  pub event-happens : Tells (eventAnswer d e) (codeOf (happenedSaid (sight .fine))) (happened d sight (changeOf e))
+  pub event-happens : Tells (eventAnswer d e) (codeOf (happenedSaid (sight d .fine))) (happened d (sight d) (changeOf e))
   unfolding eventAnswer
   event-happens =
       subst (λ (fine : Bool). Tells (eventAnswer d e) (codeOf (happenedSaid fine)) (withPort d (cond fine reached (d .port)))) (sym (fine-by (d .unit) (d .port)))

@@ -1,4 +1,4 @@
--- The port of a lent drive is lent on, from the drive's cell, to a function that tells something and leaves a port: what the call asks, what it gives, and the drive's cell again, with that port. So it goes to `sight`, `view`, `store`, `settle` and `happen`.
+-- The port of a lent drive is lent on, from the drive's cell, to a function that tells something and leaves a port: what the call asks, what it gives, and the drive's cell again, with that port. So it goes to `sight`, `is_unproven`, `seen`, `view`, `store`, `settle` and `happen`.
 -- Beside it, the call of `code` for a refusal, a lent buffer that was not touched, and a step for large constants. Assumes nothing.
 use mathlib.Core.Path.{_≡_, refl, subst}
 use Prim.Native.Nat.{ℕ, _+_, _<_, _^_}
@@ -24,7 +24,7 @@ use types.Run.{Opd}
 use denote.RattleType.{RattleType, owns}
 use denote.Laws.{Is, shows}
 use denote.Plain.{uint-makes}
-use denote.Builtin.{u8, u32, u64}
+use denote.Builtin.{bool, u8, u32, u64}
 use denote.Array.{array-makes}
 use denote.Ref.{RefT}
 use denote.Slice.{MutSlice, finally, res-finally, codedHoleys, heres}
@@ -35,6 +35,8 @@ use denote.Triple.Statement.{Contract}
 use denote.Triple.Spec.{tripleOf}
 use denote.Triple.Clauses.{ensured}
 use denote.Triple.Walked.{says}
+use Rattle.tables.specs.declared.Found.{Found}
+use Rattle.tables.proofs.Found as Fo
 use Rattle.refusal.specs.declared.Refusal.the-variants.{ShortBuffer}
 use Rattle.refusal.specs.declared.Said.{Said}
 use Rattle.refusal.specs.declared.Said.the-variants.{Refused}
@@ -44,6 +46,7 @@ use Rattle.refusal.proofs.Said as Sd
 use Rattle.refusal.proofs.Said.Laws as Sd′
 use Rattle.state.specs.declared.Change.{Change}
 use Rattle.state.specs.declared.Port.{Port}
+use Rattle.state.specs.Tables.{loginIn}
 use Rattle.state.proofs.Change as Ch
 use Rattle.state.proofs.Change.Laws as Ch′
 use Rattle.state.proofs.Port as Po
@@ -51,12 +54,14 @@ use Rattle.state.proofs.Port.Laws as Po′
 use Rattle.state.proofs.Unit as Un
 use Rattle.state.proofs.Unit.Laws as Un′
 use Rattle.formed.specs.declared.Key.{Key}
+use Rattle.formed.specs.Keys.{keysOf}
 use Rattle.formed.proofs.Key as Ke
 use Rattle.formed.proofs.Key.Laws as Ke′
 use Rattle.calls.specs.declared.Sight.{Sight}
 use Rattle.calls.specs.declared.Turn.{Turn}
 use Rattle.calls.specs.declared.View.{View}
-use Rattle.calls.specs.View.{sightOf, viewOf}
+use Rattle.calls.specs.View.{seatOf, sightOf, viewOf}
+use Rattle.calls.specs.Turn.{AtBelow}
 use Rattle.calls.proofs.Sight as Si
 use Rattle.calls.proofs.Sight.Laws as Si′
 use Rattle.calls.proofs.Turn as Tn
@@ -64,14 +69,18 @@ use Rattle.calls.proofs.Turn.Laws as Tn′
 use Rattle.calls.proofs.View as Vw
 use Rattle.calls.proofs.View.Laws as Vw′
 use Rattle.drive.specs.declared.Drive.{Drive}
+use Rattle.drive.specs.Turn.{unprovenAt}
 use Rattle.drive.proofs.Drive as Dr
 use Rattle.drive.proofs.Drive.Laws as Dr′
 use Rattle.boundary.specs.Boundary.{codeOf}
 use Rattle.boundary.specs.Settled.{happenedSaid}
 use Rattle.boundary.proofs.Elements.{inside}
-use Rattle.boundary.proofs.Keyed.{K8, held, from-field}
+use Rattle.boundary.proofs.Keyed.{K8, held}
 use Rattle.boundary.proofs.Lent.{dval, pval, uval, sval, withPort, stored, settled, happened, N, code-of, to-code, goes-code}
 use Rattle.boundary.proofs.Onward.{Loan, Kept, lends-to, takes-back}
+use Rattle.boundary.proofs.Reading.{fval}
+use Rattle.boundary.proofs.Seeing.{Seeing, Unproving, seen-is}
+use Rattle.boundary.proofs.Seeing as seeing
 use Rattle.boundary.proofs.Sighting.{sight-val, Sights}
 use Rattle.boundary.proofs.Sighting as sighting
 use Rattle.boundary.proofs.view as v
@@ -89,10 +98,6 @@ tval t = LL.val Tn.the-type Tn′.the-laws t
 
 abbrev pub cval : Change → Val
 cval c = EL.val Ch.the-type Ch′.the-laws c
-
--- the keys as a view's cell holds them
-pub keys-are : (w : View) → Is Vw.the-row w (vval w ∷ []) → Is K8 (w .keys) (held (w .keys) ∷ [])
-keys-are w is = from-field (w .keys) _ (LL.owed Vw.the-type Vw′.the-laws w _ is .1 .1 .0)
 
 -- nothing is said at the end of one other parameter, or of two
 abbrev of-one : Fml
@@ -156,6 +161,35 @@ module _ {M : Type 1} (𝓤 : URA M) (H : Heap 𝓤) (A : Atoms 𝓤) (mem : Mem
     pub sight-back : (y : Loan) (u : Val)
         → ent 𝓤 (sep 𝓤 (Sights 𝓤 H A mem run .post (to-sight y) u) (Keeps y)) (H .⇛ (sep 𝓤 (H .at fullShare (rawTy Dr′.mir) b o (dval h)) (fact 𝓤 (Left Si.the-row (sightOf (h .unit) (h .port)) (h .port) u))))
     sight-back y u = sighting.sight-back 𝓤 H A mem run W b (o + 40) (back b o h) (h .port) (h .unit) y u
+
+    -- `is_unproven` and `seen`, at the seat of the login of an address
+    module _ (x : ℕ) where
+      abbrev seat : Found
+      seat = seatOf (keysOf (h .unit) (h .port)) x
+
+      abbrev sight : Sight
+      sight = sightOf (h .unit) (h .port)
+
+      abbrev unproven : Bool
+      unproven = unprovenAt seat (loginIn (h .port) seat .proven)
+
+      abbrev pub to-unproven : Loan → Unproving 𝓤 H A mem run .Ghost
+      to-unproven y = seeing.to-unproven 𝓤 H A mem run W b (o + 40) (back b o h) (h .port) seat y
+
+      pub lends-unproven : Is Dr.the-row h (dval h ∷ []) → Is Fo.the-row seat (fval seat ∷ []) → AtBelow seat → ent 𝓤 (H .at fullShare (rawTy Dr′.mir) b o (dval h)) (H .⇛ (ex 𝓤 (λ (y : Loan). sep 𝓤 (Unproving 𝓤 H A mem run .pre (to-unproven y)) (Keeps y))))
+      lends-unproven was is-s below = seeing.lends-unproven 𝓤 H A mem run W b (o + 40) (back b o h) (h .port) seat (is-port h was) is-s below (sub ! 1 refl (whole !))
+
+      pub unproven-back : (y : Loan) (u : Val) → ent 𝓤 (sep 𝓤 (Unproving 𝓤 H A mem run .post (to-unproven y) u) (Keeps y)) (H .⇛ (sep 𝓤 (H .at fullShare (rawTy Dr′.mir) b o (dval h)) (fact 𝓤 (Left bool unproven (h .port) u))))
+      unproven-back y u = seeing.unproven-back 𝓤 H A mem run W b (o + 40) (back b o h) (h .port) seat y u
+
+      abbrev pub to-seen : Loan → Seeing 𝓤 H A mem run .Ghost
+      to-seen y = seeing.to-seen 𝓤 H A mem run W b (o + 40) (back b o h) (h .port) seat (h .unit) sight y
+
+      pub lends-seen : Is Dr.the-row h (dval h ∷ []) → Is Si.the-row sight (sight-val sight ∷ []) → Is Fo.the-row seat (fval seat ∷ []) → AtBelow seat → ent 𝓤 (H .at fullShare (rawTy Dr′.mir) b o (dval h)) (H .⇛ (ex 𝓤 (λ (y : Loan). sep 𝓤 (Seeing 𝓤 H A mem run .pre (to-seen y)) (Keeps y))))
+      lends-seen was is-k is-s below = seeing.lends-seen 𝓤 H A mem run W b (o + 40) (back b o h) (h .port) seat (h .unit) sight (is-port h was) (is-unit h was) is-k is-s below (sub ! 1 refl (whole !))
+
+      pub seen-back : (y : Loan) (u : Val) → ent 𝓤 (sep 𝓤 (Seeing 𝓤 H A mem run .post (to-seen y) u) (Keeps y)) (H .⇛ (sep 𝓤 (H .at fullShare (rawTy Dr′.mir) b o (dval h)) (fact 𝓤 (Left Vw.the-row (viewOf (h .unit) (h .port) x) (h .port) u))))
+      seen-back y u = seeing.seen-back 𝓤 H A mem run W b (o + 40) (back b o h) (h .port) seat (h .unit) sight (viewOf (h .unit) (h .port) x) (seen-is (h .unit) (h .port) x) y u
 
     -- `view`
     module _ (x : ℕ) where

@@ -9,5 +9,6 @@ mod Marked
 mod Onward
 mod Reached
 mod Reaching
-mod Seen
+mod Reading
+mod Seeing
 mod Sighting

@@ -9,7 +9,9 @@ use drive::Answer;
 use drive::Drive;
 use drive::Event;
 use drive::change_of;
+use drive::passed_turn;
 use drive::refusal_number;
+use drive::unproven_at;
 use formed::Key;
 use formed::key_named;
 use formed::login_key;
@@ -24,17 +26,20 @@ use state::Setup;
 use state::Unit;
 use state::changed;
 use tables::Found;
+use window::data_turn;
 use window::next_turn;
-use window::passed_turn;
 ghost use mathlib.Core.Path.{_≡_};
 ghost use Prim.Native.Nat.{_<_, _≤_};
 ghost use lib.ListN.{length};
 ghost use Rattle.tables.specs.Lists.{onFound};
 ghost use Rattle.state.specs.declared.Change.the-variants.{EndHost};
 ghost use Rattle.drive.specs.declared.Event.the-variants.{LoopReset, TimeOver, PowerOn};
-ghost use Rattle.calls.specs.View.{sightOf, viewOf};
+ghost use Rattle.state.specs.Changes.{ownOf};
+ghost use Rattle.state.specs.Tables.{loginIn};
+ghost use Rattle.calls.specs.View.{sightOf, viewFrom, viewOf};
 ghost use Rattle.calls.specs.Turn.{storedAt, AtBelow};
 ghost use Rattle.drive.specs.Drive.{changeOf, eventAnswer};
+ghost use Rattle.drive.specs.Turn.{unprovenAt};
 ghost use Rattle.drive.specs.Entry.{frameIn, frameInBuffer, frameInWindow, nextFrame, nextFrameBuffer};
 ghost use Rattle.boundary.specs.Boundary.{codeOf, Tells, makeAnswer};
 ghost use Rattle.boundary.specs.Settled.{reaches, marksOf, sparedMarks, NextMarked, reachedOf, settledOf, happenedSaid, happenedOf};
@@ -66,13 +71,20 @@ pub extern "C" fn jhartupal_frame(
         return code(Said::Refused(Refusal::ShortBuffer));
     } else {
         let h = read_header(frame);
-        let v = view(&mut d.port, d.unit, h.s_id);
-        let x = refusal_number(v, h, frame, start, window.len());
+        let s = sight(&mut d.port, d.unit);
+        let seat = seat_of(s.keys, h.s_id);
+        let unproven = is_unproven(&mut d.port, seat);
+        let x = refusal_number(s.fine, unproven, d.port.address, h, frame);
         if x != 0 {
             return 65536 + x;
+        } else if h.r_ctl == 0x01 {
+            let v = seen(&mut d.port, d.unit, s, seat);
+            let t = data_turn(v, h, frame, start, window, reply);
+            return store(&mut d.port, t);
         } else {
-            let t = passed_turn(v, h, frame, start, window, reply);
-            return settle(&mut d.port, v.keys, t);
+            let v = seen(&mut d.port, d.unit, s, seat);
+            let t = passed_turn(v, h, frame, reply);
+            return settle(&mut d.port, s.keys, t);
         }
     }
 }
@@ -156,6 +168,14 @@ fn view(p: &mut Port, u: Unit, address: u32) -> View
 {
     let s = sight(p, u);
     let seat = seat_of(s.keys, address);
+    seen(p, u, s, seat)
+}
+
+// The same once the logins were looked at: the login at a seat is read where it stands. A frame that is refused costs no copy of it.
+fn seen(p: &mut Port, u: Unit, s: Sight, seat: Found) -> View
+    requires { ⌜ AtBelow seat ⌝ }
+    ensures { λ r. ⌜ (r ≡ viewFrom u (ownOf (now (p .entry))) s seat (loginIn (now (p .entry)) seat)) × (now (p .exit) ≡ now (p .entry)) ⌝ }
+{
     let at = place_or_first(seat);
     see(
         u,
@@ -167,6 +187,15 @@ fn view(p: &mut Port, u: Unit, address: u32) -> View
         seat,
         p.logins[at],
     )
+}
+
+// Whether the login at a seat is unproven; where there is none it is not.
+fn is_unproven(p: &mut Port, seat: Found) -> bool
+    requires { ⌜ AtBelow seat ⌝ }
+    ensures { λ r. ⌜ (r ≡ unprovenAt seat (loginIn (now (p .entry)) seat .proven)) × (now (p .exit) ≡ now (p .entry)) ⌝ }
+{
+    let at = place_or_first(seat);
+    unproven_at(seat, p.logins[at].proven)
 }
 
 // Stores what a turn changes, each login where it stands, and tells what was said. The keys are those of the logins. The place that is stored last is not changed before.

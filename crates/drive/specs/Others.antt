@@ -4,10 +4,8 @@ use mathlib.Core.Path.{_≡_}
 use mathlib.Core.Bool.{cond}
 use mathlib.Core.List.{List}
 use lib.ListN.{length}
-use Rattle.tables.specs.Firsts.{firstOf}
 use Rattle.frame.specs.Head.{headerOf}
 use Rattle.refusal.specs.declared.Refusal.the-variants.{ShortBuffer}
-use Rattle.refusal.specs.Refusal.{frameOrder}
 use Rattle.calls.specs.declared.Turn.{Turn}
 use Rattle.calls.specs.View.{viewOf}
 use Rattle.calls.specs.Turn.{refusedTurn}
@@ -15,8 +13,8 @@ use Rattle.arrival.specs.Arrival.{shortBuffer}
 use Rattle.link.specs.Login.{Moves}
 use Rattle.drive.specs.declared.Drive.{Drive}
 use Rattle.drive.specs.declared.Answer.{Answer}
-use Rattle.drive.specs.Entry.{applies, frameIn, nextFrame}
-use Rattle.drive.specs.Turn.{passedTurn, nextOutTurn}
+use Rattle.drive.specs.Entry.{frameIn, nextFrame}
+use Rattle.drive.specs.Turn.{arrivedIn, onJudged, arrivedTurn, nextOutTurn}
 
 -- a frame in of another sender than a, the answer (23h) of any port to a request, a next frame for another address
 pub data OfOthers (a : ℕ) : Type 0 where
@@ -33,7 +31,8 @@ Unmoved d (next b x start W room n) = Unit {0}
 -- what a frame in and a next frame come to, by the refusals in their order
 unfoldable pub turnIn : Drive → List ℕ → ℕ → ℕ → ℕ → Turn
 turnIn d f start len room =
-    firstOf (applies d f start len room) frameOrder refusedTurn (passedTurn (viewOf (d .unit) (d .port) (headerOf f .«s_id»)) (headerOf f) f start len room)
+    let v = viewOf (d .unit) (d .port) (headerOf f .«s_id») in
+    cond (shortBuffer room) (refusedTurn ShortBuffer) (onJudged (arrivedIn v (headerOf f) f) refusedTurn (λ _. arrivedTurn v (headerOf f) f start len room))
 
 unfoldable pub turnOut : Drive → ℕ → ℕ → ℕ → List ℕ → ℕ → Turn
 turnOut d a x start W room = cond (shortBuffer room) (refusedTurn ShortBuffer) (nextOutTurn (viewOf (d .unit) (d .port) a) a x start W room)

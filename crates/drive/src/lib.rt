@@ -24,23 +24,18 @@ use reply::Reply;
 use reply::write;
 use serve::next;
 use state::Change;
-use state::Login;
 use state::Port;
 use state::Setup;
 use state::Unit;
 use state::change_all;
 use state::empty_login;
 use tables::Found;
-use taking::Step;
-use taking::step_in;
-use taking::store;
-use taking::take;
+use taking::data_turn;
 ghost use mathlib.Core.Path.{_≡_};
 ghost use lib.ListN.{length};
 ghost use Rattle.drive.specs.Drive.{refused, madeFrom, noDrive, newAnswer, changeOf, eventAnswer};
 ghost use Rattle.drive.specs.Entry.{frameIn, frameInBuffer, frameInWindow};
-ghost use Rattle.drive.specs.Turn.{unprovenIn, arrivedIn, judgedIn, dataJudged, refusalOf, decisionOf, passedTurn, passedBuffer, passedWindow, nextOutTurn, nextOutBuffer, answerTo};
-ghost use Rattle.taking.specs.Taking.{stepIn};
+ghost use Rattle.drive.specs.Turn.{unprovenAt, arrivedIn, refusalOf, decisionOf, passedTurn, passedBuffer, arrivedTurn, arrivedBuffer, arrivedWindow, nextOutTurn, nextOutBuffer, answerTo};
 
 #[repr(C)]
 pub struct Drive {
@@ -89,10 +84,10 @@ impl Drive {
         let p = self.port;
         let h = read_header(frame);
         let v = look(u, p, h.s_id);
-        let j = judged(v, h, frame, start, window.len());
+        let j = arrived(v, h, frame);
         match j {
             Judged::Refused(x) => self.refuse(x),
-            Judged::Passed(_) => self.after(passed_turn(v, h, frame, start, window, reply)),
+            Judged::Passed(_) => self.after(arrived_turn(v, h, frame, start, window, reply)),
         }
     }
 
@@ -140,37 +135,39 @@ impl Drive {
     }
 }
 
-// The number of the refusal of a frame in with header h, seen by its sender, with a window of len bytes that starts at a block, or 0 where it passes.
-pub fn refusal_number(v: View, h: Header, frame: &[u8], start: u64, len: usize) -> u64
-    ensures { λ r. ⌜ r ≡ refusalOf v h (now (frame .entry)) start len ⌝ }
+// The number of the refusal, 2 to 7, of a frame in with header h to a drive of this address, or 0 where it arrived well.
+// Whether the state is well formed and whether the sender's login is unproven is the caller's to tell.
+pub fn refusal_number(fine: bool, unproven: bool, own: u32, h: Header, frame: &[u8]) -> u64
+    ensures { λ r. ⌜ r ≡ refusalOf fine unproven own h (now (frame .entry)) ⌝ }
 {
-    let j = judged(v, h, frame, start, len);
+    let j = judge(fine, unproven, own, h, frame);
     match j {
         Judged::Refused(x) => x.number() as u64,
         Judged::Passed(_) => 0,
     }
 }
 
-// What a frame in that passed comes to, seen by its sender, with a window that starts at a block: the bytes of a data frame go there. A buffer under 2,136 bytes is left alone.
-pub fn passed_turn(
-    v: View,
-    h: Header,
-    frame: &[u8],
-    start: u64,
-    window: &mut [u8],
-    reply: &mut [u8],
-) -> Turn
-    ensures { λ r. ⌜ r ≡ passedTurn v h (now (frame .entry)) start (length (now (window .entry))) (length (now (reply .entry))) ⌝ }
-    ensures { λ _. ⌜ now (reply .exit) ≡ passedBuffer v h (now (frame .entry)) start (length (now (window .entry))) (now (reply .entry)) ⌝ }
-    ensures { λ _. ⌜ now (window .exit) ≡ passedWindow v h (now (frame .entry)) start (now (window .entry)) ⌝ }
+// What a frame in that arrived well comes to, seen by its sender, if it is no data frame. A buffer under 2,136 bytes is left alone.
+pub fn passed_turn(v: View, h: Header, frame: &[u8], reply: &mut [u8]) -> Turn
+    ensures { λ r. ⌜ r ≡ passedTurn v h (now (frame .entry)) (length (now (reply .entry))) ⌝ }
+    ensures { λ _. ⌜ now (reply .exit) ≡ passedBuffer v h (now (frame .entry)) (now (reply .entry)) ⌝ }
 {
     let o = v.own;
-    let d = decide(v, h, frame, start, window.len());
+    let d = decide(v, h, frame);
     let r = d.reply;
     let none = [0u8; 0];
     let n = write(o, h, r, &none, reply);
-    fill_window(v, h, frame, start, window);
     send_turn(n, d)
+}
+
+// Whether a login stands at a seat, and its flag says that it is unproven.
+pub fn unproven_at(seat: Found, proven: u8) -> bool
+    ensures { λ r. ⌜ r ≡ unprovenAt seat proven ⌝ }
+{
+    let Found::At(_) = seat else {
+        return false;
+    };
+    proven != 1
 }
 
 // What the next frame out of the exchange of an address and an OX_ID comes to, seen by the port at that address: refused by the first of 2, 9, 7, 10 that fits.
@@ -217,57 +214,40 @@ pub fn no_drive() -> Drive
     made_from(s)
 }
 
-// A frame in, refused by the first of 2 to 7, 11, 10 that fits it, or passed.
-fn judged(v: View, h: Header, frame: &[u8], start: u64, len: usize) -> Judged
-    ensures { λ r. ⌜ r ≡ judgedIn v h (now (frame .entry)) start len ⌝ }
-{
-    let j = arrived(v, h, frame);
-    if h.r_ctl != 0x01 {
-        return j;
-    }
-    match j {
-        Judged::Refused(x) => Judged::Refused(x),
-        Judged::Passed(_) => judge_data(v.login, h, frame.len(), start, len),
-    }
-}
-
-// A data frame that arrived well: refused with 11 or 10, or passed.
-fn judge_data(l: Login, h: Header, size: usize, start: u64, len: usize) -> Judged
-    ensures { λ r. ⌜ r ≡ dataJudged (stepIn l h size start len) ⌝ }
-{
-    let s = step_in(l, h, size, start, len);
-    match s {
-        Step::NoWrite => Judged::Refused(Refusal::NoWrite),
-        Step::Fault(_, _) => Judged::Passed(Form::Data),
-        Step::Uncovered => Judged::Refused(Refusal::BadWindow),
-        Step::Take(_, _) => Judged::Passed(Form::Data),
-    }
-}
-
 // A frame in, refused by the first of 2 to 7 that fits it, or passed.
 fn arrived(v: View, h: Header, frame: &[u8]) -> Judged
     ensures { λ r. ⌜ r ≡ arrivedIn v h (now (frame .entry)) ⌝ }
 {
     let o = v.own;
-    let unproven = is_unproven(v);
+    let l = v.login;
+    let seat = v.seat;
+    let unproven = unproven_at(seat, l.proven);
     judge(v.fine, unproven, o.address, h, frame)
 }
 
-// Whether the login that is seen is unproven.
-fn is_unproven(v: View) -> bool
-    ensures { λ r. ⌜ r ≡ unprovenIn v ⌝ }
+// What a frame in that arrived well comes to, seen by its sender, with a window that starts at a block.
+fn arrived_turn(
+    v: View,
+    h: Header,
+    frame: &[u8],
+    start: u64,
+    window: &mut [u8],
+    reply: &mut [u8],
+) -> Turn
+    ensures { λ r. ⌜ r ≡ arrivedTurn v h (now (frame .entry)) start (length (now (window .entry))) (length (now (reply .entry))) ⌝ }
+    ensures { λ _. ⌜ now (reply .exit) ≡ arrivedBuffer v h (now (frame .entry)) start (length (now (window .entry))) (now (reply .entry)) ⌝ }
+    ensures { λ _. ⌜ now (window .exit) ≡ arrivedWindow v h (now (frame .entry)) start (now (window .entry)) ⌝ }
 {
-    let seat = v.seat;
-    let l = v.login;
-    let Found::At(_) = seat else {
-        return false;
-    };
-    l.proven != 1
+    if h.r_ctl == 0x01 {
+        data_turn(v, h, frame, start, window, reply)
+    } else {
+        passed_turn(v, h, frame, reply)
+    }
 }
 
-// What a frame that passed is answered, and what changes.
-fn decide(v: View, h: Header, frame: &[u8], start: u64, len: usize) -> Decision
-    ensures { λ r. ⌜ r ≡ decisionOf v h (now (frame .entry)) start len ⌝ }
+// What a frame that arrived well is answered, and what changes; a data frame has a turn of its own.
+fn decide(v: View, h: Header, frame: &[u8]) -> Decision
+    ensures { λ r. ⌜ r ≡ decisionOf v h (now (frame .entry)) ⌝ }
 {
     let k = form_of(h.r_ctl);
     match k {
@@ -275,16 +255,7 @@ fn decide(v: View, h: Header, frame: &[u8], start: u64, len: usize) -> Decision
         Form::Done => answer_only(Reply::Nothing),
         Form::Abort => abts(v, h),
         Form::Command => command(v, h, frame),
-        Form::Data => take(v, h, frame.len(), start, len),
-    }
-}
-
-// The window after a frame that passed: only a data frame's bytes go there.
-fn fill_window(v: View, h: Header, frame: &[u8], start: u64, window: &mut [u8])
-    ensures { λ _. ⌜ now (window .exit) ≡ passedWindow v h (now (frame .entry)) start (now (window .entry)) ⌝ }
-{
-    if h.r_ctl == 0x01 {
-        store(v.login, h, frame, start, window);
+        Form::Data => answer_only(Reply::Nothing),
     }
 }
 

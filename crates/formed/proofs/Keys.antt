@@ -1,5 +1,5 @@
--- A table's test by the keys of its places is the test of each place and of each two. Assumes nothing.
-use Prim.Native.Nat.{ℕ, _+_}
+-- A table's test by the numbers or the keys of its places is the test of each place and of each two. Assumes nothing.
+use Prim.Native.Nat.{ℕ, _+_, _≤_, _<_}
 use mathlib.Core.Path.{_≡_, refl, sym, ap, _∙_}
 use mathlib.Core.List.{List, [], _∷_, map}
 use mathlib.Core.Bool.{Bool, true, false, cond, not, _&&_, _||_}
@@ -7,7 +7,7 @@ use native.Mathlib.Decide.{ℕ-discrete}
 use native.Mathlib.Omega.{arith}
 use lib.Dec.{eqb}
 use borrow.Author.Tests.{eq-eqb, ne-eqb, not-true, not-false}
-use Rattle.tables.specs.Lists.{all, pairs}
+use Rattle.tables.specs.Lists.{every, all, pairs}
 use Rattle.tables.proofs.Bools.{and-left, and-right}
 use Rattle.tables.proofs.Keeping.{all-always}
 use Rattle.wire.specs.Bytes.{nameOf}
@@ -21,7 +21,7 @@ use Rattle.state.specs.Changes.{isUsed, isClosed, hasName, ownOf}
 use Rattle.state.specs.Tables.{isFree}
 use Rattle.formed.specs.declared.Key.{Key}
 use Rattle.formed.specs.Formed.{setupRules, setupOf, fullFrame, exchangeFine, apartId, paramsFine, loginFine, apartLogin, wellFormed}
-use Rattle.formed.specs.Keys.{keyOf, keyNamed, apartKey, keyFine, keysFine, exchangeKey, loginKey, keysOf, fineBy}
+use Rattle.formed.specs.Keys.{numberOf, keyOf, placeFine, apartNumber, numberFine, numbersFine, keyNamed, apartKey, keyFine, keysFine, exchangeNumber, loginKey, keysOf, fineBy}
 use Rattle.formed.proofs.Parts.{fine-used}
 
 -- what reading past the end of a list of keys gives
@@ -51,6 +51,25 @@ free-unnamed m =
       | no h ↦ rw (ne-eqb m 0 h, ne-eqb 0 m (λ e. h (sym e)))
     ]
 
+-- a number below 2 is that of a place without a name
+pub key-unnamed : (fine free : Bool) (n name : ℕ) {r : ℕ} → r ≡ numberOf fine free n → r < 2 → record { id = r; name = 0 } ≡ keyOf fine free n name
+unfolding keyOf
+key-unnamed true true n name e h = rw e
+key-unnamed true false n name e h = absurd (omega arith)
+key-unnamed false free n name e h = rw e
+
+-- and every other has its name
+pub key-with-name : (fine free : Bool) (n name : ℕ) {r : ℕ} → r ≡ numberOf fine free n → 2 ≤ r → record { id = r; name = name } ≡ keyOf fine free n name
+unfolding keyOf
+key-with-name true true n name e h = absurd (omega arith)
+key-with-name true false n name e h = rw e
+key-with-name false free n name e h = absurd (omega arith)
+
+-- the number of a place in use, and that of one that is fine behind it: free, or another
+number-apart : (g : Bool) (a b : ℕ) → apartNumber (numberOf true false a) (numberOf true g b) ≡ (g || not (eqb a b))
+number-apart true a b = rw (used-free a)
+number-apart false a b = rw (two-more a b)
+
 -- the key of a place in use that has a name, and one that is fine behind it: free, or with another number and another name
 key-apart : (g : Bool) (a b m n : ℕ) → eqb m 0 ≡ false → apartKey (keyOf true false a m) (keyOf true g b n) ≡ (g || (not (eqb a b) && not (eqb m n)))
 unfolding keyOf apartKey
@@ -61,75 +80,52 @@ and-false : (a : Bool) → (a && false) ≡ false
 and-false true = refl
 and-false false = refl
 
-module _ {A : Type 0} (fine free : A → Bool) (id name : A → ℕ) (apart : A → A → Bool) (named : (x : A) → fine x ≡ true → free x ≡ false → eqb (name x) 0 ≡ false)
-    (two : (x y : A) → (free x || free y || (not (eqb (id x) (id y)) && not (eqb (name x) (name y)))) ≡ apart x y) where
-  abbrev key : A → Key
-  key x = keyOf (fine x) (free x) (id x) (name x)
+-- places known by keys that have the numbers of the places, where two places that are fine, the first in use, are apart exactly when their keys are, and a free one is apart from all
+module _ {A K : Type 0} (fine free : A → Bool) (id : A → ℕ) (apart : A → A → Bool) (key : A → K) (number : K → ℕ) (apartKeys : K → K → Bool)
+    (numbered : (x : A) → number (key x) ≡ numberOf (fine x) (free x) (id x))
+    (two : (x y : A) → fine x ≡ true → free x ≡ false → fine y ≡ true → apartKeys (key x) (key y) ≡ apart x y)
+    (alone : (x y : A) → free x ≡ true → apart x y ≡ true) where
+  abbrev fineBy-key : A → List A → Bool
+  fineBy-key x xs = placeFine number apartKeys (key x) (map key xs)
 
-  -- two places that are fine, the first in use
-  key-two : (x y : A) → fine x ≡ true → free x ≡ false → fine y ≡ true → apartKey (key x) (key y) ≡ apart x y
-  key-two x y h u e = rw (h, u, e) (key-apart (free y) (id x) (id y) (name x) (name y) (named x h u) ∙ sym (ap (λ (b : Bool). b || free y || (not (eqb (id x) (id y)) && not (eqb (name x) (name y)))) u) ∙ two x y)
+  abbrev fineBy-keys : List A → Bool
+  fineBy-keys xs = every (placeFine number apartKeys) (map key xs)
 
   -- a place that is fine and in use, before places that are fine
-  key-before : (x : A) → fine x ≡ true → free x ≡ false → (xs : List A) → all fine xs ≡ true → all (apartKey (key x)) (map key xs) ≡ all (apart x) xs
+  key-before : (x : A) → fine x ≡ true → free x ≡ false → (xs : List A) → all fine xs ≡ true → all (apartKeys (key x)) (map key xs) ≡ all (apart x) xs
   key-before x h u [] e = refl
   key-before x h u (y ∷ ys) e =
-      rw (key-two x y h u (and-left (fine y) (all fine ys) e), key-before x h u ys (and-right (fine y) (all fine ys) e))
+      rw (two x y h u (and-left (fine y) (all fine ys) e), key-before x h u ys (and-right (fine y) (all fine ys) e))
 
-  -- a free one is apart from all
-  free-before : (x : A) → free x ≡ true → (xs : List A) → all (apart x) xs ≡ true
-  free-before x u xs = all-always (apart x) (λ y. sym (two x y) ∙ rw u) xs
+  in-use : (x : A) → fine x ≡ true → free x ≡ false → (eqb (number (key x)) 0 ≡ false) × (eqb (number (key x)) 1 ≡ false)
+  in-use x h u = rw (numbered x, h, u) (ne-eqb (2 + id x) 0 (λ e. omega arith), used-free (id x))
 
-  in-use : (x : A) → fine x ≡ true → free x ≡ false → (eqb (key x .id) 0 ≡ false) × (eqb (key x .id) 1 ≡ false)
-  unfolding keyOf
-  in-use x h u = rw (h, u) (ne-eqb (2 + id x) 0 (λ e. omega arith), used-free (id x))
-
-  key-here : (x : A) (xs : List A) (u : Bool) → free x ≡ u → fine x ≡ true → all fine xs ≡ true → keyFine (key x) (map key xs) ≡ all (apart x) xs
-  unfolding keyFine keyOf
-  key-here x xs true u h e = rw (h, u) (sym (free-before x u xs))
+  key-here : (x : A) (xs : List A) (u : Bool) → free x ≡ u → fine x ≡ true → all fine xs ≡ true → fineBy-key x xs ≡ all (apart x) xs
+  key-here x xs true u h e = rw (numbered x, h, u) (sym (all-always (apart x) (λ y. alone x y u) xs))
   key-here x xs false u h e = rw (in-use x h u .0, in-use x h u .1) (key-before x h u xs e)
 
   -- a place that is not fine
-  key-fails : (x : A) (xs : List A) → fine x ≡ false → keyFine (key x) (map key xs) ≡ false
-  unfolding keyFine keyOf
-  key-fails x xs h = rw h
+  key-fails : (x : A) (xs : List A) → fine x ≡ false → fineBy-key x xs ≡ false
+  key-fails x xs h = rw (numbered x, h)
 
-  keys-step : (x : A) (xs : List A) (f g : Bool) → fine x ≡ f → all fine xs ≡ g → keysFine (map key xs) ≡ (g && pairs apart xs)
-      → keysFine (map key (x ∷ xs)) ≡ (all fine (x ∷ xs) && pairs apart (x ∷ xs))
+  keys-step : (x : A) (xs : List A) (f g : Bool) → fine x ≡ f → all fine xs ≡ g → fineBy-keys xs ≡ (g && pairs apart xs)
+      → fineBy-keys (x ∷ xs) ≡ (all fine (x ∷ xs) && pairs apart (x ∷ xs))
   keys-step x xs false g h e r = rw (key-fails x xs h, h)
-  keys-step x xs true false h e r = ap (λ (b : Bool). keyFine (key x) (map key xs) && b) r ∙ and-false (keyFine (key x) (map key xs)) ∙ rw (h, e)
-  keys-step x xs true true h e r = ap (λ (b : Bool). keyFine (key x) (map key xs) && b) r ∙ rw (key-here x xs (free x) refl h e, h, e)
+  keys-step x xs true false h e r = ap (λ (b : Bool). fineBy-key x xs && b) r ∙ and-false (fineBy-key x xs) ∙ rw (h, e)
+  keys-step x xs true true h e r = ap (λ (b : Bool). fineBy-key x xs && b) r ∙ rw (key-here x xs (free x) refl h e, h, e)
 
-  pub keys-are : (xs : List A) → keysFine (map key xs) ≡ (all fine xs && pairs apart xs)
+  pub keys-are : (xs : List A) → fineBy-keys xs ≡ (all fine xs && pairs apart xs)
   keys-are [] = refl
   keys-are (x ∷ xs) = keys-step x xs (fine x) (all fine xs) refl refl (keys-are xs)
 
--- an exchange has its OX_ID twice
-exchanges-two : (e f : Exchange) → (isClosed e || isClosed f || (not (eqb (e .«ox_id») (f .«ox_id»)) && not (eqb (1 + e .«ox_id») (1 + f .«ox_id»)))) ≡ apartId e f
-unfolding apartId
-exchanges-two e f =
-    ap (λ (b : Bool). isClosed e || isClosed f || (not (eqb (e .«ox_id») (f .«ox_id»)) && not b)) (one-more (e .«ox_id») (f .«ox_id»))
-    ∙ ap (λ (b : Bool). isClosed e || isClosed f || b) (twice (not (eqb (e .«ox_id») (f .«ox_id»))))
-  where
-    one-more : (a b : ℕ) → eqb (1 + a) (1 + b) ≡ eqb a b
-    one-more a b =
-        elim (ℕ-discrete a b) [
-          | yes h ↦ eq-eqb (1 + a) (1 + b) (omega arith) ∙ sym (eq-eqb a b h)
-          | no h ↦ ne-eqb (1 + a) (1 + b) (λ e. h (omega arith)) ∙ sym (ne-eqb a b h)
-        ]
-
-    twice : (a : Bool) → (a && a) ≡ a
-    twice true = refl
-    twice false = refl
-
--- what the keys of a login's exchanges say, where full is the bytes of a full frame to it
-pub exchanges-are : (u : Unit) (full : ℕ) (l : Login) {ks : List Key} {r : Bool} → full ≡ fullFrame (l .size) → ks ≡ map (exchangeKey u full (l .paired)) (l .places)
-    → r ≡ keysFine ks → r ≡ (all (exchangeFine u (fullFrame (l .size)) (l .paired)) (l .places) && pairs apartId (l .places))
-unfolding exchangeKey
+-- what the numbers of a login's exchanges say, where full is the bytes of a full frame to it
+pub exchanges-are : (u : Unit) (full : ℕ) (l : Login) {ns : List ℕ} {r : Bool} → full ≡ fullFrame (l .size) → ns ≡ map (exchangeNumber u full (l .paired)) (l .places)
+    → r ≡ numbersFine ns → r ≡ (all (exchangeFine u (fullFrame (l .size)) (l .paired)) (l .places) && pairs apartId (l .places))
+unfolding exchangeNumber numberFine apartId
 exchanges-are u full l f k e =
-    e ∙ ap keysFine (k ∙ ap (λ (n : ℕ). map (exchangeKey u n (l .paired)) (l .places)) f)
-    ∙ keys-are (exchangeFine u (fullFrame (l .size)) (l .paired)) isClosed (λ x. x .«ox_id») (λ x. 1 + x .«ox_id») apartId
-    (λ x _ _. ne-eqb (1 + x .«ox_id») 0 (λ z. omega arith)) exchanges-two (l .places)
+    e ∙ ap numbersFine (k ∙ ap (λ (n : ℕ). map (exchangeNumber u n (l .paired)) (l .places)) f)
+    ∙ keys-are (exchangeFine u (fullFrame (l .size)) (l .paired)) isClosed (λ x. x .«ox_id») apartId (exchangeNumber u (fullFrame (l .size)) (l .paired)) (λ n. n) apartNumber
+    (λ x. refl) (λ x y h c g. rw (h, c, g) (number-apart (isClosed y) (x .«ox_id») (y .«ox_id»))) (λ x y c. rw c) (l .places)
 
 -- a login that is fine and in use has a name
 pub fine-named : (u : Unit) (own : ℕ) (l : Login) → isUsed l ≡ true → loginFine u own l ≡ true → eqb (nameOf (l .«port_name»)) 0 ≡ false
@@ -145,10 +141,11 @@ fine-named u own l used fine =
 -- what the keys of a port's logins say
 pub logins-are : (u : Unit) (own : ℕ) (ls : List Login) {ks : List Key} {r : Bool} → ks ≡ map (loginKey u own) ls
     → r ≡ keysFine ks → r ≡ (all (loginFine u own) ls && pairs apartLogin ls)
-unfolding loginKey apartLogin
+unfolding loginKey keyOf keyFine apartLogin
 logins-are u own ls k e =
     e ∙ ap keysFine k
-    ∙ keys-are (loginFine u own) isFree (λ l. l .address) (λ l. nameOf (l .«port_name»)) apartLogin (λ l h u₁. fine-named u own l (not-false (isUsed l) u₁) h) (λ l m. refl) ls
+    ∙ keys-are (loginFine u own) isFree (λ l. l .address) apartLogin (loginKey u own) (λ n. n .id) apartKey (λ l. refl)
+    (λ l m h f g. rw (h, f, g) (key-apart (isFree m) (l .address) (m .address) (nameOf (l .«port_name»)) (nameOf (m .«port_name»)) (fine-named u own l (not-false (isUsed l) f) h))) (λ l m f. rw f) ls
 
 -- a key has the name of its login
 pub key-name : (u : Unit) (own n : ℕ) (l : Login) → loginFine u own l ≡ true → keyNamed n (loginKey u own l) ≡ hasName n l

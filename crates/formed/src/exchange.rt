@@ -1,6 +1,5 @@
-// Whether an exchange is one that an accepted command could open, with what is sent of it, and the keys of a login's exchanges (document 01, "Well formed").
-use crate::Key;
-use crate::key_of;
+// Whether an exchange is one that an accepted command could open, with what is sent of it, and the numbers of a login's exchanges (document 01, "Well formed").
+use crate::numbers::number_of;
 use frame::Header;
 use state::Exchange;
 use state::Login;
@@ -12,7 +11,7 @@ ghost use mathlib.Core.Bool.{_&&_};
 ghost use mathlib.Core.List.{map};
 ghost use lib.Dec.{leb};
 ghost use Rattle.formed.specs.Formed.{fullFrame, total, blocksFit, madeFits, directionFits, wantedFits, sentFits, takenFits, movedFits, exchangeFine};
-ghost use Rattle.formed.specs.Keys.{exchangeKey};
+ghost use Rattle.formed.specs.Keys.{exchangeNumber};
 
 // The bytes of a full data frame to a login of this W18 size.
 pub fn full_frame(size: u16) -> u32
@@ -195,26 +194,27 @@ fn exchange_fine(u: Unit, full: u32, paired: u8, e: Exchange) -> bool
     }
 }
 
-fn exchange_key(u: Unit, full: u32, paired: u8, e: Exchange) -> Key
+// An exchange is known by its OX_ID alone, so that a number says all that a key would.
+fn exchange_number(u: Unit, full: u32, paired: u8, e: Exchange) -> u64
     requires { ⌜ (0 < full) × (full ≤ 2048) ⌝ }
-    ensures { λ r. ⌜ r ≡ exchangeKey u full paired e ⌝ }
+    ensures { λ r. ⌜ r ≡ exchangeNumber u full paired e ⌝ }
 {
     let fine = exchange_fine(u, full, paired, e);
     let free = is_closed(e);
-    key_of(fine, free, e.ox_id as u32, 1 + e.ox_id as u64)
+    number_of(fine, free, e.ox_id as u32)
 }
 
-pub(crate) fn exchange_keys(t: [Exchange; 8], u: Unit, full: u32, paired: u8) -> [Key; 8]
+pub(crate) fn exchange_numbers(t: [Exchange; 8], u: Unit, full: u32, paired: u8) -> [u64; 8]
     requires { ⌜ (0 < full) × (full ≤ 2048) ⌝ }
-    ensures { λ r. ⌜ r ≡ map (exchangeKey u full paired) t ⌝ }
+    ensures { λ r. ⌜ r ≡ map (exchangeNumber u full paired) t ⌝ }
 {
-    let mut k = [Key { id: 0, name: 0 }; 8];
+    let mut numbers = [0u64; 8];
     let mut i: usize = 0;
     while i < Login::PLACES {
         let e = t[i];
-        let n = exchange_key(u, full, paired, e);
-        k[i] = n;
+        let n = exchange_number(u, full, paired, e);
+        numbers[i] = n;
         i += 1;
     }
-    k
+    numbers
 }

@@ -1,28 +1,31 @@
 // Whether a state is well formed: every field is tested, so that any bytes may be handed in.
 mod exchange;
 mod login;
+mod numbers;
 
 use address::valid_address;
 pub use exchange::full_frame;
 pub use exchange::total_of;
-use login::login_fine;
+use login::free_fine;
+use login::used_fine;
+use numbers::number_of;
 use params::Params;
 use state::Login;
 use state::Own;
 use state::Port;
 use state::Setup;
 use state::Unit;
-use state::is_free;
 use wire::name_number;
 ghost use mathlib.Core.Path.{_≡_};
-ghost use Prim.Native.Nat.{_<_};
+ghost use mathlib.Core.List.{List};
+ghost use Prim.Native.Nat.{ℕ, _<_};
 ghost use lib.ListN.{drop};
 ghost use Rattle.tables.specs.Lists.{all};
-ghost use Rattle.formed.specs.Formed.{setupRules, setupOf};
+ghost use Rattle.formed.specs.Formed.{setupRules};
 ghost use Rattle.formed.specs.Keys.{keyOf, keyNamed, apartKey, keyFine, keysFine, loginKey, keysOf, fineBy};
 
-// What a place of a table is known by: `id` is 0 where the place is not fine, 1 where it is free, and from 2 on the number of what stands there;
-// `name` is the number of a login's port name, of an exchange once more its own, and 0 where the place is free. A table is read once, for its keys, and the test of each two places is made on these.
+// What a place for a login is known by: `id` is 0 where the place is not fine, 1 where it is free, and from 2 on 2 plus the address of its login;
+// `name` is the number of its port name, and 0 where the place is free. The table is read once, for its keys, and the test of each two places is made on these.
 pub struct Key {
     pub id: u64,
     pub name: u64,
@@ -33,34 +36,26 @@ pub fn setup_rules(s: Setup) -> bool
     ensures { λ r. ⌜ r ≡ setupRules s ⌝ }
 {
     let accept = s.accept;
-    if s.capacity < Setup::LEAST_BLOCKS {
-        return false;
-    }
-    if Setup::MOST_BLOCKS < s.capacity {
-        return false;
-    }
-    if 1 < s.writable {
-        return false;
-    }
-    if valid_address(s.address) {
-        Params::read(&accept, 0).pass_setup()
-    } else {
-        false
-    }
+    rules_keep(s.capacity, s.writable, s.address, &accept)
 }
 
-// The setup that a unit and a port have.
-pub fn setup_of(u: Unit, o: Own) -> Setup
-    ensures { λ r. ⌜ r ≡ setupOf u o ⌝ }
+// The rules of a setup, by the parts of it that they look at, so that none is made of a unit and a port for them.
+fn rules_keep(capacity: u64, writable: u8, address: u32, accept: &[u8; 112]) -> bool
+    ensures { λ r. ⌜ ((identity : List ℕ) → r ≡ setupRules (record { capacity = capacity; address = address; identity = identity; accept = now (accept .entry); writable = writable })) ⌝ }
 {
-    let identity = u.identity;
-    let accept = o.accept;
-    Setup {
-        capacity: u.capacity,
-        address: o.address,
-        identity: identity,
-        accept: accept,
-        writable: u.writable,
+    if capacity < Setup::LEAST_BLOCKS {
+        return false;
+    }
+    if Setup::MOST_BLOCKS < capacity {
+        return false;
+    }
+    if 1 < writable {
+        return false;
+    }
+    if valid_address(address) {
+        Params::read(accept, 0).pass_setup()
+    } else {
+        false
     }
 }
 
@@ -68,7 +63,8 @@ pub fn setup_of(u: Unit, o: Own) -> Setup
 pub fn all_fine(u: Unit, o: Own, keys: [Key; 8]) -> bool
     ensures { λ r. ⌜ r ≡ fineBy u o keys ⌝ }
 {
-    if setup_rules(setup_of(u, o)) {
+    let accept = o.accept;
+    if rules_keep(u.capacity, u.writable, o.address, &accept) {
         keys_fine(keys)
     } else {
         false
@@ -91,20 +87,21 @@ pub fn login_keys(u: Unit, p: Port) -> [Key; 8]
     k
 }
 
+// Only a place in use, whose number is from 2 on, has a name.
 fn key_of(fine: bool, free: bool, id: u32, name: u64) -> Key
     ensures { λ r. ⌜ r ≡ keyOf fine free id name ⌝ }
 {
-    if fine {
-        if free {
-            Key { id: 1, name: 0 }
-        } else {
-            Key {
-                id: 2 + id as u64,
-                name: name,
-            }
+    let number = number_of(fine, free, id);
+    if number < 2 {
+        Key {
+            id: number,
+            name: 0,
         }
     } else {
-        Key { id: 0, name: 0 }
+        Key {
+            id: number,
+            name: name,
+        }
     }
 }
 
@@ -178,8 +175,10 @@ pub fn keys_fine(t: [Key; 8]) -> bool
 pub fn login_key(u: Unit, own: u32, l: Login) -> Key
     ensures { λ r. ⌜ r ≡ loginKey u own l ⌝ }
 {
-    let fine = login_fine(u, own, l);
-    let free = is_free(l);
-    let port = l.port_name;
-    key_of(fine, free, l.address, name_number(port))
+    if l.used == 1 {
+        let port = l.port_name;
+        key_of(used_fine(u, own, l), false, l.address, name_number(port))
+    } else {
+        key_of(free_fine(l), true, 0, 0)
+    }
 }

@@ -1,7 +1,7 @@
 // Whether a login keeps the rules: its flags, its address, its stored parameters and its exchanges (document 01, "Well formed").
-use crate::exchange::exchange_keys;
+use crate::exchange::exchange_numbers;
 use crate::exchange::full_frame;
-use crate::keys_fine;
+use crate::numbers::numbers_fine;
 use address::valid_address;
 use params::size_fails;
 use params::zero_name;
@@ -9,7 +9,11 @@ use state::Login;
 use state::Unit;
 use state::all_closed;
 ghost use mathlib.Core.Path.{_≡_};
-ghost use Rattle.formed.specs.Formed.{paramsFine, flagsFine, addressFine, usedFine, loginFine};
+ghost use mathlib.Core.Bool.{_&&_};
+ghost use lib.Dec.{eqb};
+ghost use Rattle.tables.specs.Lists.{all};
+ghost use Rattle.state.specs.Changes.{isClosed};
+ghost use Rattle.formed.specs.Formed.{paramsFine, flagsFine, addressFine, usedFine};
 
 fn flags_fine(l: Login) -> bool
     ensures { λ r. ⌜ r ≡ flagsFine l ⌝ }
@@ -59,7 +63,8 @@ fn params_fine(l: Login) -> bool
     l.sequences != 0
 }
 
-fn used_fine(u: Unit, own: u32, l: Login) -> bool
+// Whether a login keeps the rules of a place that is in use.
+pub(crate) fn used_fine(u: Unit, own: u32, l: Login) -> bool
     ensures { λ r. ⌜ r ≡ usedFine u own l ⌝ }
 {
     let t = l.places;
@@ -68,20 +73,18 @@ fn used_fine(u: Unit, own: u32, l: Login) -> bool
     if flags_fine(l) {
         if address_fine(own, l) {
             if params_fine(l) {
-                let k = exchange_keys(t, u, full, paired);
-                return keys_fine(k);
+                let numbers = exchange_numbers(t, u, full, paired);
+                return numbers_fine(numbers);
             }
         }
     }
     false
 }
 
-pub(crate) fn login_fine(u: Unit, own: u32, l: Login) -> bool
-    ensures { λ r. ⌜ r ≡ loginFine u own l ⌝ }
+// Whether a place that is not in use is free, with no open exchange.
+pub(crate) fn free_fine(l: Login) -> bool
+    ensures { λ r. ⌜ r ≡ (eqb (l .used) 0 && all isClosed (l .places)) ⌝ }
 {
     let t = l.places;
-    if l.used == 1 {
-        return used_fine(u, own, l);
-    }
     if l.used == 0 { all_closed(t) } else { false }
 }

@@ -46,11 +46,11 @@ pub struct Exchange {
     pub ox_id: u16,
     // the data frames that the drive sent, going round at 65,536
     pub count: u16,
-    pub kind: u16,
     // where its data go: 0 to the host, 1 from it
     pub direction: u8,
     // 1 while data that were asked for have not all come
     pub awaited: u8,
+    pub kind: u16,
 }
 
 impl Exchange {

@@ -2,7 +2,7 @@
 use Prim.Native.Nat.{ℕ, _<_}
 use mathlib.Core.Path.{_≡_, refl, sym, ap, _∙_}
 use mathlib.Core.Bool.{true}
-use mathlib.Core.List.{List}
+use mathlib.Core.List.{List, []}
 use native.Mathlib.Decide.{ℕ-discrete}
 use lib.ListN.{length}
 use Rattle.tables.specs.declared.Found.{Found}
@@ -10,26 +10,29 @@ use Rattle.tables.specs.declared.Found.the-variants.{At, Nothing}
 use Rattle.tables.specs.Lists.{all}
 use Rattle.tables.proofs.Searches.{found-below, same-found}
 use Rattle.frame.specs.declared.Header.{Header}
+use Rattle.refusal.specs.declared.Refusal.{Refusal}
+use Rattle.refusal.specs.declared.Refusal.the-variants as refusal
+use Rattle.reply.specs.Reply.{sentOf}
 use Rattle.state.specs.declared.Exchange.{Exchange}
 use Rattle.state.specs.declared.Login.{Login}
 use Rattle.state.specs.declared.Port.{Port}
 use Rattle.state.specs.declared.Unit.{Unit}
 use Rattle.state.specs.declared.Change.the-variants.{Keep}
-use Rattle.state.specs.Changes.{emptyLogin, ownOf, hasAddress, loginAt, withPlaces, withLogin, withExchange}
+use Rattle.state.specs.Changes.{emptyLogin, ownOf, hasAddress, loginAt, withPlaces, withLogin, withExchange, changedAll}
 use Rattle.state.specs.Tables.{findLogin, loginIn, loginOf}
 use Rattle.state.proofs.Places.{found-has, stored-at, login-other}
 use Rattle.formed.specs.Formed.{loginFine}
 use Rattle.calls.specs.declared.View.{View}
-use Rattle.calls.specs.declared.Decision.{Decision}
+use Rattle.calls.specs.declared.Turn.{Turn}
 use Rattle.calls.specs.View.{viewOf}
-use Rattle.calls.specs.Turn.{Decided}
-use Rattle.calls.specs.Others.{Elsewhere, LeavesLogin}
+use Rattle.calls.specs.Turn.{Decided, servedIn, refusedTurn, sentTurn}
+use Rattle.calls.specs.Others.{Another}
 use Rattle.calls.proofs.Views.{view-seat, view-login}
 use Rattle.calls.proofs.Decisions.{on-found}
 use Rattle.calls.proofs.Others.{other-has, seat-another}
 use Rattle.taking.specs.declared.Step.{Step}
 use Rattle.taking.specs.declared.Step.the-variants.{NoWrite, Fault, Uncovered, Take}
-use Rattle.taking.specs.Taking.{dataSize, stepIn, servedBy, servedData, dataDecided, dataTurn}
+use Rattle.taking.specs.Taking.{dataSize, stepIn, onStep, servedBy, servedData, dataDecided, takingTurn}
 
 -- a login with other exchanges: nothing of its record changes
 pub data Exchanged (l : Login) : Login → Type 0 where
@@ -103,29 +106,30 @@ module _ (p : Port) (h : Header) (size start len : ℕ) where
   unfolding dataDecided withLogin ownOf
   data-own = on-found OwnSame (findLogin p (h .«s_id»)) _ _ (λ _ _. refl) (λ _. refl)
 
--- as a turn, on whatever is seen: no change of every login, so that of each address is left
-module _ (v : View) (h : Header) (size start len : ℕ) where
-  abbrev Keeping : Decision → Type 0
-  Keeping d = d .change ≡ Keep
+-- as a turn, on whatever is seen: a refusal, or the sender's login as it was served
+taking-cases : (P : Turn → Type 0) (v : View) (h : Header) (size start len room : ℕ) → ((x : Refusal) → P (refusedTurn x))
+    → ((i n : ℕ) → v .seat ≡ At i → P (sentTurn n (servedIn i (servedData (v .login) h size start len)))) → P (takingTurn v h size start len room)
+unfolding takingTurn
+taking-cases P v h size start len room refuses serves = on-found P (v .seat) _ _ (λ i at. by i at (stepIn (v .login) h size start len)) (λ _. refuses refusal.NoWrite)
+  where
+    by : (i : ℕ) → v .seat ≡ At i → (s : Step) → P (onStep s refusedTurn (sentTurn (sentOf (v .own) h (servedData (v .login) h size start len .reply) [] room) (servedIn i (servedData (v .login) h size start len))))
+    by i at NoWrite = refuses refusal.NoWrite
+    by i at (Fault j code) = serves i _ at
+    by i at Uncovered = refuses refusal.BadWindow
+    by i at (Take j k) = serves i _ at
 
-  pub data-keeps : dataTurn v h size start len .change ≡ Keep
-  unfolding dataTurn
-  data-keeps = on-found Keeping (v .seat) _ _ (λ _ _. refl) (λ _. refl)
-
-  pub data-leaves : (p : Port) (b : ℕ) → LeavesLogin p b (dataTurn v h size start len)
-  unfolding dataTurn
-  data-leaves p b = on-found (LeavesLogin p b) (v .seat) _ _ (λ _ _. tt) (λ _. tt)
+-- no change of every login
+pub taking-keeps : (v : View) (h : Header) (size start len room : ℕ) → takingTurn v h size start len room .change ≡ Keep
+taking-keeps v h size start len room = taking-cases (λ t. t .change ≡ Keep) v h size start len room (λ _. refl) (λ _ _ _. refl)
 
 -- and told on what the sender sees it stores nothing of another address
-pub data-another : (u : Unit) (p : Port) → all (loginFine u (p .address)) (p .logins) ≡ true → (h : Header) (size start len b : ℕ) → (b ≡ h .«s_id» → ⊥)
-    → Elsewhere p b (dataTurn (viewOf u p (h .«s_id»)) h size start len)
-unfolding dataTurn
-data-another u p fine h size start len b n =
+pub taking-another : (u : Unit) (p : Port) → all (loginFine u (p .address)) (p .logins) ≡ true → (h : Header) (size start len room b : ℕ) → (b ≡ h .«s_id» → ⊥)
+    → let t = takingTurn (viewOf u p (h .«s_id»)) h size start len room in Another (changedAll (t .change) p) b (t .at) (t .login)
+taking-another u p fine h size start len room b n =
     let from = h .«s_id» in
     let v = viewOf u p from in
-    on-found (Elsewhere p b) (v .seat) _ _
-    (λ i e. let seat = sym (view-seat u p from fine) ∙ e in (
+    taking-cases (λ t. Another (changedAll (t .change) p) b (t .at) (t .login)) v h size start len room (λ _. tt)
+    (λ i _ e. let seat = sym (view-seat u p from fine) ∙ e in (
       seat-another p b from i Keep n seat,
       exchanged-has (served-exchanges (v .login) h size start len) b ∙ ap (hasAddress b) (view-login u p from fine i seat) ∙ other-has b from (loginAt p i) n (found-has p from i seat),
     ))
-    (λ _. tt)

@@ -1,32 +1,35 @@
 -- What each way through a function of the crate answers, from what its calls gave. Assumes nothing.
 use Prim.Native.Nat.{ℕ, _+_, _-_, _*_, _/_, _%_, _≤_, _<_, min}
-use mathlib.Core.Path.{_≡_, sym, _∙_}
-use mathlib.Core.Bool.{true, false, cond}
-use mathlib.Core.List.{List}
+use mathlib.Core.Path.{_≡_, refl, sym, _∙_}
+use mathlib.Core.Bool.{Bool, true, false, cond}
+use mathlib.Core.List.{List, []}
 use native.Mathlib.Decide.{decLe}
 use native.Mathlib.Omega.{arith}
 use lib.Dec.{eqb, ltb}
 use lib.ListN.{length, take, drop}
 use borrow.Author.Tests.{eq-eqb, ne-eqb, lt-ltb, le-ltb}
 use Rattle.tables.specs.declared.Found.the-variants.{At, Nothing}
-use Rattle.wire.specs.Bytes.{over}
+use Rattle.wire.specs.Bytes.{onto, over}
+use Rattle.wire.proofs.Fronts.{onto-nil}
 use Rattle.frame.specs.declared.Header.{Header}
 use Rattle.cover.specs.Cover.{positionOf, lentPlace}
 use Rattle.state.specs.declared.Exchange.{Exchange}
 use Rattle.state.specs.declared.Login.{Login}
+use Rattle.state.specs.declared.Own.{Own}
 use Rattle.state.specs.Changes.{exchangeAt, withExchange, endedAt, taken}
 use Rattle.state.specs.Kinds.{fromHost}
 use Rattle.state.specs.Tables.{findExchange}
 use Rattle.formed.specs.Formed.{total}
 use Rattle.reply.specs.declared.Reply.the-variants as reply
 use Rattle.reply.specs.declared.Response.the-variants as response
+use Rattle.reply.specs.Reply.{bytesOf, sentOf, writtenOf}
+use Rattle.refusal.specs.declared.Refusal.the-variants as refusal
 use Rattle.calls.specs.declared.View.{View}
-use Rattle.calls.specs.declared.Served.{Served}
-use Rattle.calls.specs.declared.Decision.{Decision}
-use Rattle.calls.specs.Turn.{servedAs, servedIn, answersOnly}
+use Rattle.calls.specs.declared.Turn.{Turn}
+use Rattle.calls.specs.Turn.{stores, refusedTurn, sentTurn}
 use Rattle.taking.specs.declared.Step.{Step}
 use Rattle.taking.specs.declared.Step.the-variants.{NoWrite, Fault, Uncovered, Take}
-use Rattle.taking.specs.Taking.{dataSize, dataIn, burstEnd, faultOf, findWrite, coveredStep, stepOf, stepIn, takenOn, servedData, windowAfter, dataTurn}
+use Rattle.taking.specs.Taking.{dataSize, dataIn, burstEnd, faultOf, findWrite, coveredStep, stepOf, stepIn, takenOn, servedData, windowAfter, takingTurn, takingBuffer, takingWindow}
 
 -- `find_write`: no exchange of the OX_ID, a WRITE, or another
 module _ (l : Login) (x : ℕ) where
@@ -103,25 +106,6 @@ module _ (l : Login) (h : Header) (size start len : ℕ) where
     unfolding stepOf
     step-fault z = rw (at, sym en, sym ee, sym ec, ne-eqb code 0 z)
 
-  -- `served_data`, by what the frame comes to
-  module _ {s : Step} {r : Served} (es : s ≡ stepIn l h size start len) where
-    pub served-none : s ≡ NoWrite → r ≡ servedAs reply.Nothing l → r ≡ servedData l h size start len
-    unfolding servedData
-    served-none e er = rw (sym es ∙ e) er
-
-    pub served-fault : {j code : ℕ} {m : Login} → s ≡ Fault j code → m ≡ endedAt l j → r ≡ servedAs (reply.Respond (response.Code code)) m → r ≡ servedData l h size start len
-    unfolding servedData
-    served-fault e em er = rw (sym es ∙ e, sym em) er
-
-    pub served-uncovered : s ≡ Uncovered → r ≡ servedAs reply.Nothing l → r ≡ servedData l h size start len
-    unfolding servedData
-    served-uncovered e er = rw (sym es ∙ e) er
-
-    pub served-taken : {j k n : ℕ} {e f : Exchange} {m : Login} → s ≡ Take j k → e ≡ exchangeAt l j → n ≡ dataSize h size → f ≡ takenOn e n → m ≡ withExchange l j f → r ≡ servedAs reply.Nothing m
-        → r ≡ servedData l h size start len
-    unfolding servedData
-    served-taken e ee en ef em er = rw (sym es ∙ e, sym ee, sym en, sym ef, sym em) er
-
 -- `taken_on` and `awaited_after`: past the burst's end, at it, short of it
 module _ (e : Exchange) (n : ℕ) where
   module _ {end : ℕ} (b : end ≡ burstEnd e) where
@@ -137,16 +121,6 @@ module _ (e : Exchange) (n : ℕ) where
   pub taken-is : {a : ℕ} {r : Exchange} → a ≡ cond (eqb (e .sent + n) (burstEnd e)) 0 1 → r ≡ taken e (n % 4294967296) a → r ≡ takenOn e n
   taken-is ea er = let w : (e .sent + n % 4294967296) % 4294967296 ≡ (e .sent + n) % 4294967296 = omega arith in er ∙ rw (ea, w)
 
--- `take`: no login, or its own
-module _ (v : View) (h : Header) (size start len : ℕ) {r : Decision} where
-  pub turn-none : v .seat ≡ Nothing → r ≡ answersOnly reply.Nothing → r ≡ dataTurn v h size start len
-  unfolding dataTurn
-  turn-none e er = rw e er
-
-  pub turn-served : {i : ℕ} {s : Served} → v .seat ≡ At i → s ≡ servedData (v .login) h size start len → r ≡ servedIn i s → r ≡ dataTurn v h size start len
-  unfolding dataTurn
-  turn-served e es er = rw (e, sym es) er
-
 -- the bytes of a data frame, cut from where they begin in it
 pub data-part : (h : Header) (f : List ℕ) {m n : ℕ} → m ≡ min 24 (length f) → n ≡ dataSize h (length f) → take (m + n - m) (drop m f) ≡ dataIn h f
 data-part h f {m} {n} em en =
@@ -156,20 +130,48 @@ data-part h f {m} {n} em en =
       | no l ↦ (let z : n ≡ 0 = omega arith in rw z)
     ])
 
--- `store`: no byte, or these
-module _ (l : Login) (h : Header) (f : List ℕ) (start : ℕ) (W : List ℕ) {s : Step} (es : s ≡ stepIn l h (length f) start (length W)) where
-  pub store-none : s ≡ NoWrite → W ≡ windowAfter l h f start W
-  unfolding windowAfter
-  store-none e = rw (sym es ∙ e)
+-- of no reply nothing is sent, and no byte is written
+nothing-sent : (o : Own) (h : Header) (room : ℕ) → sentOf o h reply.Nothing [] room ≡ 0
+unfolding sentOf bytesOf
+nothing-sent o h room = by (ltb room 2136)
+  where
+    by : (b : Bool) → cond b 0 (length (bytesOf o h reply.Nothing [])) ≡ 0
+    by true = refl
+    by false = refl
 
-  pub store-fault : {j code : ℕ} → s ≡ Fault j code → W ≡ windowAfter l h f start W
-  unfolding windowAfter
-  store-fault e = rw (sym es ∙ e)
+nothing-written : (o : Own) (h : Header) (l : List ℕ) → writtenOf o h reply.Nothing [] l ≡ l
+unfolding writtenOf bytesOf
+nothing-written o h l = by (ltb (length l) 2136)
+  where
+    by : (b : Bool) → cond b l (onto (bytesOf o h reply.Nothing []) l) ≡ l
+    by true = refl
+    by false = onto-nil l
 
-  pub store-uncovered : s ≡ Uncovered → W ≡ windowAfter l h f start W
-  unfolding windowAfter
-  store-uncovered e = rw (sym es ∙ e)
+-- `data_turn`: a port that is not logged in
+module _ (v : View) (h : Header) (f : List ℕ) (start : ℕ) (W l : List ℕ) where
+  abbrev Says : Turn → List ℕ → List ℕ → Type 0
+  Says t l₁ W₁ = (t ≡ takingTurn v h (length f) start (length W) (length l)) × ((l₁ ≡ takingBuffer v h (length f) start (length W) l) × (W₁ ≡ takingWindow v h f start W))
 
-  pub store-taken : {j k : ℕ} {W₂ carried : List ℕ} → s ≡ Take j k → carried ≡ dataIn h f → W₂ ≡ over W k carried → W₂ ≡ windowAfter l h f start W
-  unfolding windowAfter
-  store-taken e ec ew = rw (sym es ∙ e, sym ec) ew
+  pub says-none : {t : Turn} → v .seat ≡ Nothing → t ≡ refusedTurn refusal.NoWrite → Says t l W
+  unfolding takingTurn takingBuffer takingWindow
+  says-none e et = rw e (et, (refl, refl))
+
+  -- a login at place i, by what the frame comes to
+  module _ {i : ℕ} {s : Step} {t : Turn} (at : v .seat ≡ At i) (es : s ≡ stepIn (v .login) h (length f) start (length W)) where
+    pub says-no-write : s ≡ NoWrite → t ≡ refusedTurn refusal.NoWrite → Says t l W
+    unfolding takingTurn takingBuffer takingWindow windowAfter
+    says-no-write e et = rw (at, sym es ∙ e) (et, (refl, refl))
+
+    pub says-uncovered : s ≡ Uncovered → t ≡ refusedTurn refusal.BadWindow → Says t l W
+    unfolding takingTurn takingBuffer takingWindow windowAfter
+    says-uncovered e et = rw (at, sym es ∙ e) (et, (refl, refl))
+
+    pub says-fault : {j code : ℕ} {m : Login} {l₁ : List ℕ} → s ≡ Fault j code → m ≡ endedAt (v .login) j
+        → t ≡ sentTurn (sentOf (v .own) h (reply.Respond (response.Code code)) [] (length l)) (stores (reply.Respond (response.Code code)) i m) → l₁ ≡ writtenOf (v .own) h (reply.Respond (response.Code code)) [] l → Says t l₁ W
+    unfolding takingTurn takingBuffer takingWindow windowAfter servedData
+    says-fault e em et el = rw (at, sym es ∙ e) (et ∙ rw em, (el, refl))
+
+    pub says-taken : {j k n : ℕ} {W₁ : List ℕ} → s ≡ Take j k → n ≡ dataSize h (length f) → W₁ ≡ over W k (dataIn h f)
+        → t ≡ sentTurn 0 (stores reply.Nothing i (withExchange (v .login) j (takenOn (exchangeAt (v .login) j) n))) → Says t l W₁
+    unfolding takingTurn takingBuffer takingWindow windowAfter servedData
+    says-taken e en ew et = rw (at, sym es ∙ e) (et ∙ rw (en, nothing-sent (v .own) h (length l)), (sym (nothing-written (v .own) h l), ew))

@@ -1,7 +1,7 @@
 -- What a data frame comes to, for an open WRITE of its sender (document 02, request 2).
 use Prim.Native.Nat.{ℕ, _+_, _-_, _*_, _/_, _%_, min}
 use mathlib.Core.Bool.{Bool, true, false, cond, not, _&&_}
-use mathlib.Core.List.{List}
+use mathlib.Core.List.{List, []}
 use lib.Dec.{eqb, ltb}
 use lib.ListN.{length, take, drop}
 use Rattle.tables.specs.declared.Found.{Found}
@@ -21,10 +21,11 @@ use Rattle.state.specs.Tables.{findLogin, findExchange}
 use Rattle.formed.specs.Formed.{total}
 use Rattle.reply.specs.declared.Reply.the-variants as reply
 use Rattle.reply.specs.declared.Response.the-variants as response
+use Rattle.reply.specs.Reply.{sentOf, writtenOf}
 use Rattle.calls.specs.declared.View.{View}
 use Rattle.calls.specs.declared.Served.{Served}
-use Rattle.calls.specs.declared.Decision.{Decision}
-use Rattle.calls.specs.Turn.{Decided, decidedAs, servedAs, servedAt, servedIn, answersOnly}
+use Rattle.calls.specs.declared.Turn.{Turn}
+use Rattle.calls.specs.Turn.{Decided, decidedAs, servedAs, servedAt, servedIn, refusedTurn, sentTurn}
 use Rattle.taking.specs.declared.Step.{Step}
 use Rattle.taking.specs.declared.Step.the-variants.{NoWrite, Fault, Uncovered, Take}
 
@@ -118,6 +119,21 @@ windowAfter l h f start W = windowBy (stepIn l h (length f) start (length W)) (d
 unfoldable pub dataDecided : Port → Header → ℕ → ℕ → ℕ → Decided
 dataDecided p h size start len = onFound (findLogin p (h .«s_id»)) (λ i. servedAt p i (servedData (loginAt p i) h size start len)) (decidedAs reply.Nothing p)
 
--- the same told by what changes; that this is the same, at a port that is well formed, is `data-turn`
-unfoldable pub dataTurn : View → Header → ℕ → ℕ → ℕ → Decision
-dataTurn v h size start len = onFound (v .seat) (λ i. servedIn i (servedData (v .login) h size start len)) (answersOnly reply.Nothing)
+-- 11, 10, or neither refuses it
+abbrev pub onStep : {A : Type 0} → Step → (Refusal → A) → A → A
+onStep NoWrite g a = g refusal.NoWrite
+onStep (Fault j code) g a = a
+onStep Uncovered g a = g refusal.BadWindow
+onStep (Take j k) g a = a
+
+-- what a data frame that arrived well comes to, seen by its sender: refused, or the length of its answer and the login after it; "no open write" of a port that is not logged in
+unfoldable pub takingTurn : View → Header → ℕ → ℕ → ℕ → ℕ → Turn
+takingTurn v h size start len room =
+    onFound (v .seat) (λ i. onStep (stepIn (v .login) h size start len) refusedTurn (sentTurn (sentOf (v .own) h (servedData (v .login) h size start len .reply) [] room) (servedIn i (servedData (v .login) h size start len))))
+    (refusedTurn refusal.NoWrite)
+
+unfoldable pub takingBuffer : View → Header → ℕ → ℕ → ℕ → List ℕ → List ℕ
+takingBuffer v h size start len l = onFound (v .seat) (λ i. onStep (stepIn (v .login) h size start len) (λ x. l) (writtenOf (v .own) h (servedData (v .login) h size start len .reply) [] l)) l
+
+unfoldable pub takingWindow : View → Header → List ℕ → ℕ → List ℕ → List ℕ
+takingWindow v h f start W = onFound (v .seat) (λ i. windowAfter (v .login) h f start W) W

@@ -1,17 +1,19 @@
 // What a data frame comes to, for an open WRITE of its sender (document 02, request 2): it is refused, a fault ends the exchange, or its bytes go into the lent window.
-use calls::Decision;
-use calls::Served;
+use calls::Turn;
 use calls::View;
-use calls::answer_only;
-use calls::serve_as;
-use calls::serve_at;
+use calls::refuse_turn;
+use calls::send_turn;
+use calls::store_login;
 use cover::lent_place;
 use formed::total_of;
 use frame::Header;
+use refusal::Refusal;
 use reply::Reply;
 use reply::Response;
+use reply::write;
 use state::Exchange;
 use state::Login;
+use state::Own;
 use state::end_exchange;
 use state::exchange_at;
 use state::find_exchange;
@@ -22,11 +24,18 @@ use wire::least;
 use wire::less;
 use wire::put_at;
 ghost use mathlib.Core.Path.{_≡_};
+ghost use mathlib.Core.List.{[]};
 ghost use Prim.Native.Nat.{_+_, _<_};
 ghost use mathlib.Core.Bool.{cond};
 ghost use lib.Dec.{eqb, ltb};
 ghost use lib.ListN.{length};
-ghost use Rattle.taking.specs.Taking.{dataSize, burstEnd, faultOf, findWrite, coveredStep, stepOf, stepIn, takenOn, servedData, windowAfter, dataTurn};
+ghost use Rattle.wire.specs.Bytes.{over};
+ghost use Rattle.state.specs.Changes.{exchangeAt, withExchange};
+ghost use Rattle.reply.specs.declared.Reply.the-variants.{Nothing, Respond};
+ghost use Rattle.reply.specs.declared.Response.the-variants.{Code};
+ghost use Rattle.reply.specs.Reply.{sentOf, writtenOf};
+ghost use Rattle.calls.specs.Turn.{stores, sentTurn};
+ghost use Rattle.taking.specs.Taking.{dataSize, dataIn, burstEnd, faultOf, findWrite, coveredStep, stepIn, takenOn, takingTurn, takingBuffer, takingWindow};
 
 // For no open WRITE; a fault, with the place of its exchange and the RSP_CODE; a window that is too long or does not hold the bytes;
 // or taken, with the place of its exchange and where its bytes begin in the window.
@@ -37,8 +46,40 @@ pub enum Step {
     Take(usize, usize),
 }
 
+// What a data frame that arrived well comes to, seen by its sender, with a window that starts at a block: refused with 11 or 10, answered with a fault, or its bytes go there.
+// A port that is not logged in has no open WRITE.
+pub fn data_turn(
+    v: View,
+    h: Header,
+    frame: &[u8],
+    start: u64,
+    window: &mut [u8],
+    reply: &mut [u8],
+) -> Turn
+    ensures { λ r. ⌜ r ≡ takingTurn v h (length (now (frame .entry))) start (length (now (window .entry))) (length (now (reply .entry))) ⌝ }
+    ensures { λ _. ⌜ now (reply .exit) ≡ takingBuffer v h (length (now (frame .entry))) start (length (now (window .entry))) (now (reply .entry)) ⌝ }
+    ensures { λ _. ⌜ now (window .exit) ≡ takingWindow v h (now (frame .entry)) start (now (window .entry)) ⌝ }
+{
+    let seat = v.seat;
+    let o = v.own;
+    let l = v.login;
+    let Found::At(i) = seat else {
+        return refuse_turn(Refusal::NoWrite);
+    };
+    let s = step_in(l, h, frame.len(), start, window.len());
+    match s {
+        Step::NoWrite => refuse_turn(Refusal::NoWrite),
+        Step::Fault(j, code) => fault_turn(o, h, i, end_exchange(l, j), code, reply),
+        Step::Uncovered => refuse_turn(Refusal::BadWindow),
+        Step::Take(j, k) => {
+            put_data(h, frame, k, window);
+            take_turn(l, i, j, data_size(h, frame.len()))
+        }
+    }
+}
+
 // What a frame of this size with header h comes to as a data frame of the login l, at a window of len bytes that starts at a block.
-pub fn step_in(l: Login, h: Header, size: usize, start: u64, len: usize) -> Step
+fn step_in(l: Login, h: Header, size: usize, start: u64, len: usize) -> Step
     ensures { λ r. ⌜ r ≡ stepIn l h size start len ⌝ }
 {
     let n = data_size(h, size);
@@ -54,33 +95,31 @@ pub fn step_in(l: Login, h: Header, size: usize, start: u64, len: usize) -> Step
     }
 }
 
-// What a data frame is answered, and what changes, seen by its sender.
-pub fn take(v: View, h: Header, size: usize, start: u64, len: usize) -> Decision
-    ensures { λ r. ⌜ r ≡ dataTurn v h size start len ⌝ }
+// A fault is answered with its RSP_CODE, and the login at place i is l after it.
+fn fault_turn(o: Own, h: Header, i: usize, l: Login, code: u8, reply: &mut [u8]) -> Turn
+    ensures { λ r. ⌜ r ≡ sentTurn (sentOf o h (Respond (Code code)) [] (length (now (reply .entry)))) (stores (Respond (Code code)) i l) ⌝ }
+    ensures { λ _. ⌜ now (reply .exit) ≡ writtenOf o h (Respond (Code code)) [] (now (reply .entry)) ⌝ }
 {
-    let seat = v.seat;
-    let l = v.login;
-    let Found::At(i) = seat else {
-        return answer_only(Reply::Nothing);
-    };
-    serve_at(i, served_data(l, h, size, start, len))
+    let none = [0u8; 0];
+    let n = write(o, h, Reply::Respond(Response::Code(code)), &none, reply);
+    send_turn(n, store_login(Reply::Respond(Response::Code(code)), i, l))
 }
 
-// Stores the bytes of a data frame that is taken in the window; of any other frame no byte.
-pub fn store(l: Login, h: Header, frame: &[u8], start: u64, window: &mut [u8])
-    ensures { λ _. ⌜ now (window .exit) ≡ windowAfter l h (now (frame .entry)) start (now (window .entry)) ⌝ }
+// The bytes of a data frame go into the window, from a place on.
+fn put_data(h: Header, frame: &[u8], k: usize, window: &mut [u8])
+    ensures { λ _. ⌜ now (window .exit) ≡ over (now (window .entry)) k (dataIn h (now (frame .entry))) ⌝ }
 {
-    let s = step_in(l, h, frame.len(), start, window.len());
-    match s {
-        Step::NoWrite => {}
-        Step::Fault(_, _) => {}
-        Step::Uncovered => {}
-        Step::Take(_, k) => {
-            let from = least(Header::LEAST_FRAME, frame.len());
-            let to = from + data_size(h, frame.len());
-            put_at(window, k, &frame[from..to]);
-        }
-    }
+    let from = least(Header::LEAST_FRAME, frame.len());
+    let to = from + data_size(h, frame.len());
+    put_at(window, k, &frame[from..to]);
+}
+
+// Nothing is sent for n bytes that are taken; the login at place i has an exchange at place j that is on by these.
+fn take_turn(l: Login, i: usize, j: usize, n: usize) -> Turn
+    ensures { λ r. ⌜ r ≡ sentTurn 0 (stores Nothing i (withExchange l j (takenOn (exchangeAt l j) n))) ⌝ }
+{
+    let e = taken_on(exchange_at(l, j), n);
+    send_turn(0, store_login(Reply::Nothing, i, put_exchange(l, j, e)))
 }
 
 // The bytes that a data frame of this size carries: its payload without the fill.
@@ -154,22 +193,6 @@ fn covered_step(e: Exchange, j: usize, n: usize, start: u64, len: usize) -> Step
         return Step::Uncovered;
     };
     Step::Take(j, k)
-}
-
-// The answer to a data frame, and its sender's login after it.
-fn served_data(l: Login, h: Header, size: usize, start: u64, len: usize) -> Served
-    ensures { λ r. ⌜ r ≡ servedData l h size start len ⌝ }
-{
-    let s = step_in(l, h, size, start, len);
-    match s {
-        Step::NoWrite => serve_as(Reply::Nothing, l),
-        Step::Fault(j, code) => serve_as(Reply::Respond(Response::Code(code)), end_exchange(l, j)),
-        Step::Uncovered => serve_as(Reply::Nothing, l),
-        Step::Take(j, _) => serve_as(
-            Reply::Nothing,
-            put_exchange(l, j, taken_on(exchange_at(l, j), data_size(h, size))),
-        ),
-    }
 }
 
 // The exchange after n bytes more; data are awaited until the burst's end.

@@ -1,4 +1,4 @@
-// The window of a next frame, and of a frame in, as one thing: the block that it starts at, and the lent bytes.
+// The window of a next frame, and of a data frame in, as one thing: the block that it starts at, and the lent bytes.
 use calls::Turn;
 use calls::View;
 use calls::look;
@@ -9,7 +9,8 @@ use refusal::Refusal;
 ghost use mathlib.Core.Path.{_≡_};
 ghost use lib.ListN.{length};
 ghost use Rattle.drive.specs.Entry.{nextFrame, nextFrameBuffer};
-ghost use Rattle.drive.specs.Turn.{passedTurn, passedBuffer, passedWindow, nextOutTurn, nextOutBuffer};
+ghost use Rattle.taking.specs.Taking.{takingTurn, takingBuffer, takingWindow};
+ghost use Rattle.drive.specs.Turn.{nextOutTurn, nextOutBuffer};
 
 pub struct Window<'a> {
     pub start: u64,
@@ -22,23 +23,17 @@ pub struct Space<'a> {
     pub bytes: &'a mut [u8],
 }
 
-// What a frame in that passed comes to, with a space for its data: hands block and bytes on to what its sender sees.
-pub fn passed_turn_into<'a>(
-    v: View,
-    h: Header,
-    frame: &[u8],
-    w: Space<'a>,
-    reply: &mut [u8],
-) -> Turn
-    ensures { λ r. ⌜ (r ≡ passedTurn v h (now (frame .entry)) (w .entry .start) (length (now (w .entry .bytes))) (length (now (reply .entry))))
-        × (now (reply .exit) ≡ passedBuffer v h (now (frame .entry)) (w .entry .start) (length (now (w .entry .bytes))) (now (reply .entry)))
-        × (now (w .exit .1 .0) ≡ passedWindow v h (now (frame .entry)) (w .entry .start) (now (w .entry .bytes))) ⌝ }
+// What a data frame that arrived well comes to, with a space for its data: hands block and bytes on to what its sender sees.
+pub fn data_turn_into<'a>(v: View, h: Header, frame: &[u8], w: Space<'a>, reply: &mut [u8]) -> Turn
+    ensures { λ r. ⌜ (r ≡ takingTurn v h (length (now (frame .entry))) (w .entry .start) (length (now (w .entry .bytes))) (length (now (reply .entry))))
+        × (now (reply .exit) ≡ takingBuffer v h (length (now (frame .entry))) (w .entry .start) (length (now (w .entry .bytes))) (now (reply .entry)))
+        × (now (w .exit .1 .0) ≡ takingWindow v h (now (frame .entry)) (w .entry .start) (now (w .entry .bytes))) ⌝ }
 {
-    drive::passed_turn(v, h, frame, w.start, &mut *w.bytes, reply)
+    taking::data_turn(v, h, frame, w.start, &mut *w.bytes, reply)
 }
 
 // The same with plain parameters, for callers that hold no space.
-pub fn passed_turn(
+pub fn data_turn(
     v: View,
     h: Header,
     frame: &[u8],
@@ -46,11 +41,11 @@ pub fn passed_turn(
     bytes: &mut [u8],
     reply: &mut [u8],
 ) -> Turn
-    ensures { λ r. ⌜ (r ≡ passedTurn v h (now (frame .entry)) start (length (now (bytes .entry))) (length (now (reply .entry))))
-        × (now (reply .exit) ≡ passedBuffer v h (now (frame .entry)) start (length (now (bytes .entry))) (now (reply .entry)))
-        × (now (bytes .exit) ≡ passedWindow v h (now (frame .entry)) start (now (bytes .entry))) ⌝ }
+    ensures { λ r. ⌜ (r ≡ takingTurn v h (length (now (frame .entry))) start (length (now (bytes .entry))) (length (now (reply .entry))))
+        × (now (reply .exit) ≡ takingBuffer v h (length (now (frame .entry))) start (length (now (bytes .entry))) (now (reply .entry)))
+        × (now (bytes .exit) ≡ takingWindow v h (now (frame .entry)) start (now (bytes .entry))) ⌝ }
 {
-    passed_turn_into(v, h, frame, Space { start, bytes }, reply)
+    data_turn_into(v, h, frame, Space { start, bytes }, reply)
 }
 
 // What the next frame out of the exchange of an address and an OX_ID comes to, from a window: hands block and bytes on to what the port at that address sees.

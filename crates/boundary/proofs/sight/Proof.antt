@@ -83,7 +83,7 @@ use Rattle.boundary.proofs.Elements.{set-values, length-values, array-s
 use Rattle.boundary.proofs.Keyed.{keyVal, K8, k8, kvals, kval, blank, is-none, blank-are}
 use Rattle.boundary.proofs.Lent.{pval, uval, word, rf}
 use Rattle.boundary.proofs.Logins.{lval, logins-long, table-8, login-is, reads}
-use Rattle.boundary.proofs.Seen.{half, a112, owning, oval, own-fits, is-own, typed-accept, typed-own, typed-login}
+use Rattle.boundary.proofs.Reading.{half, a112, owning, oval, own-fits, is-own, typed-accept, typed-own, typed-login}
 use Rattle.boundary.proofs.sight.Key.{name as #boundary·sight}
 use Rattle.boundary.proofs.sight as f
 use Rattle.boundary.proofs.sight.Statement as stated

@@ -66,6 +66,7 @@ use Rattle.boundary.proofs.Lending.{tval, lends-code, code-back}
 use Rattle.boundary.proofs.Lent.{pval, word, rf, N, to-code}
 use Rattle.boundary.proofs.Logins.{lval, stores, logins-long, table-8, is-after}
 use Rattle.boundary.proofs.Reached.{stored-here, stored-none}
+use Rattle.boundary.proofs.Reading.{fval}
 use Rattle.boundary.proofs.code.Symbol as n-def
 use Rattle.boundary.proofs.code.Symbol.{name as #boundary·code}
 use Rattle.boundary.proofs.code.Met as n-thm
@@ -78,10 +79,6 @@ use Rattle.boundary.proofs.store as f
 use Rattle.boundary.proofs.store.Statement as stated
 use Rattle.boundary.proofs.store.Code as code
 use Rattle.boundary.proofs.store.Code.Mir as mir-of
-
--- the machine value of a place
-abbrev fval : Found → Val
-fval x = EL.val Fo.the-type Fo′.the-laws x
 
 abbrev stayed : Stays (f.ended .signature .params) (f.ended .kept)
 stayed = (stay-ref (0 ∷ []) tt (plain (λ _. Po.the-row)), (stay-none (λ _. Tn.the-row) yes, tt))

@@ -10,8 +10,8 @@ use Rattle.drive.proofs.arrived.Tie as tie
 returns : tie.Need-returns
 unfolding arrivedIn
 returns c =
-    let a = c .before .before .before .before .args in
-    c .judge .ensures ∙ ap (λ (b : Bool). judgedBy (a .v .fine) b (a .v .own .address) (a .h) (a .frame .now)) (c .before .is-unproven .ensures)
+    let a = c .before .before .before .before .before .args in
+    c .judge .ensures ∙ ap (λ (b : Bool). judgedBy (a .v .fine) b (a .v .own .address) (a .h) (a .frame .now)) (c .before .unproven-at .ensures)
 
 pub arrived-spec : {M : Type 1} → statement M
 arrived-spec =

@@ -23,7 +23,7 @@ returns-4 c = rw (sym (c .before .before .before .form-of .ensures) ∙ c .befor
 
 returns-5 : tie.Need-returns-5
 unfolding decisionOf
-returns-5 c = rw (sym (c .before .before .before .form-of .ensures) ∙ c .before .enum-told5 .given .1) (c .take .ensures)
+returns-5 c = rw (sym (c .before .before .before .form-of .ensures) ∙ c .before .enum-told5 .given .1) (c .answer-only2 .ensures)
 
 pub decide-spec : {M : Type 1} → statement M
 decide-spec =

@@ -8,8 +8,8 @@ use borrow.Author.Needs.{needs}
 use Rattle.formed.proofs.login.used_fine.Statement.{statement}
 use Rattle.formed.proofs.login.used_fine.Tie as tie
 
-exchange-keys-requires : tie.Need-exchange-keys-requires
-exchange-keys-requires c κs =
+exchange-numbers-requires : tie.Need-exchange-numbers-requires
+exchange-numbers-requires c κs =
     let h = stored-size (c .before .before .before .before .before .before .before .before .args .l) (sym (c .before .params-fine .ensures) ∙ c .if3 .taken) in
     (omega (arith, h, c .before .before .before .before .before .before .full-frame .ensures), omega (arith, c .before .before .before .before .before .before .full-frame .ensures))
 
@@ -18,7 +18,7 @@ unfolding usedFine
 returns c =
     let t = c .before .before .before .before .before .before .before .before in
     rw (sym (c .before .before .before .before .before .before .before .flags-fine .ensures) ∙ c .before .before .before .before .before .before .if1 .taken, sym (c .before .before .before .before .before .address-fine .ensures) ∙ c .before .before .before .before .if2 .taken, sym (c .before .before .before .params-fine .ensures) ∙ c .before .before .if3 .taken)
-    (exchanges-are _ _ (t .before .before .args .l) (t .full-frame .ensures) (c .before .exchange-keys .ensures) (c .keys-fine .ensures))
+    (exchanges-are _ _ (t .before .before .args .l) (t .full-frame .ensures) (c .before .exchange-numbers .ensures) (c .numbers-fine .ensures))
 
 returns-2 : tie.Need-returns-2
 unfolding usedFine
@@ -40,7 +40,7 @@ used-fine-spec =
     (λ c κs. search needs)
     (λ c κs. search needs)
     (λ c κs. search needs)
-    exchange-keys-requires
+    exchange-numbers-requires
     (λ c κs. search needs)
     returns
     returns-2
