@@ -7,34 +7,34 @@ use native.Mathlib.Omega.{arith}
 use lib.Dec.{eqb}
 use lib.ListN.{length, get_or}
 use borrow.Author.Tests.{ne_eqb}
-use Rattle.tables.specs.Lists.{countBelow}
-use Rattle.tables.proofs.Below.{agree, count-from}
-use Rattle.address.specs.Address.{loopAddresses, validAddress}
+use Rattle.tables.specs.Lists.{count_below}
+use Rattle.tables.proofs.Below.{agree, count_from}
+use Rattle.address.specs.Address.{loop_addresses, valid_address}
 
 -- the bit of the map that stands for n
 abbrev pub bit : ℕ → Bool
 bit n = eqb (get_or (0x167e7ee8e9818116 ∷ 0x167e7ee8167e7ee8 ∷ 0x167e7ee8e9818117 ∷ 0x00008117167e7ee8 ∷ []) (n / 64) 0 / 2 ^ (n % 64) % 2) 1
 
 -- the map is right at each byte: one test of all 256
-pub map-right : (n : ℕ) → n < 256 → bit n ≡ validAddress n
-unfolding validAddress
-map-right = agree bit validAddress 256 refl
+pub map_right : (n : ℕ) → n < 256 → bit n ≡ valid_address n
+unfolding valid_address
+map_right = agree bit valid_address 256 refl
 
 -- no number of more than a byte is an address
-pub none_above : (n : ℕ) → 256 ≤ n → validAddress n ≡ false
-unfolding validAddress
+pub none_above : (n : ℕ) → 256 ≤ n → valid_address n ≡ false
+unfolding valid_address
 none_above n h = let e : n / 256 ≡ 0 → ⊥ = λ z. omega arith in rw (ne_eqb (n / 256) 0 e)
 
-at-256 : countBelow validAddress 256 ≡ 126
-unfolding validAddress
-at-256 = refl
+at_256 : count_below valid_address 256 ≡ 126
+unfolding valid_address
+at_256 = refl
 
 -- below every bound from 256 on there are exactly 126 valid addresses
-pub exactly-126 : (m : ℕ) → 256 ≤ m → countBelow validAddress m ≡ 126
-exactly-126 m h =
+pub exactly_126 : (m : ℕ) → 256 ≤ m → count_below valid_address m ≡ 126
+exactly_126 m h =
     let e : m ≡ 256 + (m - 256) = omega arith in
-    ap (countBelow validAddress) e ∙ count-from validAddress 256 none_above (m - 256) ∙ at-256
+    ap (count_below valid_address) e ∙ count_from valid_address 256 none_above (m - 256) ∙ at_256
 
 -- the list has 127 addresses, 00h among them
-pub listed : length loopAddresses ≡ 127
+pub listed : length loop_addresses ≡ 127
 listed = refl

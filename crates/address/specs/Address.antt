@@ -7,8 +7,8 @@ among n [] = false
 among n (x ∷ xs) = eqb x n || among n xs
 
 -- FC-AL's 127 loop addresses, a line for each upper digit
-abbrev pub loopAddresses : List ℕ
-loopAddresses =
+abbrev pub loop_addresses : List ℕ
+loop_addresses =
     0x00 ∷ 0x01 ∷ 0x02 ∷ 0x04 ∷ 0x08 ∷ 0x0f ∷
     0x10 ∷ 0x17 ∷ 0x18 ∷ 0x1b ∷ 0x1d ∷ 0x1e ∷ 0x1f ∷
     0x23 ∷ 0x25 ∷ 0x26 ∷ 0x27 ∷ 0x29 ∷ 0x2a ∷ 0x2b ∷ 0x2c ∷ 0x2d ∷ 0x2e ∷
@@ -27,5 +27,5 @@ loopAddresses =
     []
 
 -- "A valid address has upper bytes 0000h and a low byte among FC-AL's 127 loop addresses, 00h excepted."
-unfoldable pub validAddress : ℕ → Bool
-validAddress n = eqb (n / 256) 0 && among (n % 256) loopAddresses && not (eqb (n % 256) 0)
+unfoldable pub valid_address : ℕ → Bool
+valid_address n = eqb (n / 256) 0 && among (n % 256) loop_addresses && not (eqb (n % 256) 0)

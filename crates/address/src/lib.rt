@@ -1,6 +1,6 @@
 // The address test of the loop.
 ghost use Rattle.std.specs.Prelude.{◌≡◌};
-ghost use Rattle.address.specs.Address.{validAddress};
+ghost use Rattle.address.specs.Address.{valid_address};
 
 // The loop addresses without 00h as a map of bits: bit k of word j stands for 64 j + k.
 const MAP: [u64; 4] = [
@@ -12,7 +12,7 @@ const MAP: [u64; 4] = [
 
 // Whether the number is a valid address: upper bytes 0000h and a low byte that the map has.
 pub fn valid_address(n: u32) -> bool
-    ensures { result ≡ validAddress n }
+    ensures { result ≡ valid_address n }
 {
     if 256 <= n {
         return false;

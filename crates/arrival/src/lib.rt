@@ -1,6 +1,6 @@
 // What arrived: a frame in is refused by the first of the numbers 2 to 7 that fits it, or it is of one of five forms.
 ghost use Rattle.std.specs.Prelude.{◌≡◌, ◌&&◌, not};
-ghost use Rattle.arrival.specs.Arrival.{badSize, badSource, knownPair, badSequence, unknownForm, spared, form_of, judgedBy};
+ghost use Rattle.arrival.specs.Arrival.{bad_size, bad_source, known_pair, bad_sequence, unknown_form, spared, form_of, judged_by};
 
 use address::valid_address;
 use frame::Header;
@@ -26,7 +26,7 @@ pub enum Judged {
 // The frame with header h to a drive of this address: refusals 2 to 7 in order, or its form.
 // Whether the state is well formed and whether the sender's login is unproven is the caller's to tell, and refusal 1 was told before.
 pub fn judge(fine: bool, unproven: bool, own: u32, h: Header, frame: &[u8]) -> Judged
-    ensures { result ≡ judgedBy fine unproven own h frame.now }
+    ensures { result ≡ judged_by fine unproven own h frame.now }
 {
     if !fine {
         return Judged::Refused(Refusal::IllFormed);
@@ -51,7 +51,7 @@ pub fn judge(fine: bool, unproven: bool, own: u32, h: Header, frame: &[u8]) -> J
 
 // Not 24 to 2,136 bytes, or not a multiple of 4.
 fn bad_size(size: usize) -> bool
-    ensures { result ≡ badSize size }
+    ensures { result ≡ bad_size size }
 {
     if size < Header::LEAST_FRAME {
         return true;
@@ -64,7 +64,7 @@ fn bad_size(size: usize) -> bool
 
 // Not a valid address, or ours.
 fn bad_source(own: u32, from: u32) -> bool
-    ensures { result ≡ badSource own from }
+    ensures { result ≡ bad_source own from }
 {
     if valid_address(from) {
         from == own
@@ -75,7 +75,7 @@ fn bad_source(own: u32, from: u32) -> bool
 
 // R_CTL and TYPE of a frame that is taken.
 fn known_pair(r_ctl: u8, protocol: u8) -> bool
-    ensures { result ≡ knownPair r_ctl protocol }
+    ensures { result ≡ known_pair r_ctl protocol }
 {
     match r_ctl {
         0x22 => protocol == 0x01,
@@ -89,7 +89,7 @@ fn known_pair(r_ctl: u8, protocol: u8) -> bool
 
 // Another pair; DF_CTL not 0; SEQ_CNT or fill that do not fit the form; a 22h frame without payload.
 fn unknown_form(h: Header, size: usize) -> bool
-    ensures { result ≡ unknownForm h size }
+    ensures { result ≡ unknown_form h size }
 {
     if known_pair(h.r_ctl, h.protocol) {
         if h.df_ctl != 0 {
@@ -106,7 +106,7 @@ fn unknown_form(h: Header, size: usize) -> bool
 
 // SEQ_CNT or the fill count in the low two bits of F_CTL not 0; of a data frame more fill than payload.
 fn bad_sequence(h: Header, size: usize) -> bool
-    ensures { result ≡ badSequence h size }
+    ensures { result ≡ bad_sequence h size }
 {
     let fill = (h.f_ctl % 4) as usize;
     if h.r_ctl == 0x01 {

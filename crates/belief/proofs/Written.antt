@@ -4,140 +4,140 @@ use mathlib.Core.Path.{◌≡◌, refl, ap, ◌∙◌}
 use mathlib.Core.Bool.{true}
 use mathlib.Core.List.{[]}
 use Rattle.wire.specs.Bytes.{name_of, onto}
-use Rattle.frame.specs.Head.{headerOf, headerBytes}
-use Rattle.address.specs.Address.{validAddress}
-use Rattle.params.specs.Words.{params_of, sizeFails, zeroName, verdictOf, setupPasses}
+use Rattle.frame.specs.Head.{header_of, header_bytes}
+use Rattle.address.specs.Address.{valid_address}
+use Rattle.params.specs.Words.{params_of, size_fails, zero_name, verdict_of, setup_passes}
 use Rattle.state.specs.declared.Exchange.{Exchange}
-use Rattle.state.specs.Kinds.{kindBlocks, fromHost}
-use Rattle.state.specs.Changes.{emptyExchange, emptyLogin, own_of, loginAt, exchangeAt, withLogin, withExchange, hasAddress, hasName, ended_of, hostEnded, changedAll}
-use Rattle.state.specs.Tables.{hasId, findLogin, freeLogin, findExchange, freeExchange, loginOf, lookupOf}
-use Rattle.formed.specs.Formed.{setupRules, setupOf, blocksFit, wantedFits, directionFits, takenFits, movedFits, exchangeFine, apartId, paramsFine, flagsFine, addressFine, usedFine, loginFine, apartLogin, wellFormed}
-use Rattle.reply.specs.Payload.{shortBytes, loginBytes, pairBytes, statusBytes, codeBytes, senseBytes, readyBytes}
-use Rattle.reply.specs.Reply.{answerHead, filled, bytes_of}
-use Rattle.residual.specs.Residual.{residualOf}
-use Rattle.link.specs.Link.{size_of, newLogin, outcomeOf, plogiOf, pageFine, pairFine, prliOf, serviceOf, link_of}
-use Rattle.link.specs.Record.{recordOf}
-use Rattle.command.specs.Cmnd.{cmndOf, malformed, taskFor, task_of}
-use Rattle.command.specs.Cdb.{range10, decodedOf}
-use Rattle.command.specs.Tests.{otherUnit, attends, protected, beyond, testedBy, asked_of}
-use Rattle.command.specs.Command.{refusedWith, toldOf, bitFor, opened_of, executeOf, commandedAt, commandOf}
-use Rattle.cover.specs.Cover.{coverOf, lentPlace}
-use Rattle.serve.specs.Next.{hasMore, readsMore, place_of, readyReply, nextReply, nextExchange, source_of, windowPlace, askedBy, openStep, step_of, frameBytes, movedOn, next_of, nextBuffer}
-use Rattle.taking.specs.Taking.{burstEnd, faultOf, findWrite, coveredStep, step_of as dataStep, servedData, dataDecided}
-use Rattle.arrival.specs.Arrival.{badSize, badSource, knownPair, badSequence, unknownForm, spared, unprovenLogin, form_of}
-use Rattle.drive.specs.Drive.{madeFrom}
-use Rattle.drive.specs.Entry.{replyBytes, frameIn, frameInBuffer, nextFrame, nextFrameBuffer}
+use Rattle.state.specs.Kinds.{kind_blocks, from_host}
+use Rattle.state.specs.Changes.{empty_exchange, empty_login, own_of, login_at, exchange_at, with_login, with_exchange, has_address, has_name, ended_of, host_ended, changed_all}
+use Rattle.state.specs.Tables.{has_id, find_login, free_login, find_exchange, free_exchange, login_of, lookup_of}
+use Rattle.formed.specs.Formed.{setup_rules, setup_of, blocks_fit, wanted_fits, direction_fits, taken_fits, moved_fits, exchange_fine, apart_id, params_fine, flags_fine, address_fine, used_fine, login_fine, apart_login, well_formed}
+use Rattle.reply.specs.Payload.{short_bytes, login_bytes, pair_bytes, status_bytes, code_bytes, sense_bytes, ready_bytes}
+use Rattle.reply.specs.Reply.{answer_head, filled, bytes_of}
+use Rattle.residual.specs.Residual.{residual_of}
+use Rattle.link.specs.Link.{size_of, new_login, outcome_of, plogi_of, page_fine, pair_fine, prli_of, service_of, link_of}
+use Rattle.link.specs.Record.{record_of}
+use Rattle.command.specs.Cmnd.{cmnd_of, malformed, task_for, task_of}
+use Rattle.command.specs.Cdb.{range10, decoded_of}
+use Rattle.command.specs.Tests.{other_unit, attends, protected, beyond, tested_by, asked_of}
+use Rattle.command.specs.Command.{refused_with, told_of, bit_for, opened_of, execute_of, commanded_at, command_of}
+use Rattle.cover.specs.Cover.{cover_of, lent_place}
+use Rattle.serve.specs.Next.{has_more, reads_more, place_of, ready_reply, next_reply, next_exchange, source_of, window_place, asked_by, open_step, step_of, frame_bytes, moved_on, next_of, next_buffer}
+use Rattle.taking.specs.Taking.{burst_end, fault_of, find_write, covered_step, step_of as data_step, served_data, data_decided}
+use Rattle.arrival.specs.Arrival.{bad_size, bad_source, known_pair, bad_sequence, unknown_form, spared, unproven_login, form_of}
+use Rattle.drive.specs.Drive.{made_from}
+use Rattle.drive.specs.Entry.{reply_bytes, frame_in, frame_in_buffer, next_frame, next_frame_buffer}
 use Rattle.belief.specs.Host.{Answer, none, other, unsure, sure}
 use Rattle.belief.specs.Demand3.{Event, lost, heard, send, next, gets, start}
-use Rattle.belief.specs.Wire.{theDrive}
-use Rattle.belief.specs.Frames.{hostName, logs-in, pairs, asks, writes, gives, itsWord}
+use Rattle.belief.specs.Wire.{the_drive}
+use Rattle.belief.specs.Frames.{host_name, logs_in, pairs, asks, writes, gives, its_word}
 use Rattle.belief.specs.Marked.{Day}
-use Rattle.belief.specs.Written.{writable, pairing, opened, asked, waited, given, answered, faulted, hearsAt, Right, Written}
-use Rattle.belief.proofs.Keep.{paired-gives}
-use Rattle.belief.proofs.Moments.{Moment, seat, moment, in_held, paired-held, By, more, Reach, at-end}
+use Rattle.belief.specs.Written.{writable, pairing, opened, asked, waited, given, answered, faulted, hears_at, Right, Written}
+use Rattle.belief.proofs.Keep.{paired_gives}
+use Rattle.belief.proofs.Moments.{Moment, seat, moment, in_held, paired_held, By, more, Reach, at_end}
 
 -- the WRITE after so many bytes, its data awaited or not
 abbrev writing : (sent awaited : ℕ) → Exchange
-writing sent awaited = record { start = 0; blocks = 1; wanted = 512; expected = 512; sent = sent; ox_id = 0x0005; count = 0; kind = kindBlocks; direction = fromHost; awaited = awaited }
+writing sent awaited = record { start = 0; blocks = 1; wanted = 512; expected = 512; sent = sent; ox_id = 0x0005; count = 0; kind = kind_blocks; direction = from_host; awaited = awaited }
 
 abbrev w₀ : Moment
-w₀ = moment 1 unsure emptyLogin emptyLogin
+w₀ = moment 1 unsure empty_login empty_login
 
 abbrev w₁ : Moment
-w₁ = moment 1 (sure in_held) (seat 1 1 0 0x29 emptyExchange) emptyLogin
+w₁ = moment 1 (sure in_held) (seat 1 1 0 0x29 empty_exchange) empty_login
 
 abbrev w₂ : Moment
-w₂ = moment 1 (sure paired-held) (seat 1 1 1 0x29 emptyExchange) emptyLogin
+w₂ = moment 1 (sure paired_held) (seat 1 1 1 0x29 empty_exchange) empty_login
 
 -- the host is paired, and its first exchange is this
 abbrev with : Exchange → Moment
-with e = moment 1 (sure paired-held) (seat 1 1 1 0 e) emptyLogin
+with e = moment 1 (sure paired_held) (seat 1 1 1 0 e) empty_login
 
 -- by an event, of which the host gets this
-record Hears (v : Moment) (e : Event (theDrive 0x01 hostName)) (a : Answer) (u : Moment) : Type 0 where
+record Hears (v : Moment) (e : Event (the_drive 0x01 host_name)) (a : Answer) (u : Moment) : Type 0 where
   by : By v e u
-  got : gets (theDrive 0x01 hostName) v e ≡ a
+  got : gets (the_drive 0x01 host_name) v e ≡ a
 
 -- what is computed: the events, each from the moment before it
 record Steps : Type 0 where
-  begins : start (theDrive 0x01 hostName) writable ≡ w₀
-  logs : By w₀ (send logs-in heard) w₁
+  begins : start (the_drive 0x01 host_name) writable ≡ w₀
+  logs : By w₀ (send logs_in heard) w₁
   pair : By w₁ (send pairs heard) w₂
-  attends : By w₂ (send asks heard) (with emptyExchange)
-  open-silent : Hears (with emptyExchange) (send writes heard) none (with (writing 0 0))
-  asks-data : Hears (with (writing 0 0)) (next itsWord true) other (with (writing 0 1))
-  awaits : Hears (with (writing 0 1)) (next itsWord true) none (with (writing 0 1))
+  attends : By w₂ (send asks heard) (with empty_exchange)
+  open_silent : Hears (with empty_exchange) (send writes heard) none (with (writing 0 0))
+  asks_data : Hears (with (writing 0 0)) (next its_word true) other (with (writing 0 1))
+  awaits : Hears (with (writing 0 1)) (next its_word true) none (with (writing 0 1))
   loses : By (with (writing 0 1)) (send gives lost) (with (writing 0 1))
   takes : Hears (with (writing 0 1)) (send gives heard) none (with (writing 512 0))
-  responds : Hears (with (writing 512 0)) (next itsWord true) other (with emptyExchange)
-  faults : Hears (with (writing 512 0)) (send gives heard) other (with emptyExchange)
-  record-stays : (e : Exchange) → recordOf (with e).drive.port 0x01 ≡ paired-held
+  responds : Hears (with (writing 512 0)) (next its_word true) other (with empty_exchange)
+  faults : Hears (with (writing 512 0)) (send gives heard) other (with empty_exchange)
+  record_stays : (e : Exchange) → record_of (with e).drive.port 0x01 ≡ paired_held
 
 steps : Steps
-unfolding frameIn frameInBuffer replyBytes headerOf headerBytes badSize badSource knownPair badSequence unknownForm spared unprovenLogin form_of validAddress madeFrom wellFormed setupRules setupOf setupPasses params_of sizeFails zeroName verdictOf loginFine usedFine flagsFine addressFine paramsFine exchangeFine apartId apartLogin wantedFits blocksFit directionFits takenFits movedFits findLogin freeLogin findExchange freeExchange loginOf hasAddress hasId loginAt exchangeAt withLogin withExchange ended_of hostEnded hasName name_of changedAll bytes_of filled onto answerHead shortBytes loginBytes pairBytes statusBytes codeBytes senseBytes readyBytes residualOf link_of size_of plogiOf outcomeOf newLogin serviceOf prliOf pairFine pageFine cmndOf malformed taskFor task_of otherUnit attends range10 decodedOf protected beyond testedBy asked_of refusedWith toldOf bitFor opened_of executeOf commandedAt commandOf nextFrame nextFrameBuffer lookupOf hasMore readsMore coverOf lentPlace place_of readyReply nextReply nextExchange source_of windowPlace own_of askedBy openStep step_of frameBytes movedOn next_of nextBuffer burstEnd faultOf findWrite coveredStep dataStep servedData dataDecided recordOf logs-in pairs asks writes gives
+unfolding frame_in frame_in_buffer reply_bytes header_of header_bytes bad_size bad_source known_pair bad_sequence unknown_form spared unproven_login form_of valid_address made_from well_formed setup_rules setup_of setup_passes params_of size_fails zero_name verdict_of login_fine used_fine flags_fine address_fine params_fine exchange_fine apart_id apart_login wanted_fits blocks_fit direction_fits taken_fits moved_fits find_login free_login find_exchange free_exchange login_of has_address has_id login_at exchange_at with_login with_exchange ended_of host_ended has_name name_of changed_all bytes_of filled onto answer_head short_bytes login_bytes pair_bytes status_bytes code_bytes sense_bytes ready_bytes residual_of link_of size_of plogi_of outcome_of new_login service_of prli_of pair_fine page_fine cmnd_of malformed task_for task_of other_unit attends range10 decoded_of protected beyond tested_by asked_of refused_with told_of bit_for opened_of execute_of commanded_at command_of next_frame next_frame_buffer lookup_of has_more reads_more cover_of lent_place place_of ready_reply next_reply next_exchange source_of window_place own_of asked_by open_step step_of frame_bytes moved_on next_of next_buffer burst_end fault_of find_write covered_step data_step served_data data_decided record_of logs_in pairs asks writes gives
 steps =
     record {
       begins = refl;
       logs = record { follows = tt; goes = refl };
       pair = record { follows = tt; goes = refl };
       attends = record { follows = tt; goes = refl };
-      open-silent = record { by = record { follows = tt; goes = refl }; got = refl };
-      asks-data = record { by = record { follows = tt; goes = refl }; got = refl };
+      open_silent = record { by = record { follows = tt; goes = refl }; got = refl };
+      asks_data = record { by = record { follows = tt; goes = refl }; got = refl };
       awaits = record { by = record { follows = tt; goes = refl }; got = refl };
       loses = record { follows = tt; goes = refl };
       takes = record { by = record { follows = tt; goes = refl }; got = refl };
       responds = record { by = record { follows = tt; goes = refl }; got = refl };
       faults = record { by = record { follows = tt; goes = refl }; got = refl };
-      record-stays = λ e. refl;
+      record_stays = λ e. refl;
     }
 
 begun : Reach writable [] w₀
 begun = record { keeps = tt; ends = steps.begins }
 
-to-pairing : Reach writable pairing (with emptyExchange)
-to-pairing = more (more (more begun steps.logs) steps.pair) steps.attends
+to_pairing : Reach writable pairing (with empty_exchange)
+to_pairing = more (more (more begun steps.logs) steps.pair) steps.attends
 
-to-opened : Reach writable opened (with (writing 0 0))
-to-opened = more to-pairing steps.open-silent.by
+to_opened : Reach writable opened (with (writing 0 0))
+to_opened = more to_pairing steps.open_silent.by
 
-to-asked : Reach writable asked (with (writing 0 1))
-to-asked = more to-opened steps.asks-data.by
+to_asked : Reach writable asked (with (writing 0 1))
+to_asked = more to_opened steps.asks_data.by
 
-to-waited : Reach writable waited (with (writing 0 1))
-to-waited = more (more to-asked steps.awaits.by) steps.loses
+to_waited : Reach writable waited (with (writing 0 1))
+to_waited = more (more to_asked steps.awaits.by) steps.loses
 
-to-given : Reach writable given (with (writing 512 0))
-to-given = more to-waited steps.takes.by
+to_given : Reach writable given (with (writing 512 0))
+to_given = more to_waited steps.takes.by
 
-to-answered : Reach writable answered (with emptyExchange)
-to-answered = more to-given steps.responds.by
+to_answered : Reach writable answered (with empty_exchange)
+to_answered = more to_given steps.responds.by
 
-to-faulted : Reach writable faulted (with emptyExchange)
-to-faulted = more to-given steps.faults.by
+to_faulted : Reach writable faulted (with empty_exchange)
+to_faulted = more to_given steps.faults.by
 
 -- what the host gets at the end of a history is what it gets at the moment to which that leads
-heard-at : {h : Day} {v u : Moment} {e : Event (theDrive 0x01 hostName)} {a : Answer} → Reach writable h v → Hears v e a u → hearsAt h e ≡ a
-heard-at {h} {v} {u} {e} l t = ap (λ (x : Moment). gets (theDrive 0x01 hostName) x e) l.ends ∙ t.got
+heard_at : {h : Day} {v u : Moment} {e : Event (the_drive 0x01 host_name)} {a : Answer} → Reach writable h v → Hears v e a u → hears_at h e ≡ a
+heard_at {h} {v} {u} {e} l t = ap (λ (x : Moment). gets (the_drive 0x01 host_name) x e) l.ends ∙ t.got
 
-right-at : {h : Day} (e : Exchange) → Reach writable h (with e) → Right h
-right-at e l = at-end l paired-held (steps.record-stays e)
+right_at : {h : Day} (e : Exchange) → Reach writable h (with e) → Right h
+right_at e l = at_end l paired_held (steps.record_stays e)
 
 pub written : Written
 written =
     record {
-      paired-gives = paired-gives;
-      keeps = to-answered.keeps;
-      keeps-too = to-faulted.keeps;
-      write-silent = heard-at to-pairing steps.open-silent;
-      at-opened = right-at (writing 0 0) to-opened;
-      ready-comes = heard-at to-opened steps.asks-data;
-      at-asked = right-at (writing 0 1) to-asked;
-      none-awaited = heard-at to-asked steps.awaits;
-      at-waited = right-at (writing 0 1) to-waited;
-      data-silent = heard-at to-waited steps.takes;
-      at-given = right-at (writing 512 0) to-given;
-      response-comes = heard-at to-given steps.responds;
-      at-answered = right-at emptyExchange to-answered;
-      fault-comes = heard-at to-given steps.faults;
-      at-faulted = right-at emptyExchange to-faulted;
+      paired_gives = paired_gives;
+      keeps = to_answered.keeps;
+      keeps_too = to_faulted.keeps;
+      write_silent = heard_at to_pairing steps.open_silent;
+      at_opened = right_at (writing 0 0) to_opened;
+      ready_comes = heard_at to_opened steps.asks_data;
+      at_asked = right_at (writing 0 1) to_asked;
+      none_awaited = heard_at to_asked steps.awaits;
+      at_waited = right_at (writing 0 1) to_waited;
+      data_silent = heard_at to_waited steps.takes;
+      at_given = right_at (writing 512 0) to_given;
+      response_comes = heard_at to_given steps.responds;
+      at_answered = right_at empty_exchange to_answered;
+      fault_comes = heard_at to_given steps.faults;
+      at_faulted = right_at empty_exchange to_faulted;
     }

@@ -84,7 +84,7 @@ abbrev pub Free : (D : Side) → World D → List (Event D) → Type 0
 Free D w [] = Unit {0}
 Free D w (e ∷ h) = (loss D w e ≡ false) × Free D (step D w e) h
 
--- no event that may be one: the drive neither "powers on" nor "its verification time runs out"; such a history is free (`free-without-lapse`)
+-- no event that may be one: the drive neither "powers on" nor "its verification time runs out"; such a history is free (`free_without_lapse`)
 abbrev pub NoLapse : (D : Side) → List (Event D) → Type 0
 NoLapse D [] = Unit {0}
 NoLapse D (send f x ∷ h) = NoLapse D h
@@ -121,8 +121,8 @@ gets D w (lapse x) = none
 gets D w forget = none
 
 -- "once a frame from the drive reaches it"
-abbrev pub reachesHost : (D : Side) → World D → Event D → Bool
-reachesHost D w e = some (gets D w e)
+abbrev pub reaches_host : (D : Side) → World D → Event D → Bool
+reaches_host D w e = some (gets D w e)
 
 -- unsure at first, with any well-formed drive
 abbrev pub start : (D : Side) → D.State → World D
@@ -137,14 +137,14 @@ pub record History (D : Side) (s : D.State) (h₁ : List (Event D)) (e : Event D
 
 pub record Demand3 (D : Side) : Type 0 where
   -- from the moment that the host becomes sure (by e) until a loss of memory
-  pub sure-until : (s : D.State) (h₁ : List (Event D)) (e : Event D) (h₂ : List (Event D)) (x : Record) → History D s h₁ e h₂ →
+  pub sure_until : (s : D.State) (h₁ : List (Event D)) (e : Event D) (h₂ : List (Event D)) (x : Record) → History D s h₁ e h₂ →
       (run D (start D s) h₁).belief ≡ unsure → (step D (run D (start D s) h₁) e).belief ≡ sure x →
       Free D (step D (run D (start D s) h₁) e) h₂ → Fine D (run D (step D (run D (start D s) h₁) e) h₂)
   -- after any losses of memory, from the moment that a frame from the drive reaches the host (by e) until the next
-  pub right-again : (s : D.State) (h₁ : List (Event D)) (e : Event D) (h₂ : List (Event D)) → History D s h₁ e h₂ →
-      reachesHost D (run D (start D s) h₁) e ≡ true →
+  pub right_again : (s : D.State) (h₁ : List (Event D)) (e : Event D) (h₂ : List (Event D)) → History D s h₁ e h₂ →
+      reaches_host D (run D (start D s) h₁) e ≡ true →
       Free D (step D (run D (start D s) h₁) e) h₂ → Fine D (run D (step D (run D (start D s) h₁) e) h₂)
   -- an answered PLOGI or LOGO: sure, and right
-  pub ends-doubt : (s : D.State) (h₁ : List (Event D)) (f : D.Sent) → History D s h₁ (send f heard) [] →
-      MayOut (D.asks f) → reachesHost D (run D (start D s) h₁) (send f heard) ≡ true →
+  pub ends_doubt : (s : D.State) (h₁ : List (Event D)) (f : D.Sent) → History D s h₁ (send f heard) [] →
+      MayOut (D.asks f) → reaches_host D (run D (start D s) h₁) (send f heard) ≡ true →
       (step D (run D (start D s) h₁) (send f heard)).belief ≡ sure (D.login (step D (run D (start D s) h₁) (send f heard)).drive)

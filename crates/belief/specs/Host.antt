@@ -13,7 +13,7 @@ pub data Belief : Type 0 where
 pub data Request : Type 0 where
   plogi pdisc : Kept → Request
   logo adisc prli prlo rrq : Request
-  command abts fcp-data : Request
+  command abts fcp_data : Request
 
 -- What can come back. `none`: nothing comes back, since the drive refused the frame or took it in silence.
 -- `dlogo`: a LOGO by the drive. `other`: BA_ACC, BA_RJT, FCP_DATA, FCP_XFER_RDY, FCP_RSP.
@@ -40,7 +40,7 @@ MayOut prlo = ⊥
 MayOut rrq = ⊥
 MayOut command = ⊥
 MayOut abts = ⊥
-MayOut fcp-data = ⊥
+MayOut fcp_data = ⊥
 
 -- "To verify: only PLOGI, LOGO, PDISC, ADISC"; "PDISC repeats the login's parameters"
 abbrev pub MayVerify : Kept → Request → Type 0
@@ -53,7 +53,7 @@ MayVerify l prlo = ⊥
 MayVerify l rrq = ⊥
 MayVerify l command = ⊥
 MayVerify l abts = ⊥
-MayVerify l fcp-data = ⊥
+MayVerify l fcp_data = ⊥
 
 -- "in adds PRLI, PDISC, ADISC"
 abbrev pub MayIn : Kept → Request → Type 0
@@ -66,7 +66,7 @@ MayIn l prlo = ⊥
 MayIn l rrq = ⊥
 MayIn l command = ⊥
 MayIn l abts = ⊥
-MayIn l fcp-data = ⊥
+MayIn l fcp_data = ⊥
 
 -- "paired adds PRLO, commands, ABTS, RRQ but not PRLI"; "The host's rules let paired send data frames" (02, 2)
 abbrev pub MayPaired : Kept → Request → Type 0
@@ -79,7 +79,7 @@ MayPaired l prlo = Unit {0}
 MayPaired l rrq = Unit {0}
 MayPaired l command = Unit {0}
 MayPaired l abts = Unit {0}
-MayPaired l fcp-data = Unit {0}
+MayPaired l fcp_data = Unit {0}
 
 -- what the host may send, by its belief
 abbrev pub May : Belief → Request → Type 0
@@ -91,32 +91,32 @@ May (sure (held true true l)) q = MayPaired l q
 
 -- a host that is sure of a pairing, with nothing to verify
 pub data SurePaired : Belief → Type 0 where
-  sure-paired : (l : Kept) → SurePaired (sure (held true true l))
+  sure_paired : (l : Kept) → SurePaired (sure (held true true l))
 
 -- What the host believes after an answer, by the kind of its request. `none` is also what a lost request or answer is to it.
 -- "PLOGI ACC: in; LS_RJT: out"
-abbrev pub afterPlogi : Kept → Answer → Belief → Belief
-afterPlogi l none b = unsure
-afterPlogi l acc b = sure (held false true l)
-afterPlogi l rjt b = sure out
-afterPlogi l dlogo b = sure out
-afterPlogi l other b = b
+abbrev pub after_plogi : Kept → Answer → Belief → Belief
+after_plogi l none b = unsure
+after_plogi l acc b = sure (held false true l)
+after_plogi l rjt b = sure out
+after_plogi l dlogo b = sure out
+after_plogi l other b = b
 
 -- "LOGO answered, or received: out"
-abbrev pub afterLogo : Answer → Belief → Belief
-afterLogo none b = unsure
-afterLogo acc b = sure out
-afterLogo rjt b = sure out
-afterLogo dlogo b = sure out
-afterLogo other b = b
+abbrev pub after_logo : Answer → Belief → Belief
+after_logo none b = unsure
+after_logo acc b = sure out
+after_logo rjt b = sure out
+after_logo dlogo b = sure out
+after_logo other b = b
 
 -- "PRLI, PRLO, PDISC, ADISC ACC as named; other frames .. change nothing"; "a lost request or answer means unsure"
-abbrev pub afterLink : (Record → Record) → Answer → Belief → Belief
-afterLink f none b = unsure
-afterLink f acc b = think f b
-afterLink f rjt b = b
-afterLink f dlogo b = sure out
-afterLink f other b = b
+abbrev pub after_link : (Record → Record) → Answer → Belief → Belief
+after_link f none b = unsure
+after_link f acc b = think f b
+after_link f rjt b = b
+after_link f dlogo b = sure out
+after_link f other b = b
 
 -- A frame that answers no link request: "LOGO .. received: out"; "other frames .. change nothing". After a command, ABTS or a data frame silence says nothing.
 -- (That a host may also grow unsure at any time is the event `forget`.)
@@ -129,13 +129,13 @@ received other b = b
 
 -- by the kind of the request
 abbrev pub hears : Request → Answer → Belief → Belief
-hears (plogi l) a b = afterPlogi l a b
-hears logo a b = afterLogo a b
-hears (pdisc l) a b = afterLink proved a b
-hears adisc a b = afterLink proved a b
-hears prli a b = afterLink paired a b
-hears prlo a b = afterLink unpaired a b
-hears rrq a b = afterLink same a b
+hears (plogi l) a b = after_plogi l a b
+hears logo a b = after_logo a b
+hears (pdisc l) a b = after_link proved a b
+hears adisc a b = after_link proved a b
+hears prli a b = after_link paired a b
+hears prlo a b = after_link unpaired a b
+hears rrq a b = after_link same a b
 hears command a b = received a b
 hears abts a b = received a b
-hears fcp-data a b = received a b
+hears fcp_data a b = received a b

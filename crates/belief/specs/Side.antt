@@ -3,7 +3,7 @@
 -- Assumes nothing.
 use Rattle.std.specs.Prelude.{◌≡◌, Bool, true, false, cond, ◌⊎◌}
 use Rattle.link.specs.Record.{Kept, Record, out, held, proved, paired, unpaired, doubted}
-use Rattle.belief.specs.Host.{Request, plogi, pdisc, logo, adisc, prli, prlo, rrq, command, abts, fcp-data, Answer, none, acc, rjt, dlogo, other, same}
+use Rattle.belief.specs.Host.{Request, plogi, pdisc, logo, adisc, prli, prlo, rrq, command, abts, fcp_data, Answer, none, acc, rjt, dlogo, other, same}
 
 pub record Side : Type 1 where
   pub State : Type 0
@@ -53,7 +53,7 @@ OwnIn Own prlo = Unit {0}
 OwnIn Own rrq = Unit {0}
 OwnIn Own command = Unit {0}
 OwnIn Own abts = Unit {0}
-OwnIn Own fcp-data = Unit {0}
+OwnIn Own fcp_data = Unit {0}
 
 abbrev pub Held : Record → Type 0
 Held out = ⊥
@@ -103,7 +103,7 @@ Meets r prlo a r' = OnLink unpaired r a r'
 Meets r rrq a r' = OnLink same r a r'
 Meets r command a r' = OnCommand r a r'
 Meets r abts a r' = OnCommand r a r'
-Meets r fcp-data a r' = OnCommand r a r'
+Meets r fcp_data a r' = OnCommand r a r'
 
 -- What a call that is no frame of the host may leave for it: nothing changes, and what is sent goes to a host that is logged in, or is a LOGO to one that is out, since the loop may lose it.
 abbrev pub Unasked : Record → Answer → Record → Type 0
@@ -114,11 +114,11 @@ Unasked r dlogo r' = (r ≡ out) × (r' ≡ out)
 Unasked r other r' = Held r × (r' ≡ r)
 
 pub record Laws (D : Side) : Type 0 where
-  pub take-wf : (s : D.State) (f : D.Sent) → D.Wf s → D.Wf (D.take s f)
-  pub call-wf : (s : D.State) (c : D.Call) → D.Wf s → D.Wf (D.call s c)
-  pub pass-wf : (s : D.State) (x : D.Else) → D.Wf s → D.Aside s x → D.Wf (D.pass s x)
-  pub reset-wf : (s : D.State) → D.Wf s → D.Wf (D.reset s)
-  pub lapse-wf : (s : D.State) (x : D.Lapse) → D.Wf s → D.Wf (D.lapse s x)
+  pub take_wf : (s : D.State) (f : D.Sent) → D.Wf s → D.Wf (D.take s f)
+  pub call_wf : (s : D.State) (c : D.Call) → D.Wf s → D.Wf (D.call s c)
+  pub pass_wf : (s : D.State) (x : D.Else) → D.Wf s → D.Aside s x → D.Wf (D.pass s x)
+  pub reset_wf : (s : D.State) → D.Wf s → D.Wf (D.reset s)
+  pub lapse_wf : (s : D.State) (x : D.Lapse) → D.Wf s → D.Wf (D.lapse s x)
   -- "keeps .. its own names"
   pub owns : (f : D.Sent) → OwnIn D.Own (D.asks f)
   -- a frame of the host

@@ -2,23 +2,23 @@
 use Rattle.std.specs.Prelude.{ℕ, ◌+◌, ◌≡◌, Bool, true, false, cond, not, List, eqb, length, get_or}
 use Rattle.wire.specs.Bytes.{num, name_of}
 use Rattle.wire.specs.Layout.{AllBytes}
-use Rattle.frame.specs.Head.{headerOf}
+use Rattle.frame.specs.Head.{header_of}
 use Rattle.params.specs.Words.{params_of}
-use Rattle.formed.specs.Formed.{wellFormed}
-use Rattle.link.specs.Record.{Kept, Record, out, held, keptFrom, recordOf}
+use Rattle.formed.specs.Formed.{well_formed}
+use Rattle.link.specs.Record.{Kept, Record, out, held, kept_from, record_of}
 use Rattle.refusal.specs.declared.Said.{Said}
 use Rattle.refusal.specs.declared.Said.TheVariants.{Sent, Refused}
 use Rattle.drive.specs.declared.Drive.{Drive}
 use Rattle.drive.specs.declared.Event.TheVariants.{LoopReset, TimeOver, PowerOn}
-use Rattle.drive.specs.Drive.{eventAnswer}
-use Rattle.drive.specs.Entry.{frameIn, frameInBuffer, nextFrame, nextFrameBuffer}
-use Rattle.belief.specs.Host.{Request, plogi, pdisc, logo, adisc, prli, prlo, rrq, command, abts, fcp-data, Answer, none, acc, rjt, dlogo, other}
+use Rattle.drive.specs.Drive.{event_answer}
+use Rattle.drive.specs.Entry.{frame_in, frame_in_buffer, next_frame, next_frame_buffer}
+use Rattle.belief.specs.Host.{Request, plogi, pdisc, logo, adisc, prli, prlo, rrq, command, abts, fcp_data, Answer, none, acc, rjt, dlogo, other}
 use Rattle.belief.specs.Side.{Side, OwnIn}
 
 -- a frame of the host of address a with this R_CTL; one whose other fields are wrong is refused, "and a frame the drive refuses counts as lost"
 pub record Framed (a : ℕ) (f : List ℕ) (rctl : ℕ) : Type 0 where
-  pub routing : (headerOf f).r_ctl ≡ rctl
-  pub source : (headerOf f).s_id ≡ a
+  pub routing : (header_of f).r_ctl ≡ rctl
+  pub source : (header_of f).s_id ≡ a
 
 -- a link request "of right form, code and size"
 pub record Linked (a : ℕ) (f : List ℕ) (code size : ℕ) : Type 0 where
@@ -28,8 +28,8 @@ pub record Linked (a : ℕ) (f : List ℕ) (code size : ℕ) : Type 0 where
 
 -- the bytes f make the request; "a LOGO with its own address"; names and parameters are those that the drive stores
 abbrev pub Makes : ℕ → List ℕ → Request → Type 0
-Makes a f (plogi k) = Linked a f 0x03 116 × (k ≡ keptFrom (params_of f 28))
-Makes a f (pdisc k) = Linked a f 0x50 116 × (k ≡ keptFrom (params_of f 28))
+Makes a f (plogi k) = Linked a f 0x03 116 × (k ≡ kept_from (params_of f 28))
+Makes a f (pdisc k) = Linked a f 0x50 116 × (k ≡ kept_from (params_of f 28))
 Makes a f logo = Linked a f 0x05 16 × (num 3 f 29 ≡ a)
 Makes a f adisc = Linked a f 0x52 28
 Makes a f prli = Linked a f 0x20 20
@@ -37,7 +37,7 @@ Makes a f prlo = Linked a f 0x21 20
 Makes a f rrq = Linked a f 0x12 44
 Makes a f command = Framed a f 0x06
 Makes a f abts = Framed a f 0x81
-Makes a f fcp-data = Framed a f 0x01
+Makes a f fcp_data = Framed a f 0x01
 
 -- "no other port uses this host's port name": names and parameters with this port name
 abbrev pub Named : ℕ → Kept → Type 0
@@ -45,7 +45,7 @@ Named name k = name_of k.port_name ≡ name
 
 -- a PLOGI of right size with this port name, whoever sends it
 abbrev pub PlogiOf : ℕ → List ℕ → Type 0
-PlogiOf name f = Linked (headerOf f).s_id f 0x03 116 × Named name (keptFrom (params_of f 28))
+PlogiOf name f = Linked (header_of f).s_id f 0x03 116 × Named name (kept_from (params_of f 28))
 
 -- a frame of the host as it arrives, with the window and the buffer that the port lends, of any size and contents; "its own names": its PLOGIs carry its port name
 pub record FromHost (a name : ℕ) : Type 0 where
@@ -59,20 +59,20 @@ pub record FromHost (a name : ℕ) : Type 0 where
   pub named : OwnIn (Named name) request
 
 -- what the n bytes of a reply at the front of the buffer say, by R_CTL and the first byte of the payload
-abbrev pub soundOf : ℕ → List ℕ → Answer
-soundOf n l = cond (eqb n 0) none (cond (eqb (get_or l 0 0) 0x23) (cond (eqb (get_or l 24 0) 0x02) acc rjt) (cond (eqb (get_or l 0 0) 0x22) dlogo other))
+abbrev pub sound_of : ℕ → List ℕ → Answer
+sound_of n l = cond (eqb n 0) none (cond (eqb (get_or l 0 0) 0x23) (cond (eqb (get_or l 24 0) 0x02) acc rjt) (cond (eqb (get_or l 0 0) 0x22) dlogo other))
 
 -- what the host of address a hears of a call of the drive, whoever's it is: the frame at the front of the buffer where its D_ID, bytes 1 to 3, is a; of a refused call nothing
-abbrev pub heardOf : ℕ → Said → List ℕ → Answer
-heardOf a (Sent n) l = cond (eqb (num 3 l 1) a) (soundOf n l) none
-heardOf a (Refused x) l = none
+abbrev pub heard_of : ℕ → Said → List ℕ → Answer
+heard_of a (Sent n) l = cond (eqb (num 3 l 1) a) (sound_of n l) none
+heard_of a (Refused x) l = none
 
 -- of a frame in, and of a next frame of the exchange of address b and OX_ID x
-abbrev pub heardIn : ℕ → Drive → List ℕ → ℕ → List ℕ → List ℕ → Answer
-heardIn a d f start W l = heardOf a (frameIn d f start W (length l)).said (frameInBuffer d f start W l)
+abbrev pub heard_in : ℕ → Drive → List ℕ → ℕ → List ℕ → List ℕ → Answer
+heard_in a d f start W l = heard_of a (frame_in d f start W (length l)).said (frame_in_buffer d f start W l)
 
-abbrev pub heardNext : ℕ → Drive → ℕ → ℕ → ℕ → List ℕ → List ℕ → Answer
-heardNext a d b x start W l = heardOf a (nextFrame d b x start W (length l)).said (nextFrameBuffer d b x start W l)
+abbrev pub heard_next : ℕ → Drive → ℕ → ℕ → ℕ → List ℕ → List ℕ → Answer
+heard_next a d b x start W l = heard_of a (next_frame d b x start W (length l)).said (next_frame_buffer d b x start W l)
 
 -- a call for the next frame to the host, with any window and buffer
 pub record ForHost : Type 0 where
@@ -84,8 +84,8 @@ pub record ForHost : Type 0 where
 -- what else happens: "other ports sending what they like" under other addresses, but a PLOGI of right size with the host's port name; next frames to these, answers (23h) of any port, and frames to
 -- other ports, of this host too
 pub data Others (a name : ℕ) : Type 0 where
-  frame : (f : List ℕ) (start : ℕ) (window buffer : List ℕ) → AllBytes f → ((headerOf f).s_id ≡ a → ⊥) → (PlogiOf name f → ⊥) → Others a name
-  answer : (f : List ℕ) (start : ℕ) (window buffer : List ℕ) → AllBytes f → (headerOf f).r_ctl ≡ 0x23 → Others a name
+  frame : (f : List ℕ) (start : ℕ) (window buffer : List ℕ) → AllBytes f → ((header_of f).s_id ≡ a → ⊥) → (PlogiOf name f → ⊥) → Others a name
+  answer : (f : List ℕ) (start : ℕ) (window buffer : List ℕ) → AllBytes f → (header_of f).r_ctl ≡ 0x23 → Others a name
   next : (b ox start : ℕ) (window buffer : List ℕ) → (b ≡ a → ⊥) → Others a name
   elsewhere : (f : List ℕ) (start : ℕ) (window buffer : List ℕ) → Others a name
 
@@ -94,56 +94,56 @@ abbrev pub ToOthers : {a name : ℕ} → Drive → Others a name → Type 0
 ToOthers d (frame f start W l k n m) = Unit {0}
 ToOthers d (answer f start W l k r) = Unit {0}
 ToOthers d (next b x start W l n) = Unit {0}
-ToOthers d (elsewhere f start W l) = (headerOf f).d_id ≡ d.port.address → ⊥
+ToOthers d (elsewhere f start W l) = (header_of f).d_id ≡ d.port.address → ⊥
 
 abbrev pub others : {a name : ℕ} → Drive → Others a name → Drive
-others d (frame f start W l k n m) = (frameIn d f start W (length l)).drive
-others d (answer f start W l k r) = (frameIn d f start W (length l)).drive
-others d (next b x start W l n) = (nextFrame d b x start W (length l)).drive
-others d (elsewhere f start W l) = (frameIn d f start W (length l)).drive
+others d (frame f start W l k n m) = (frame_in d f start W (length l)).drive
+others d (answer f start W l k r) = (frame_in d f start W (length l)).drive
+others d (next b x start W l n) = (next_frame d b x start W (length l)).drive
+others d (elsewhere f start W l) = (frame_in d f start W (length l)).drive
 
 -- what the host hears of it
-abbrev pub othersHeard : {a name : ℕ} → Drive → Others a name → Answer
-othersHeard {a} d (frame f start W l k n m) = heardIn a d f start W l
-othersHeard {a} d (answer f start W l k r) = heardIn a d f start W l
-othersHeard {a} d (next b x start W l n) = heardNext a d b x start W l
-othersHeard {a} d (elsewhere f start W l) = heardIn a d f start W l
+abbrev pub others_heard : {a name : ℕ} → Drive → Others a name → Answer
+others_heard {a} d (frame f start W l k n m) = heard_in a d f start W l
+others_heard {a} d (answer f start W l k r) = heard_in a d f start W l
+others_heard {a} d (next b x start W l n) = heard_next a d b x start W l
+others_heard {a} d (elsewhere f start W l) = heard_in a d f start W l
 
 -- the events that end logins: "until the drive powers on or its verification time runs out"
 pub data Ending : Type 0 where
-  power-on time-over : Ending
+  power_on time_over : Ending
 
-abbrev pub afterEnding : Drive → Ending → Drive
-afterEnding d power-on = (eventAnswer d PowerOn).drive
-afterEnding d time-over = (eventAnswer d TimeOver).drive
+abbrev pub after_ending : Drive → Ending → Drive
+after_ending d power_on = (event_answer d PowerOn).drive
+after_ending d time_over = (event_answer d TimeOver).drive
 
 -- a loss of memory is one that ends this host's login: "verification time over ends the unproven ones; power on ends all"
 abbrev pub ends : Ending → Record → Bool
 ends x out = false
-ends power-on (held p v k) = true
-ends time-over (held p v k) = not v
+ends power_on (held p v k) = true
+ends time_over (held p v k) = not v
 
 -- the drive, for the host of address a and this port name
-abbrev pub theDrive : ℕ → ℕ → Side
-theDrive a name =
+abbrev pub the_drive : ℕ → ℕ → Side
+the_drive a name =
     record {
       State = Drive;
-      Wf = λ d. wellFormed d.unit d.port ≡ true;
-      login = λ d. recordOf d.port a;
+      Wf = λ d. well_formed d.unit d.port ≡ true;
+      login = λ d. record_of d.port a;
       Own = Named name;
       Sent = FromHost a name;
       asks = λ f. f.request;
-      answer = λ d f. heardIn a d f.bytes f.start f.window f.buffer;
-      take = λ d f. (frameIn d f.bytes f.start f.window (length f.buffer)).drive;
+      answer = λ d f. heard_in a d f.bytes f.start f.window f.buffer;
+      take = λ d f. (frame_in d f.bytes f.start f.window (length f.buffer)).drive;
       Call = ForHost;
-      speaks = λ d c. heardNext a d a c.ox c.start c.window c.buffer;
-      call = λ d c. (nextFrame d a c.ox c.start c.window (length c.buffer)).drive;
+      speaks = λ d c. heard_next a d a c.ox c.start c.window c.buffer;
+      call = λ d c. (next_frame d a c.ox c.start c.window (length c.buffer)).drive;
       Else = Others a name;
       Aside = ToOthers;
-      says = othersHeard;
+      says = others_heard;
       pass = others;
-      reset = λ d. (eventAnswer d LoopReset).drive;
+      reset = λ d. (event_answer d LoopReset).drive;
       Lapse = Ending;
-      loses = λ d x. ends x (recordOf d.port a);
-      lapse = afterEnding;
+      loses = λ d x. ends x (record_of d.port a);
+      lapse = after_ending;
     }

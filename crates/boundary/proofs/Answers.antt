@@ -9,10 +9,10 @@ use lib.Dec.{T, eqb, eqb→eq}
 use lib.ListN.{length}
 use Rattle.tables.specs.declared.Found.{Found}
 use Rattle.tables.specs.declared.Found.TheVariants.{At, Nothing}
-use Rattle.tables.specs.Lists.{all, onFound}
+use Rattle.tables.specs.Lists.{all, on_found}
 use Rattle.tables.proofs.Bools.{and_left, and_right}
 use Rattle.frame.specs.declared.Header.{Header}
-use Rattle.frame.specs.Head.{headerOf}
+use Rattle.frame.specs.Head.{header_of}
 use Rattle.refusal.specs.declared.Refusal.{Refusal}
 use Rattle.refusal.specs.declared.Refusal.TheVariants.{IllFormed}
 use Rattle.refusal.specs.declared.Said.TheVariants.{Refused}
@@ -22,90 +22,90 @@ use Rattle.state.specs.declared.Port.{Port}
 use Rattle.state.specs.declared.Unit.{Unit}
 use Rattle.state.specs.declared.Change.{Change}
 use Rattle.state.specs.declared.Change.TheVariants.{Keep, EndAll, EndLogin, EndHost, Unprove, EndUnproven, EndExchangesOf, Reset, Clear}
-use Rattle.state.specs.Changes.{emptyLogin, own_of, isUsed, hasAddress, isHost, freedOf, ended_of, hostEnded, unproven, verified, abortedOf, resetOf, clearedBy, withLogins, changedOf, changedAll}
-use Rattle.state.specs.Tables.{loginIn}
-use Rattle.formed.specs.Formed.{loginFine, wellFormed}
-use Rattle.formed.specs.Keys.{key_of, loginKey, keys_of}
-use Rattle.formed.proofs.Keys.{used-free, key-name, fine-by}
-use Rattle.formed.proofs.Parts.{formed-parts}
+use Rattle.state.specs.Changes.{empty_login, own_of, is_used, has_address, is_host, freed_of, ended_of, host_ended, unproven, verified, aborted_of, reset_of, cleared_by, with_logins, changed_of, changed_all}
+use Rattle.state.specs.Tables.{login_in}
+use Rattle.formed.specs.Formed.{login_fine, well_formed}
+use Rattle.formed.specs.Keys.{key_of, login_key, keys_of}
+use Rattle.formed.proofs.Keys.{used_free, key_name, fine_by_lem}
+use Rattle.formed.proofs.Parts.{formed_parts}
 use Rattle.calls.specs.declared.Sight.{Sight}
 use Rattle.calls.specs.declared.Turn.{Turn}
 use Rattle.calls.specs.declared.View.{View}
-use Rattle.calls.specs.View.{seatOf, sight_of, viewFrom, view_of}
-use Rattle.calls.specs.Turn.{stored_at, portAfter}
-use Rattle.calls.proofs.Seats.{key-address}
-use Rattle.calls.proofs.Decisions.{keep-is}
-use Rattle.taking.specs.Taking.{isData, takingTurn, takingBuffer, takingWindow}
-use Rattle.taking.proofs.Others.{taking-keeps}
-use Rattle.arrival.specs.Arrival.{shortBuffer}
+use Rattle.calls.specs.View.{seat_of, sight_of, view_from, view_of}
+use Rattle.calls.specs.Turn.{stored_at, port_after}
+use Rattle.calls.proofs.Seats.{key_address}
+use Rattle.calls.proofs.Decisions.{keep_is}
+use Rattle.taking.specs.Taking.{is_data, taking_turn, taking_buffer, taking_window}
+use Rattle.taking.proofs.Others.{taking_keeps}
+use Rattle.arrival.specs.Arrival.{short_buffer}
 use Rattle.drive.specs.declared.Answer.{Answer}
 use Rattle.drive.specs.declared.Drive.{Drive}
 use Rattle.drive.specs.declared.Event.{Event}
-use Rattle.drive.specs.Drive.{refused, nothingSent, changeOf, afterEvent, eventAnswer}
-use Rattle.drive.specs.Entry.{frameIn, frameInBuffer, frameInWindow, nextFrame}
-use Rattle.drive.specs.Turn.{unprovenAt, unprovenIn, refusalOf, passedTurn, passedBuffer, arrivedTurn, arrivedBuffer, arrivedWindow, nextOutTurn, answerTo}
-use Rattle.drive.proofs.Turns.{arrived-formed, frame-turn, frame-turn-buffer, frame-turn-window, RefusedBy, frame_refused, next-out-turn, next-out-keeps}
+use Rattle.drive.specs.Drive.{refused, nothing_sent, change_of, after_event, event_answer}
+use Rattle.drive.specs.Entry.{frame_in, frame_in_buffer, frame_in_window, next_frame}
+use Rattle.drive.specs.Turn.{unproven_at, unproven_in, refusal_of, passed_turn, passed_buffer, arrived_turn, arrived_buffer, arrived_window, next_out_turn, answer_to}
+use Rattle.drive.proofs.Turns.{arrived_formed, frame_turn_lem, frame_turn_buffer, frame_turn_window, RefusedBy, frame_refused, next_out_turn_lem, next_out_keeps}
 use Rattle.boundary.specs.Boundary.{code_of, Tells}
-use Rattle.boundary.specs.Settled.{reaches, marksOf, reachedBy, reachedOf, settled_of, happenedSaid}
-use Rattle.boundary.proofs.Lent.{withPort, stored, settled, happened}
-use Rattle.boundary.proofs.Reached.{spared-last}
+use Rattle.boundary.specs.Settled.{reaches, marks_of, reached_by, reached_of, settled_of, happened_said}
+use Rattle.boundary.proofs.Lent.{with_port, stored, settled, happened}
+use Rattle.boundary.proofs.Reached.{spared_last}
 
 twice : {A : Type 0} (b : Bool) (x y : A) → cond b (cond b x y) y ≡ cond b x y
 twice true x y = refl
 twice false x y = refl
 
 -- which arm of a definition is taken
-pub held-arm : {A : Type 0} (z : Bool) (x y : A) → T z → x ≡ cond z x y
-held-arm true x y e = refl
-held-arm false x y e = absurd e
+pub held_arm : {A : Type 0} (z : Bool) (x y : A) → T z → x ≡ cond z x y
+held_arm true x y e = refl
+held_arm false x y e = absurd e
 
-pub failed-arm : {A : Type 0} (z : Bool) (x y : A) → T (not z) → y ≡ cond z x y
-failed-arm true x y e = absurd e
-failed-arm false x y e = refl
+pub failed_arm : {A : Type 0} (z : Bool) (x y : A) → T (not z) → y ≡ cond z x y
+failed_arm true x y e = absurd e
+failed_arm false x y e = refl
 
 module _ (u : Unit) (own : ℕ) where
   -- a login that is fine and is not reached is one that the change leaves
-  reached-fine : (c : Change) (l : Login) (b : Bool) → loginFine u own l ≡ true → isUsed l ≡ b → cond (reaches c (loginKey u own l)) (changedOf c l) l ≡ changedOf c l
-  unfolding loginKey key_of freedOf ended_of hostEnded unproven verified abortedOf resetOf clearedBy
-  reached-fine Keep l b f e = refl
-  reached-fine EndAll l true f e = rw (f, e, used-free l.address)
-  reached-fine EndAll l false f e = rw (f, e)
-  reached-fine (EndLogin a) l b f e = rw (key-address u own a l f) (twice (hasAddress a l) _ l)
-  reached-fine (EndHost a n) l b f e = rw (key-address u own a l f, key-name u own n l f) (twice (isHost a n l) _ l)
-  reached-fine (EndExchangesOf a) l b f e = rw (key-address u own a l f) (twice (hasAddress a l) _ l)
-  reached-fine Unprove l true f e = rw (f, e, used-free l.address)
-  reached-fine Unprove l false f e = rw (f, e)
-  reached-fine EndUnproven l true f e = rw (f, e, used-free l.address)
-  reached-fine EndUnproven l false f e = rw (f, e)
-  reached-fine Reset l true f e = rw (f, e, used-free l.address)
-  reached-fine Reset l false f e = rw (f, e)
-  reached-fine (Clear a) l true f e = rw (f, e, used-free l.address)
-  reached-fine (Clear a) l false f e = rw (f, e)
+  reached_fine : (c : Change) (l : Login) (b : Bool) → login_fine u own l ≡ true → is_used l ≡ b → cond (reaches c (login_key u own l)) (changed_of c l) l ≡ changed_of c l
+  unfolding login_key key_of freed_of ended_of host_ended unproven verified aborted_of reset_of cleared_by
+  reached_fine Keep l b f e = refl
+  reached_fine EndAll l true f e = rw (f, e, used_free l.address)
+  reached_fine EndAll l false f e = rw (f, e)
+  reached_fine (EndLogin a) l b f e = rw (key_address u own a l f) (twice (has_address a l) _ l)
+  reached_fine (EndHost a n) l b f e = rw (key_address u own a l f, key_name u own n l f) (twice (is_host a n l) _ l)
+  reached_fine (EndExchangesOf a) l b f e = rw (key_address u own a l f) (twice (has_address a l) _ l)
+  reached_fine Unprove l true f e = rw (f, e, used_free l.address)
+  reached_fine Unprove l false f e = rw (f, e)
+  reached_fine EndUnproven l true f e = rw (f, e, used_free l.address)
+  reached_fine EndUnproven l false f e = rw (f, e)
+  reached_fine Reset l true f e = rw (f, e, used_free l.address)
+  reached_fine Reset l false f e = rw (f, e)
+  reached_fine (Clear a) l true f e = rw (f, e, used_free l.address)
+  reached_fine (Clear a) l false f e = rw (f, e)
 
-  reached-all : (c : Change) (ls : List Login) → all (loginFine u own) ls ≡ true → reachedBy c (marksOf c (map (loginKey u own) ls)) ls ≡ map (changedOf c) ls
-  reached-all c [] e = refl
-  reached-all c (l ∷ ls) e =
-      let f = and_left (loginFine u own l) (all (loginFine u own) ls) e in
-      let r = reached-all c ls (and_right (loginFine u own l) (all (loginFine u own) ls) e) in
-      ap (λ (m : Login). m ∷ reachedBy c (marksOf c (map (loginKey u own) ls)) ls) (reached-fine c l (isUsed l) f refl) ∙ ap (λ (ms : List Login). changedOf c l ∷ ms) r
+  reached_all : (c : Change) (ls : List Login) → all (login_fine u own) ls ≡ true → reached_by c (marks_of c (map (login_key u own) ls)) ls ≡ map (changed_of c) ls
+  reached_all c [] e = refl
+  reached_all c (l ∷ ls) e =
+      let f = and_left (login_fine u own l) (all (login_fine u own) ls) e in
+      let r = reached_all c ls (and_right (login_fine u own l) (all (login_fine u own) ls) e) in
+      ap (λ (m : Login). m ∷ reached_by c (marks_of c (map (login_key u own) ls)) ls) (reached_fine c l (is_used l) f refl) ∙ ap (λ (ms : List Login). changed_of c l ∷ ms) r
 
 -- so what is reached by the keys of a port that is well formed is the change of all, and the port settled by them is the port after the turn
-module _ (u : Unit) (p : Port) (w : wellFormed u p ≡ true) where
-  reached-changed : (c : Change) → reachedOf p (marksOf c (keys_of u p)) c ≡ changedAll c p
-  unfolding reachedOf changedAll keys_of
-  reached-changed c = ap (withLogins p) (reached-all u p.address c p.logins (formed-parts w).logins)
+module _ (u : Unit) (p : Port) (w : well_formed u p ≡ true) where
+  reached_changed : (c : Change) → reached_of p (marks_of c (keys_of u p)) c ≡ changed_all c p
+  unfolding reached_of changed_all keys_of
+  reached_changed c = ap (with_logins p) (reached_all u p.address c p.logins (formed_parts w).logins)
 
-  settled-answer : (t : Turn) → settled_of p (keys_of u p) t ≡ portAfter p t
+  settled_answer : (t : Turn) → settled_of p (keys_of u p) t ≡ port_after p t
   unfolding settled_of
-  settled-answer t = spared-last p (marksOf t.change (keys_of u p)) t.change t.login t.at ∙ ap (stored_at t.at t.login) (reached-changed t.change)
+  settled_answer t = spared_last p (marks_of t.change (keys_of u p)) t.change t.login t.at ∙ ap (stored_at t.at t.login) (reached_changed t.change)
 
 -- what a refusal tells, the drive as it was
-pub refusal-told : {d : Drive} {a : Answer} {x : Refusal} → a ≡ refused x d → Tells a (code_of (Refused x)) d
-refusal-told e = (ap (λ (z : Answer). code_of z.said) (sym e), ap (λ (z : Answer). z.drive) (sym e))
+pub refusal_told : {d : Drive} {a : Answer} {x : Refusal} → a ≡ refused x d → Tells a (code_of (Refused x)) d
+refusal_told e = (ap (λ (z : Answer). code_of z.said) (sym e), ap (λ (z : Answer). z.drive) (sym e))
 
 -- what a turn tells, the drive with the port after it
-turn-told : (d : Drive) (t : Turn) {p : Port} {a : Answer} → p ≡ portAfter d.port t → answerTo d t ≡ a → Tells a (code_of t.said) (withPort d p)
-turn-told d t e is = (ap (λ (z : Answer). code_of z.said) is, ap (withPort d) e ∙ ap (λ (z : Answer). z.drive) is)
+turn_told : (d : Drive) (t : Turn) {p : Port} {a : Answer} → p ≡ port_after d.port t → answer_to d t ≡ a → Tells a (code_of t.said) (with_port d p)
+turn_told d t e is = (ap (λ (z : Answer). code_of z.said) is, ap (with_port d) e ∙ ap (λ (z : Answer). z.drive) is)
 
 -- what every call sees, and what a call of the port at an address does
 abbrev sight : Drive → Sight
@@ -115,99 +115,99 @@ abbrev seen : Drive → ℕ → View
 seen d x = view_of d.unit d.port x
 
 -- a turn that changes no login but the one it stores
-kept-told : (d : Drive) (t : Turn) {a : Answer} → t.change ≡ Keep → answerTo d t ≡ a → Tells a (code_of t.said) (stored d t)
-kept-told d t keeps is = turn-told d t (ap (stored_at t.at t.login) (sym (ap (λ (c : Change). changedAll c d.port) keeps ∙ keep-is d.port))) is
+kept_told : (d : Drive) (t : Turn) {a : Answer} → t.change ≡ Keep → answer_to d t ≡ a → Tells a (code_of t.said) (stored d t)
+kept_told d t keeps is = turn_told d t (ap (stored_at t.at t.login) (sym (ap (λ (c : Change). changed_all c d.port) keeps ∙ keep_is d.port))) is
 
 -- a frame in: the number of its refusal, by what is read before a view is made
 module _ (d : Drive) (f : List ℕ) (start : ℕ) (W : List ℕ) where
   abbrev h : Header
-  h = headerOf f
+  h = header_of f
 
   abbrev v : View
   v = seen d h.s_id
 
   abbrev seat : Found
-  seat = seatOf (sight d).keys h.s_id
+  seat = seat_of (sight d).keys h.s_id
 
   abbrev number : ℕ
-  number = refusalOf (sight d).fine (unprovenAt seat (loginIn d.port seat).proven) d.port.address h f
+  number = refusal_of (sight d).fine (unproven_at seat (login_in d.port seat).proven) d.port.address h f
 
-  number-seen : number ≡ refusalOf v.fine (unprovenIn v) v.own.address h f
-  unfolding view_of viewFrom own_of
-  number-seen = by seat
+  number_seen : number ≡ refusal_of v.fine (unproven_in v) v.own.address h f
+  unfolding view_of view_from own_of
+  number_seen = by seat
     where
-      by : (s : Found) → refusalOf (sight d).fine (unprovenAt s (loginIn d.port s).proven) d.port.address h f ≡ refusalOf (sight d).fine (unprovenAt s (onFound s (λ _. loginIn d.port s) emptyLogin).proven) d.port.address h f
+      by : (s : Found) → refusal_of (sight d).fine (unproven_at s (login_in d.port s).proven) d.port.address h f ≡ refusal_of (sight d).fine (unproven_at s (on_found s (λ _. login_in d.port s) empty_login).proven) d.port.address h f
       by (At i) = refl
       by Nothing = refl
 
   -- one that has a number is refused with it, the buffer and the window left as they were
   module _ (some : T (not (eqb number 0))) where
     by_number : RefusedBy d f start W number
-    by_number = subst (RefusedBy d f start W) (sym number-seen) (frame_refused d f start W (λ z. subst (λ (n : ℕ). T (not (eqb n 0))) (number-seen ∙ z) some))
+    by_number = subst (RefusedBy d f start W) (sym number_seen) (frame_refused d f start W (λ z. subst (λ (n : ℕ). T (not (eqb n 0))) (number_seen ∙ z) some))
 
     pub number_fits : 65536 + number < 2 ^ 64
     number_fits = let few = (numbers by_number.refusal).1 in omega (arith, few, by_number.number)
 
-    pub frame-numbered : (l : List ℕ) → shortBuffer (length l) ≡ false → Tells (frameIn d f start W (length l)) (65536 + number) d × (l ≡ frameInBuffer d f start W l) × (W ≡ frameInWindow d f start W (length l))
-    frame-numbered l long = (
-      subst (λ (n : ℕ). Tells (frameIn d f start W (length l)) (65536 + n) d) by_number.number (refusal-told (by_number.answer (length l) long)),
+    pub frame_numbered : (l : List ℕ) → short_buffer (length l) ≡ false → Tells (frame_in d f start W (length l)) (65536 + number) d × (l ≡ frame_in_buffer d f start W l) × (W ≡ frame_in_window d f start W (length l))
+    frame_numbered l long = (
+      subst (λ (n : ℕ). Tells (frame_in d f start W (length l)) (65536 + n) d) by_number.number (refusal_told (by_number.answer (length l) long)),
       sym (by_number.buffer l long),
       sym (by_number.window (length l) long),
     )
 
   -- one that has none comes to its turn: a data frame's, or another's
-  module _ (none : T (not (not (eqb number 0)))) (l : List ℕ) (long : shortBuffer (length l) ≡ false) where
-    zero : refusalOf v.fine (unprovenIn v) v.own.address h f ≡ 0
-    zero = sym number-seen ∙ eqb→eq number 0 (by (eqb number 0) none)
+  module _ (none : T (not (not (eqb number 0)))) (l : List ℕ) (long : short_buffer (length l) ≡ false) where
+    zero : refusal_of v.fine (unproven_in v) v.own.address h f ≡ 0
+    zero = sym number_seen ∙ eqb→eq number 0 (by (eqb number 0) none)
       where
         by : (b : Bool) → T (not (not b)) → T b
         by true e = e
         by false e = e
 
-    module _ (is : T (isData h)) where
-      abbrev turn-data : Turn
-      turn-data = takingTurn v h (length f) start (length W) (length l)
+    module _ (is : T (is_data h)) where
+      abbrev turn_data : Turn
+      turn_data = taking_turn v h (length f) start (length W) (length l)
 
-      pub frame-data : Tells (frameIn d f start W (length l)) (code_of turn-data.said) (stored d turn-data) × (takingBuffer v h (length f) start (length W) l ≡ frameInBuffer d f start W l) × (takingWindow v h f start W ≡ frameInWindow d f start W (length l))
-      unfolding arrivedTurn arrivedBuffer arrivedWindow
-      frame-data = (
-        kept-told d turn-data (taking-keeps v h (length f) start (length W) (length l)) (ap (answerTo d) (held-arm (isData h) turn-data _ is) ∙ frame-turn d f start W zero (length l) long),
-        held-arm (isData h) _ (passedBuffer v h f l) is ∙ frame-turn-buffer d f start W zero l long,
-        held-arm (isData h) _ W is ∙ frame-turn-window d f start W zero (length l) long,
+      pub frame_data : Tells (frame_in d f start W (length l)) (code_of turn_data.said) (stored d turn_data) × (taking_buffer v h (length f) start (length W) l ≡ frame_in_buffer d f start W l) × (taking_window v h f start W ≡ frame_in_window d f start W (length l))
+      unfolding arrived_turn arrived_buffer arrived_window
+      frame_data = (
+        kept_told d turn_data (taking_keeps v h (length f) start (length W) (length l)) (ap (answer_to d) (held_arm (is_data h) turn_data _ is) ∙ frame_turn_lem d f start W zero (length l) long),
+        held_arm (is_data h) _ (passed_buffer v h f l) is ∙ frame_turn_buffer d f start W zero l long,
+        held_arm (is_data h) _ W is ∙ frame_turn_window d f start W zero (length l) long,
       )
 
-    module _ (is : T (not (isData h))) where
-      abbrev turn-other : Turn
-      turn-other = passedTurn v h f (length l)
+    module _ (is : T (not (is_data h))) where
+      abbrev turn_other : Turn
+      turn_other = passed_turn v h f (length l)
 
-      pub frame-other : Tells (frameIn d f start W (length l)) (code_of turn-other.said) (settled d (sight d).keys turn-other) × (passedBuffer v h f l ≡ frameInBuffer d f start W l) × (W ≡ frameInWindow d f start W (length l))
-      unfolding arrivedTurn arrivedBuffer arrivedWindow
-      frame-other = (
-        turn-told d turn-other (settled-answer d.unit d.port (arrived-formed d f start W zero) turn-other) (ap (answerTo d) (failed-arm (isData h) _ turn-other is) ∙ frame-turn d f start W zero (length l) long),
-        failed-arm (isData h) (takingBuffer v h (length f) start (length W) l) _ is ∙ frame-turn-buffer d f start W zero l long,
-        failed-arm (isData h) (takingWindow v h f start W) _ is ∙ frame-turn-window d f start W zero (length l) long,
+      pub frame_other : Tells (frame_in d f start W (length l)) (code_of turn_other.said) (settled d (sight d).keys turn_other) × (passed_buffer v h f l ≡ frame_in_buffer d f start W l) × (W ≡ frame_in_window d f start W (length l))
+      unfolding arrived_turn arrived_buffer arrived_window
+      frame_other = (
+        turn_told d turn_other (settled_answer d.unit d.port (arrived_formed d f start W zero) turn_other) (ap (answer_to d) (failed_arm (is_data h) _ turn_other is) ∙ frame_turn_lem d f start W zero (length l) long),
+        failed_arm (is_data h) (taking_buffer v h (length f) start (length W) l) _ is ∙ frame_turn_buffer d f start W zero l long,
+        failed_arm (is_data h) (taking_window v h f start W) _ is ∙ frame_turn_window d f start W zero (length l) long,
       )
 
 -- a next frame changes no login but the one it stores
 module _ (d : Drive) (a x start : ℕ) (W : List ℕ) (room : ℕ) where
-  abbrev turn-out : Turn
-  turn-out = nextOutTurn (seen d a) a x start W room
+  abbrev turn_out_lem : Turn
+  turn_out_lem = next_out_turn (seen d a) a x start W room
 
-  pub next-stores : shortBuffer room ≡ false → Tells (nextFrame d a x start W room) (code_of turn-out.said) (stored d turn-out)
-  next-stores long = kept-told d turn-out (next-out-keeps (seen d a) a x start W room) (next-out-turn d a x start W room long)
+  pub next_stores : short_buffer room ≡ false → Tells (next_frame d a x start W room) (code_of turn_out_lem.said) (stored d turn_out_lem)
+  next_stores long = kept_told d turn_out_lem (next_out_keeps (seen d a) a x start W room) (next_out_turn_lem d a x start W room long)
 
 -- an event changes a drive that is well formed, and no other
 module _ (d : Drive) (e : Event) where
   abbrev reached : Port
-  reached = reachedOf d.port (marksOf (changeOf e) (sight d).keys) (changeOf e)
+  reached = reached_of d.port (marks_of (change_of e) (sight d).keys) (change_of e)
 
-  happens : (fine : Bool) → wellFormed d.unit d.port ≡ fine → Tells (cond fine (nothingSent (afterEvent e d)) (refused IllFormed d)) (code_of (happenedSaid fine)) (withPort d (cond fine reached d.port))
-  unfolding afterEvent
-  happens true w = (refl, ap (withPort d) (reached-changed d.unit d.port w (changeOf e)))
+  happens : (fine : Bool) → well_formed d.unit d.port ≡ fine → Tells (cond fine (nothing_sent (after_event e d)) (refused IllFormed d)) (code_of (happened_said fine)) (with_port d (cond fine reached d.port))
+  unfolding after_event
+  happens true w = (refl, ap (with_port d) (reached_changed d.unit d.port w (change_of e)))
   happens false w = (refl, refl)
 
-  pub event-happens : Tells (eventAnswer d e) (code_of (happenedSaid (sight d).fine)) (happened d (sight d) (changeOf e))
-  unfolding eventAnswer
-  event-happens =
-      subst (λ (fine : Bool). Tells (eventAnswer d e) (code_of (happenedSaid fine)) (withPort d (cond fine reached d.port))) (sym (fine-by d.unit d.port))
-      (happens (wellFormed d.unit d.port) refl)
+  pub event_happens : Tells (event_answer d e) (code_of (happened_said (sight d).fine)) (happened d (sight d) (change_of e))
+  unfolding event_answer
+  event_happens =
+      subst (λ (fine : Bool). Tells (event_answer d e) (code_of (happened_said fine)) (with_port d (cond fine reached d.port))) (sym (fine_by_lem d.unit d.port))
+      (happens (well_formed d.unit d.port) refl)

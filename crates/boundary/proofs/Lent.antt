@@ -36,7 +36,7 @@ use Rattle.drive.specs.declared.Drive.{Drive}
 use Rattle.drive.specs.contracts.Drive as Dr
 use Rattle.drive.proofs.Drive.TheLaws as Dr'
 use Rattle.boundary.specs.Boundary.{code_of}
-use Rattle.boundary.specs.Settled.{settled_of, happenedOf}
+use Rattle.boundary.specs.Settled.{settled_of, happened_of}
 use Rattle.boundary.specs.contracts.code as n
 
 -- the machine values of a drive, of a port, of a unit and of what is said
@@ -53,17 +53,17 @@ abbrev pub sval : Said → Val
 sval d = EL.val Sd.the_type Sd'.the_laws d
 
 -- the drive with this port: after the login of a turn is stored, after a turn, and after an event
-abbrev pub withPort : Drive → Port → Drive
-withPort d p = record { unit = d.unit; port = p }
+abbrev pub with_port : Drive → Port → Drive
+with_port d p = record { unit = d.unit; port = p }
 
 abbrev pub stored : Drive → Turn → Drive
-stored d t = withPort d (stored_at t.at t.login d.port)
+stored d t = with_port d (stored_at t.at t.login d.port)
 
 abbrev pub settled : Drive → List Key → Turn → Drive
-settled d ks t = withPort d (settled_of d.port ks t)
+settled d ks t = with_port d (settled_of d.port ks t)
 
 abbrev pub happened : Drive → Sight → Change → Drive
-happened d s c = withPort d (happenedOf d.port s c)
+happened d s c = with_port d (happened_of d.port s c)
 
 -- types of locals: a number, and the lent port
 abbrev pub word : Ty
@@ -77,12 +77,12 @@ module _ {M : Type 1} {𝓤 : Ura M} (𝓛 : Logic 𝓤) (mem : Memory → SProp
   abbrev pub N : Contract 𝓤
   N = triple_of 𝓛 n.signature (n.spec 𝓛 mem run)
 
-  pub code-of : (s : Said) (k : ℕ) → ent 𝓤 (ensured 𝓛 n.ended (n.clauses 𝓛 mem run) tt (s, tt) tt k) (fact 𝓤 (k ≡ code_of s))
-  code-of s k = ex_e 𝓤 _ (λ ws. snd∗ 𝓤 (sem 𝓛 (lasts n.ended tt (s, tt) ws)) (fact 𝓤 (k ≡ code_of s)))
+  pub code_of_lem : (s : Said) (k : ℕ) → ent 𝓤 (ensured 𝓛 n.ended (n.clauses 𝓛 mem run) tt (s, tt) tt k) (fact 𝓤 (k ≡ code_of s))
+  code_of_lem s k = ex_e 𝓤 _ (λ ws. snd∗ 𝓤 (sem 𝓛 (lasts n.ended tt (s, tt) ws)) (fact 𝓤 (k ≡ code_of s)))
 
-  abbrev pub to-code : Said → N.Ghost
-  to-code d = ((tt, tt, tt, (d, tt), (sval d ∷ [], tt)), tt)
+  abbrev pub to_code : Said → N.Ghost
+  to_code d = ((tt, tt, tt, (d, tt), (sval d ∷ [], tt)), tt)
 
   module _ where
-    pub goes-code : (d : Said) → ent 𝓤 (sem 𝓛 ((Sd.the_row).own_val d (sval d ∷ []))) (N.pre (to-code d))
-    goes-code d = qed 𝓛 (‵ ((Sd.the_row).own_val d (sval d ∷ [])) ∷ []) ∵ nothing ! $ move ! (1 ∷ 0 ∷ []) $ join ! $ nothing ! $ join ! $ frame ! $ done !
+    pub goes_code : (d : Said) → ent 𝓤 (sem 𝓛 ((Sd.the_row).own_val d (sval d ∷ []))) (N.pre (to_code d))
+    goes_code d = qed 𝓛 (‵ ((Sd.the_row).own_val d (sval d ∷ [])) ∷ []) ∵ nothing ! $ move ! (1 ∷ 0 ∷ []) $ join ! $ nothing ! $ join ! $ frame ! $ done !

@@ -35,11 +35,11 @@ use Rattle.calls.specs.Turn.{stored_at}
 use Rattle.calls.specs.contracts.Turn as Tn
 use Rattle.calls.proofs.Turn.TheLaws as Tn'
 use Rattle.boundary.specs.Boundary.{code_of}
-use Rattle.boundary.specs.Settled.{reachedOf}
+use Rattle.boundary.specs.Settled.{reached_of}
 use Rattle.boundary.proofs.Lending.{tval, cval, Left, Storing}
 use Rattle.boundary.proofs.Lent.{pval}
-use Rattle.boundary.proofs.Marked.{M8, mval, marks-make}
-use Rattle.boundary.proofs.Onward.{Loan, Kept, lends-to, takes_back}
+use Rattle.boundary.proofs.Marked.{M8, mval, marks_make}
+use Rattle.boundary.proofs.Onward.{Loan, Kept, lends_to, takes_back}
 use Rattle.boundary.specs.contracts.reach as r
 
 module _ {M : Type 1} {𝓤 : Ura M} (𝓛 : Logic 𝓤) (mem : Memory → SProp 𝓤) (run : Routine → Fun 𝓤) where
@@ -54,8 +54,8 @@ module _ {M : Type 1} {𝓤 : Ura M} (𝓛 : Logic 𝓤) (mem : Memory → SProp
     abbrev held_at : Val → Item 𝓤
     held_at u = ‵ (fat full_share (raw_ty Po'.mir) b o u)
 
-    abbrev pub port-cell : Port → Item 𝓤
-    port-cell p = held_at (pval p)
+    abbrev pub port_cell : Port → Item 𝓤
+    port_cell p = held_at (pval p)
 
     -- what the holder keeps while the loan stands
     abbrev pub Keeps : Loan → SProp 𝓤
@@ -68,28 +68,28 @@ module _ {M : Type 1} {𝓤 : Ura M} (𝓛 : Logic 𝓤) (mem : Memory → SProp
 
       -- `reach`
       module _ (ms : List Bool) (c : Change) where
-        abbrev pub to-reach : Loan → Reaching.Ghost
-        to-reach y = (((y.0 ∷ [], tt), (full_share, tt), tt, (port y, (ms, (c, tt))), (vptr b o ∷ [], (mval ms ∷ [], (cval c ∷ [], tt)))), tt)
+        abbrev pub to_reach : Loan → Reaching.Ghost
+        to_reach y = (((y.0 ∷ [], tt), (full_share, tt), tt, (port y, (ms, (c, tt))), (vptr b o ∷ [], (mval ms ∷ [], (cval c ∷ [], tt)))), tt)
 
-        pub lends-reach : Is Po.the_row h (pval h ∷ []) → Is M8 ms (mval ms ∷ []) → Is Ch.the_row c (cval c ∷ []) → ent 𝓤 (H.at full_share (raw_ty Po'.mir) b o (pval h)) (H.⇛ (ex 𝓤 (λ (y : Loan). sep 𝓤 (Reaching.pre (to-reach y)) (Keeps y))))
-        lends-reach was is-ms is_c =
-            lends-to Po.the_type Po'.the_laws Po'.the_plain 𝓛 b o held_at (owns (M8 ∷ Ch.the_row ∷ []) (ms, (c, tt)) (mval ms ∷ [], (cval c ∷ [], tt))) h
-            (qed 𝓛 [] ∵ nothing ! $ owned ! Ch.the_row (Is Ch.the_row) (EL.makes Ch.the_type Ch'.the_plain 𝓛) c _ is_c $ fjoin ! $ owned ! M8 (Is M8) (marks-make 𝓛) ms _ is-ms $ fjoin ! $ done !) was (whole !)
+        pub lends_reach : Is Po.the_row h (pval h ∷ []) → Is M8 ms (mval ms ∷ []) → Is Ch.the_row c (cval c ∷ []) → ent 𝓤 (H.at full_share (raw_ty Po'.mir) b o (pval h)) (H.⇛ (ex 𝓤 (λ (y : Loan). sep 𝓤 (Reaching.pre (to_reach y)) (Keeps y))))
+        lends_reach was is_ms is_c =
+            lends_to Po.the_type Po'.the_laws Po'.the_plain 𝓛 b o held_at (owns (M8 ∷ Ch.the_row ∷ []) (ms, (c, tt)) (mval ms ∷ [], (cval c ∷ [], tt))) h
+            (qed 𝓛 [] ∵ nothing ! $ owned ! Ch.the_row (Is Ch.the_row) (EL.makes Ch.the_type Ch'.the_plain 𝓛) c _ is_c $ fjoin ! $ owned ! M8 (Is M8) (marks_make 𝓛) ms _ is_ms $ fjoin ! $ done !) was (whole !)
 
         -- what is known after
         abbrev pub Reached : Val → Type 0
-        Reached = Left unit tt (reachedOf h ms c)
+        Reached = Left unit tt (reached_of h ms c)
 
-        pub reach-back : (y : Loan) (u : Val) → ent 𝓤 (sep 𝓤 (Reaching.post (to-reach y) u) (Keeps y)) (H.⇛ (sep 𝓤 (H.at full_share (raw_ty Po'.mir) b o (pval (reachedOf h ms c))) (fact 𝓤 (Reached u))))
-        reach-back y u = takes_back Po.the_type Po'.the_laws Po'.the_plain 𝓛 b o held_at unit tt (reachedOf h ms c) (λ _ p. p ≡ reachedOf h ms c) (λ _ p e. (refl, e)) (Unit {0} × (Unit {0} × Unit {0})) (fsep ftrue (fsep ftrue ftrue)) y u
+        pub reach_back : (y : Loan) (u : Val) → ent 𝓤 (sep 𝓤 (Reaching.post (to_reach y) u) (Keeps y)) (H.⇛ (sep 𝓤 (H.at full_share (raw_ty Po'.mir) b o (pval (reached_of h ms c))) (fact 𝓤 (Reached u))))
+        reach_back y u = takes_back Po.the_type Po'.the_laws Po'.the_plain 𝓛 b o held_at unit tt (reached_of h ms c) (λ _ p. p ≡ reached_of h ms c) (λ _ p e. (refl, e)) (Unit {0} × (Unit {0} × Unit {0})) (fsep ftrue (fsep ftrue ftrue)) y u
 
       -- `store`
       module _ (t : Turn) where
-        abbrev pub to-store : Loan → (Storing 𝓛 mem run).Ghost
-        to-store y = (((y.0 ∷ [], tt), (full_share, tt), tt, (port y, (t, tt)), (vptr b o ∷ [], (tval t ∷ [], tt))), tt)
+        abbrev pub to_store : Loan → (Storing 𝓛 mem run).Ghost
+        to_store y = (((y.0 ∷ [], tt), (full_share, tt), tt, (port y, (t, tt)), (vptr b o ∷ [], (tval t ∷ [], tt))), tt)
 
-        pub lends-store : Is Po.the_row h (pval h ∷ []) → Is Tn.the_row t (tval t ∷ []) → ent 𝓤 (H.at full_share (raw_ty Po'.mir) b o (pval h)) (H.⇛ (ex 𝓤 (λ (y : Loan). sep 𝓤 ((Storing 𝓛 mem run).pre (to-store y)) (Keeps y))))
-        lends-store was is-t = lends-to Po.the_type Po'.the_laws Po'.the_plain 𝓛 b o held_at (owns (Tn.the_row ∷ []) (t, tt) (tval t ∷ [], tt)) h (qed 𝓛 [] ∵ nothing ! $ owned ! Tn.the_row (Is Tn.the_row) (LL.makes Tn.the_type Tn'.the_plain 𝓛) t _ is-t $ fjoin ! $ done !) was (whole !)
+        pub lends_store : Is Po.the_row h (pval h ∷ []) → Is Tn.the_row t (tval t ∷ []) → ent 𝓤 (H.at full_share (raw_ty Po'.mir) b o (pval h)) (H.⇛ (ex 𝓤 (λ (y : Loan). sep 𝓤 ((Storing 𝓛 mem run).pre (to_store y)) (Keeps y))))
+        lends_store was is_t = lends_to Po.the_type Po'.the_laws Po'.the_plain 𝓛 b o held_at (owns (Tn.the_row ∷ []) (t, tt) (tval t ∷ [], tt)) h (qed 𝓛 [] ∵ nothing ! $ owned ! Tn.the_row (Is Tn.the_row) (LL.makes Tn.the_type Tn'.the_plain 𝓛) t _ is_t $ fjoin ! $ done !) was (whole !)
 
         abbrev last : Port
         last = stored_at t.at t.login h
@@ -98,5 +98,5 @@ module _ {M : Type 1} {𝓤 : Ura M} (𝓛 : Logic 𝓤) (mem : Memory → SProp
         abbrev pub Stored : Val → Type 0
         Stored = Left u64 (code_of t.said) last
 
-        pub store-back : (y : Loan) (u : Val) → ent 𝓤 (sep 𝓤 ((Storing 𝓛 mem run).post (to-store y) u) (Keeps y)) (H.⇛ (sep 𝓤 (H.at full_share (raw_ty Po'.mir) b o (pval last)) (fact 𝓤 (Stored u))))
-        store-back y u = takes_back Po.the_type Po'.the_laws Po'.the_plain 𝓛 b o held_at u64 (code_of t.said) last (λ k p. (k ≡ code_of t.said) × (p ≡ last)) (λ _ _ e. e) (Unit {0} × Unit {0}) (fsep ftrue ftrue) y u
+        pub store_back : (y : Loan) (u : Val) → ent 𝓤 (sep 𝓤 ((Storing 𝓛 mem run).post (to_store y) u) (Keeps y)) (H.⇛ (sep 𝓤 (H.at full_share (raw_ty Po'.mir) b o (pval last)) (fact 𝓤 (Stored u))))
+        store_back y u = takes_back Po.the_type Po'.the_laws Po'.the_plain 𝓛 b o held_at u64 (code_of t.said) last (λ k p. (k ≡ code_of t.said) × (p ≡ last)) (λ _ _ e. e) (Unit {0} × Unit {0}) (fsep ftrue ftrue) y u

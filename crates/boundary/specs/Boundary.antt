@@ -6,7 +6,7 @@ use Rattle.refusal.specs.Refusal.{number_of}
 use Rattle.state.specs.declared.Setup.{Setup}
 use Rattle.drive.specs.declared.Answer.{Answer}
 use Rattle.drive.specs.declared.Drive.{Drive}
-use Rattle.drive.specs.Drive.{refused, newAnswer}
+use Rattle.drive.specs.Drive.{refused, new_answer}
 
 -- the reply's length, or 65,536 plus the refusal's number
 abbrev pub code_of : Said → ℕ
@@ -18,10 +18,10 @@ abbrev pub Tells : Answer → ℕ → Drive → Type 0
 Tells a n after = (n ≡ code_of a.said) × (after ≡ a.drive)
 
 -- "returns its number and the state unchanged": the drive that stood there before
-abbrev pub orStill : Drive → Said → Answer → Answer
-orStill d (Sent n) a = a
-orStill d (Refused x) a = refused x d
+abbrev pub or_still : Drive → Said → Answer → Answer
+or_still d (Sent n) a = a
+or_still d (Refused x) a = refused x d
 
 -- "Making a drive: 8"
-unfoldable pub makeAnswer : Drive → Setup → Answer
-makeAnswer d s = orStill d (newAnswer s).said (newAnswer s)
+unfoldable pub make_answer : Drive → Setup → Answer
+make_answer d s = or_still d (new_answer s).said (new_answer s)

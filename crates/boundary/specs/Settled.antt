@@ -1,4 +1,4 @@
--- The lent port after a turn, changed where it stands: which logins a change reaches, by their keys. That this is the port after the turn, at a drive that is well formed, is `settled-answer`.
+-- The lent port after a turn, changed where it stands: which logins a change reaches, by their keys. That this is the port after the turn, at a drive that is well formed, is `settled_answer`.
 use Rattle.std.specs.Prelude.{ℕ, ◌+◌, ◌≤◌, ◌<◌, ◌≡◌, Bool, true, false, cond, not, ◌||◌, List, [], ◌∷◌, map, eqb, get_or, set}
 use Rattle.tables.specs.declared.Found.{Found}
 use Rattle.tables.specs.declared.Found.TheVariants.{At, Nothing}
@@ -6,9 +6,9 @@ use Rattle.state.specs.declared.Login.{Login}
 use Rattle.state.specs.declared.Port.{Port}
 use Rattle.state.specs.declared.Change.{Change}
 use Rattle.state.specs.declared.Change.TheVariants.{Keep, EndAll, EndLogin, EndHost, Unprove, EndUnproven, EndExchangesOf, Reset, Clear}
-use Rattle.state.specs.Changes.{withLogins, changedOf}
+use Rattle.state.specs.Changes.{with_logins, changed_of}
 use Rattle.formed.specs.declared.Key.{Key}
-use Rattle.formed.specs.Keys.{keyNamed}
+use Rattle.formed.specs.Keys.{key_named}
 use Rattle.refusal.specs.declared.Refusal.TheVariants.{IllFormed}
 use Rattle.refusal.specs.declared.Said.{Said}
 use Rattle.refusal.specs.declared.Said.TheVariants.{Sent, Refused}
@@ -21,7 +21,7 @@ abbrev pub reaches : Change → Key → Bool
 reaches Keep k = false
 reaches EndAll k = not (eqb k.id 1)
 reaches (EndLogin a) k = eqb k.id (2 + a)
-reaches (EndHost a n) k = eqb k.id (2 + a) || keyNamed n k
+reaches (EndHost a n) k = eqb k.id (2 + a) || key_named n k
 reaches Unprove k = not (eqb k.id 1)
 reaches EndUnproven k = not (eqb k.id 1)
 reaches (EndExchangesOf a) k = eqb k.id (2 + a)
@@ -29,13 +29,13 @@ reaches Reset k = not (eqb k.id 1)
 reaches (Clear a) k = not (eqb k.id 1)
 
 -- the places whose logins a change reaches, by their keys
-abbrev pub marksOf : Change → List Key → List Bool
-marksOf c keys = map (reaches c) keys
+abbrev pub marks_of : Change → List Key → List Bool
+marks_of c keys = map (reaches c) keys
 
 -- the same but for a place
-abbrev pub sparedMarks : List Bool → Found → List Bool
-sparedMarks marks (At i) = set marks i false
-sparedMarks marks Nothing = marks
+abbrev pub spared_marks : List Bool → Found → List Bool
+spared_marks marks (At i) = set marks i false
+spared_marks marks Nothing = marks
 
 -- r is the next place from a place on that is marked, or 8
 pub record NextMarked (marks : List Bool) (from r : ℕ) : Type 0 where
@@ -45,22 +45,22 @@ pub record NextMarked (marks : List Bool) (from r : ℕ) : Type 0 where
   pub here : r < 8 → get_or marks r false ≡ true
 
 -- the logins, those changed whose places are marked
-abbrev pub reachedBy : Change → List Bool → List Login → List Login
-reachedBy c [] ls = ls
-reachedBy c (m ∷ ms) [] = []
-reachedBy c (m ∷ ms) (l ∷ ls) = cond m (changedOf c l) l ∷ reachedBy c ms ls
+abbrev pub reached_by : Change → List Bool → List Login → List Login
+reached_by c [] ls = ls
+reached_by c (m ∷ ms) [] = []
+reached_by c (m ∷ ms) (l ∷ ls) = cond m (changed_of c l) l ∷ reached_by c ms ls
 
 -- the port with these changed
-unfoldable pub reachedOf : Port → List Bool → Change → Port
-reachedOf p marks c = withLogins p (reachedBy c marks p.logins)
+unfoldable pub reached_of : Port → List Bool → Change → Port
+reached_of p marks c = with_logins p (reached_by c marks p.logins)
 
 -- and then the turn's login at its place
 unfoldable pub settled_of : Port → List Key → Turn → Port
-settled_of p keys t = stored_at t.at t.login (reachedOf p (sparedMarks (marksOf t.change keys) t.at) t.change)
+settled_of p keys t = stored_at t.at t.login (reached_of p (spared_marks (marks_of t.change keys) t.at) t.change)
 
 -- an event, seen so: "Event: 2", and "the state unchanged"
-abbrev pub happenedSaid : Bool → Said
-happenedSaid fine = cond fine (Sent 0) (Refused IllFormed)
+abbrev pub happened_said : Bool → Said
+happened_said fine = cond fine (Sent 0) (Refused IllFormed)
 
-abbrev pub happenedOf : Port → Sight → Change → Port
-happenedOf p s c = cond s.fine (reachedOf p (marksOf c s.keys) c) p
+abbrev pub happened_of : Port → Sight → Change → Port
+happened_of p s c = cond s.fine (reached_of p (marks_of c s.keys) c) p

@@ -1,17 +1,17 @@
 // The C boundary: a call sees what it needs of the lent drive, decides on that, and what changes is stored where it stands; include/jhartupal.h declares it.
 ghost use Rattle.std.specs.Prelude.{◌≡◌, ◌<◌, ◌≤◌, length};
-ghost use Rattle.tables.specs.Lists.{onFound};
+ghost use Rattle.tables.specs.Lists.{on_found};
 ghost use Rattle.state.specs.declared.Change.TheVariants.{EndHost};
 ghost use Rattle.drive.specs.declared.Event.TheVariants.{LoopReset, TimeOver, PowerOn};
 ghost use Rattle.state.specs.Changes.{own_of};
-ghost use Rattle.state.specs.Tables.{loginIn};
-ghost use Rattle.calls.specs.View.{sight_of, viewFrom, view_of};
+ghost use Rattle.state.specs.Tables.{login_in};
+ghost use Rattle.calls.specs.View.{sight_of, view_from, view_of};
 ghost use Rattle.calls.specs.Turn.{stored_at, AtBelow};
-ghost use Rattle.drive.specs.Drive.{changeOf, eventAnswer};
-ghost use Rattle.drive.specs.Turn.{unprovenAt};
-ghost use Rattle.drive.specs.Entry.{frameIn, frameInBuffer, frameInWindow, nextFrame, nextFrameBuffer};
-ghost use Rattle.boundary.specs.Boundary.{code_of, Tells, makeAnswer};
-ghost use Rattle.boundary.specs.Settled.{reaches, marksOf, sparedMarks, NextMarked, reachedOf, settled_of, happenedSaid, happenedOf};
+ghost use Rattle.drive.specs.Drive.{change_of, event_answer};
+ghost use Rattle.drive.specs.Turn.{unproven_at};
+ghost use Rattle.drive.specs.Entry.{frame_in, frame_in_buffer, frame_in_window, next_frame, next_frame_buffer};
+ghost use Rattle.boundary.specs.Boundary.{code_of, Tells, make_answer};
+ghost use Rattle.boundary.specs.Settled.{reaches, marks_of, spared_marks, NextMarked, reached_of, settled_of, happened_said, happened_of};
 
 use calls::{Sight, Turn, View, seat_of, see, sight_from};
 use drive::{Answer, Drive, Event, change_of, passed_turn, refusal_number, unproven_at};
@@ -25,7 +25,7 @@ use window::{data_turn, next_turn};
 // Makes a drive in the lent state, from a setup.
 #[unsafe(no_mangle)]
 pub extern "C" fn jhartupal_make(d: &mut Drive, setup: &Setup) -> u64
-    ensures { Tells (makeAnswer d.old setup.now) result d.new }
+    ensures { Tells (make_answer d.old setup.now) result d.new }
 {
     let a = make(*d, *setup);
     *d = a.drive;
@@ -41,9 +41,9 @@ pub extern "C" fn jhartupal_frame(
     window: &mut [u8],
     reply: &mut [u8],
 ) -> u64
-    ensures { Tells (frameIn d.old frame.now start window.old (length reply.old)) result d.new
-        × (reply.new ≡ frameInBuffer d.old frame.now start window.old reply.old)
-        × (window.new ≡ frameInWindow d.old frame.now start window.old (length reply.old)) }
+    ensures { Tells (frame_in d.old frame.now start window.old (length reply.old)) result d.new
+        × (reply.new ≡ frame_in_buffer d.old frame.now start window.old reply.old)
+        × (window.new ≡ frame_in_window d.old frame.now start window.old (length reply.old)) }
 {
     if reply.len() < Header::MOST_FRAME {
         return code(Said::Refused(Refusal::ShortBuffer));
@@ -77,8 +77,8 @@ pub extern "C" fn jhartupal_next(
     window: &[u8],
     reply: &mut [u8],
 ) -> u64
-    ensures { Tells (nextFrame d.old address ox_id start window.now (length reply.old)) result d.new
-        × (reply.new ≡ nextFrameBuffer d.old address ox_id start window.now reply.old) }
+    ensures { Tells (next_frame d.old address ox_id start window.now (length reply.old)) result d.new
+        × (reply.new ≡ next_frame_buffer d.old address ox_id start window.now reply.old) }
 {
     if reply.len() < Header::MOST_FRAME {
         return code(Said::Refused(Refusal::ShortBuffer));
@@ -92,7 +92,7 @@ pub extern "C" fn jhartupal_next(
 // The loop was reset.
 #[unsafe(no_mangle)]
 pub extern "C" fn jhartupal_loop_reset(d: &mut Drive) -> u64
-    ensures { Tells (eventAnswer d.old LoopReset) result d.new }
+    ensures { Tells (event_answer d.old LoopReset) result d.new }
 {
     let s = sight(&mut d.port, d.unit);
     let c = loop_reset();
@@ -102,7 +102,7 @@ pub extern "C" fn jhartupal_loop_reset(d: &mut Drive) -> u64
 // The verification time is over.
 #[unsafe(no_mangle)]
 pub extern "C" fn jhartupal_time_over(d: &mut Drive) -> u64
-    ensures { Tells (eventAnswer d.old TimeOver) result d.new }
+    ensures { Tells (event_answer d.old TimeOver) result d.new }
 {
     let s = sight(&mut d.port, d.unit);
     let c = time_over();
@@ -112,7 +112,7 @@ pub extern "C" fn jhartupal_time_over(d: &mut Drive) -> u64
 // The drive powers on.
 #[unsafe(no_mangle)]
 pub extern "C" fn jhartupal_power_on(d: &mut Drive) -> u64
-    ensures { Tells (eventAnswer d.old PowerOn) result d.new }
+    ensures { Tells (event_answer d.old PowerOn) result d.new }
 {
     let s = sight(&mut d.port, d.unit);
     let c = power_on();
@@ -152,7 +152,7 @@ fn view(p: &mut Port, u: Unit, address: u32) -> View
 // The same once the logins were looked at: the login at a seat is read where it stands. A frame that is refused costs no copy of it.
 fn seen(p: &mut Port, u: Unit, s: Sight, seat: Found) -> View
     requires { AtBelow seat }
-    ensures { (result ≡ viewFrom u (own_of p.old) s seat (loginIn p.old seat)) × (p.new ≡ p.old) }
+    ensures { (result ≡ view_from u (own_of p.old) s seat (login_in p.old seat)) × (p.new ≡ p.old) }
 {
     let at = place_or_first(seat);
     see(
@@ -170,7 +170,7 @@ fn seen(p: &mut Port, u: Unit, s: Sight, seat: Found) -> View
 // Whether the login at a seat is unproven; where there is none it is not.
 fn is_unproven(p: &mut Port, seat: Found) -> bool
     requires { AtBelow seat }
-    ensures { (result ≡ unprovenAt seat (loginIn p.old seat).proven) × (p.new ≡ p.old) }
+    ensures { (result ≡ unproven_at seat (login_in p.old seat).proven) × (p.new ≡ p.old) }
 {
     let at = place_or_first(seat);
     unproven_at(seat, p.logins[at].proven)
@@ -187,7 +187,7 @@ fn settle(p: &mut Port, keys: [Key; 8], t: Turn) -> u64
 
 // Changes the logins that are marked, each where it stands.
 fn reach(p: &mut Port, m: [bool; 8], c: Change)
-    ensures { p.new ≡ reachedOf p.old m c }
+    ensures { p.new ≡ reached_of p.old m c }
 {
     let mut i = next_marked(m, 0);
     while i < Port::LOGINS {
@@ -212,7 +212,7 @@ fn store(p: &mut Port, t: Turn) -> u64
 
 // An event: every login that is seen changes where it stands, or refusal 2 and the port stays as it was.
 fn happen(p: &mut Port, s: Sight, c: Change) -> u64
-    ensures { (result ≡ code_of (happenedSaid s.fine)) × (p.new ≡ happenedOf p.old s c) }
+    ensures { (result ≡ code_of (happened_said s.fine)) × (p.new ≡ happened_of p.old s c) }
 {
     if s.fine {
         reach(p, marks(s.keys, c), c);
@@ -225,7 +225,7 @@ fn happen(p: &mut Port, s: Sight, c: Change) -> u64
 // A place, or the first where there is none.
 fn place_or_first(f: Found) -> usize
     requires { AtBelow f }
-    ensures { (result ≡ onFound f (λ i. i) 0) × (result < 8) }
+    ensures { (result ≡ on_found f (λ i. i) 0) × (result < 8) }
 {
     match f {
         Found::At(i) => i,
@@ -235,7 +235,7 @@ fn place_or_first(f: Found) -> usize
 
 // A place, or 8 where there is none.
 fn place_or_none(f: Found) -> usize
-    ensures { result ≡ onFound f (λ i. i) 8 }
+    ensures { result ≡ on_found f (λ i. i) 8 }
 {
     match f {
         Found::At(i) => i,
@@ -245,7 +245,7 @@ fn place_or_none(f: Found) -> usize
 
 // The places whose logins a change reaches, by their keys.
 fn marks(keys: [Key; 8], c: Change) -> [bool; 8]
-    ensures { result ≡ marksOf c keys }
+    ensures { result ≡ marks_of c keys }
 {
     let mut m = [false; 8];
     let mut i: usize = 0;
@@ -259,7 +259,7 @@ fn marks(keys: [Key; 8], c: Change) -> [bool; 8]
 
 // The same but for a place.
 fn spare(marks: [bool; 8], at: Found) -> [bool; 8]
-    ensures { result ≡ sparedMarks marks at }
+    ensures { result ≡ spared_marks marks at }
 {
     let mut m = marks;
     let i = place_or_none(at);
@@ -313,26 +313,26 @@ fn of_host(k: Key, address: u32, name: u64) -> bool
 }
 
 fn loop_reset() -> Change
-    ensures { result ≡ changeOf LoopReset }
+    ensures { result ≡ change_of LoopReset }
 {
     change_of(Event::LoopReset)
 }
 
 fn time_over() -> Change
-    ensures { result ≡ changeOf TimeOver }
+    ensures { result ≡ change_of TimeOver }
 {
     change_of(Event::TimeOver)
 }
 
 fn power_on() -> Change
-    ensures { result ≡ changeOf PowerOn }
+    ensures { result ≡ change_of PowerOn }
 {
     change_of(Event::PowerOn)
 }
 
 // The drive made, or refusal 8 and the drive as it was.
 fn make(d: Drive, setup: Setup) -> Answer
-    ensures { result ≡ makeAnswer d setup }
+    ensures { result ≡ make_answer d setup }
 {
     let a = Drive::new(setup);
     let said = a.said;

@@ -8,7 +8,7 @@ use Rattle.state.specs.declared.Login.{Login}
 use Rattle.state.specs.declared.Port.{Port}
 use Rattle.state.specs.declared.Change.{Change}
 use Rattle.state.specs.declared.Change.TheVariants.{Keep}
-use Rattle.state.specs.Changes.{emptyLogin, withLogin, changedAll}
+use Rattle.state.specs.Changes.{empty_login, with_login, changed_all}
 use Rattle.reply.specs.declared.Reply.{Reply}
 use Rattle.calls.specs.declared.Served.{Served}
 use Rattle.calls.specs.declared.Decision.{Decision}
@@ -19,56 +19,56 @@ pub record Decided : Type 0 where
   pub reply : Reply
   pub port : Port
 
-abbrev pub decidedAs : Reply → Port → Decided
-decidedAs r p = record { reply = r; port = p }
+abbrev pub decided_as : Reply → Port → Decided
+decided_as r p = record { reply = r; port = p }
 
 -- the reply, and the login after it
-abbrev pub servedAs : Reply → Login → Served
-servedAs r l = record { reply = r; login = l }
+abbrev pub served_as : Reply → Login → Served
+served_as r l = record { reply = r; login = l }
 
 -- the login out of the table, the service, the login back
 abbrev pub served_at : Port → ℕ → Served → Decided
-served_at p i s = decidedAs s.reply (withLogin p i s.login)
+served_at p i s = decided_as s.reply (with_login p i s.login)
 
 -- a reply, and a change of every login
 abbrev pub changes : Reply → Change → Decision
-changes r c = record { reply = r; change = c; at = Nothing; login = emptyLogin }
+changes r c = record { reply = r; change = c; at = Nothing; login = empty_login }
 
 -- a reply, and nothing changes
-abbrev pub answersOnly : Reply → Decision
-answersOnly r = changes r Keep
+abbrev pub answers_only : Reply → Decision
+answers_only r = changes r Keep
 
 -- a reply, and the login at a place after it; no other login changes
 abbrev pub stores : Reply → ℕ → Login → Decision
 stores r i l = record { reply = r; change = Keep; at = At i; login = l }
 
 -- a service on the login at a place
-abbrev pub servedIn : ℕ → Served → Decision
-servedIn i s = stores s.reply i s.login
+abbrev pub served_in : ℕ → Served → Decision
+served_in i s = stores s.reply i s.login
 
 -- "returns its number and the state unchanged"
-abbrev pub refusedTurn : Refusal → Turn
-refusedTurn x = record { said = Refused x; change = Keep; at = Nothing; login = emptyLogin }
+abbrev pub refused_turn : Refusal → Turn
+refused_turn x = record { said = Refused x; change = Keep; at = Nothing; login = empty_login }
 
 -- the reply's length, and what changes
-abbrev pub sentTurn : ℕ → Decision → Turn
-sentTurn n d = record { said = Sent n; change = d.change; at = d.at; login = d.login }
+abbrev pub sent_turn : ℕ → Decision → Turn
+sent_turn n d = record { said = Sent n; change = d.change; at = d.at; login = d.login }
 
 -- a login stored at a place, or at none
 abbrev pub stored_at : Found → Login → Port → Port
-stored_at (At i) l p = withLogin p i l
+stored_at (At i) l p = with_login p i l
 stored_at Nothing l p = p
 
 -- the port after a turn, and after a decision: the change of every login, and then the login at its place
-abbrev pub portAfter : Port → Turn → Port
-portAfter p t = stored_at t.at t.login (changedAll t.change p)
+abbrev pub port_after : Port → Turn → Port
+port_after p t = stored_at t.at t.login (changed_all t.change p)
 
-abbrev pub decidedPort : Port → Decision → Port
-decidedPort p d = portAfter p (sentTurn 0 d)
+abbrev pub decided_port : Port → Decision → Port
+decided_port p d = port_after p (sent_turn 0 d)
 
 -- the reply, and the port after it
-abbrev pub decidedBy : Port → Decision → Decided
-decidedBy p d = decidedAs d.reply (decidedPort p d)
+abbrev pub decided_by : Port → Decision → Decided
+decided_by p d = decided_as d.reply (decided_port p d)
 
 -- "8 logins at most": a place that is told is one of the table's eight
 abbrev pub AtBelow : Found → Type 0

@@ -1,9 +1,9 @@
 // What a call sees of the drive, and what it does, told by what changes: every service decides on the one and answers the other.
 ghost use Rattle.std.specs.Prelude.{◌≡◌};
 ghost use Rattle.tables.specs.Lists.{Within};
-ghost use Rattle.state.specs.Tables.{loginIn};
-ghost use Rattle.calls.specs.View.{isAny, findAny, seatOf, placeFor, sightFrom, sight_of, viewFrom, view_of};
-ghost use Rattle.calls.specs.Turn.{answersOnly, stores, changes, servedAs, servedIn, refusedTurn, sentTurn, portAfter};
+ghost use Rattle.state.specs.Tables.{login_in};
+ghost use Rattle.calls.specs.View.{is_any, find_any, seat_of, place_for, sight_from, sight_of, view_from, view_of};
+ghost use Rattle.calls.specs.Turn.{answers_only, stores, changes, served_as, served_in, refused_turn, sent_turn, port_after};
 
 use formed::{Key, all_fine, key_named, login_keys};
 use refusal::{Refusal, Said};
@@ -56,7 +56,7 @@ pub struct Turn {
 }
 
 fn is_any(k: Key, a: u64, b: u64, name: u64) -> bool
-    ensures { result ≡ isAny a b name k }
+    ensures { result ≡ is_any a b name k }
 {
     if k.id == a {
         return true;
@@ -69,7 +69,7 @@ fn is_any(k: Key, a: u64, b: u64, name: u64) -> bool
 
 // The lowest place whose key is one of two, or has a name.
 fn find_any(keys: [Key; 8], a: u64, b: u64, name: u64) -> Found
-    ensures { Within (findAny keys a b name) 8 result }
+    ensures { Within (find_any keys a b name) 8 result }
 {
     let mut i: usize = 0;
     while i < Port::LOGINS {
@@ -84,7 +84,7 @@ fn find_any(keys: [Key; 8], a: u64, b: u64, name: u64) -> Found
 
 // The place of the login of an address.
 pub fn seat_of(keys: [Key; 8], address: u32) -> Found
-    ensures { Within (seatOf keys address) 8 result }
+    ensures { Within (seat_of keys address) 8 result }
 {
     let k = 2 + address as u64;
     find_any(keys, k, k, 0)
@@ -92,7 +92,7 @@ pub fn seat_of(keys: [Key; 8], address: u32) -> Found
 
 // The lowest place that is free once the logins of an address and of a port name have ended.
 pub fn place_for(keys: [Key; 8], address: u32, name: u64) -> Found
-    ensures { Within (placeFor keys address name) 8 result }
+    ensures { Within (place_for keys address name) 8 result }
 {
     let k = 2 + address as u64;
     find_any(keys, 1, k, name)
@@ -100,7 +100,7 @@ pub fn place_for(keys: [Key; 8], address: u32, name: u64) -> Found
 
 // What every call sees of logins with these keys.
 pub fn sight_from(u: Unit, o: Own, keys: [Key; 8]) -> Sight
-    ensures { result ≡ sightFrom u o keys }
+    ensures { result ≡ sight_from u o keys }
 {
     let fine = all_fine(u, o, keys);
     Sight {
@@ -120,7 +120,7 @@ pub fn sight_of(u: Unit, p: Port) -> Sight
 
 // What a call sees, from what was read of the drive; l is the login at the seat, and any other where there is none.
 pub fn see(u: Unit, o: Own, s: Sight, seat: Found, l: Login) -> View
-    ensures { result ≡ viewFrom u o s seat l }
+    ensures { result ≡ view_from u o s seat l }
 {
     let keys = s.keys;
     let login = match seat {
@@ -151,7 +151,7 @@ pub fn look(u: Unit, p: Port, address: u32) -> View
 
 // The login at a seat, an empty one where there is none.
 fn login_in(p: Port, seat: Found) -> Login
-    ensures { result ≡ loginIn p seat }
+    ensures { result ≡ login_in p seat }
 {
     match seat {
         Found::At(i) => login_at(p, i),
@@ -161,7 +161,7 @@ fn login_in(p: Port, seat: Found) -> Login
 
 // A reply, and nothing changes.
 pub fn answer_only(r: Reply) -> Decision
-    ensures { result ≡ answersOnly r }
+    ensures { result ≡ answers_only r }
 {
     change_logins(r, Change::Keep)
 }
@@ -193,14 +193,14 @@ pub fn change_logins(r: Reply, c: Change) -> Decision
 
 // A reply with the login after it.
 pub fn serve_as(r: Reply, l: Login) -> Served
-    ensures { result ≡ servedAs r l }
+    ensures { result ≡ served_as r l }
 {
     Served { reply: r, login: l }
 }
 
 // A service on the login at a place.
 pub fn serve_at(i: usize, s: Served) -> Decision
-    ensures { result ≡ servedIn i s }
+    ensures { result ≡ served_in i s }
 {
     let r = s.reply;
     let l = s.login;
@@ -209,7 +209,7 @@ pub fn serve_at(i: usize, s: Served) -> Decision
 
 // A refusal: nothing changes.
 pub fn refuse_turn(x: Refusal) -> Turn
-    ensures { result ≡ refusedTurn x }
+    ensures { result ≡ refused_turn x }
 {
     let l = empty_login();
     Turn {
@@ -222,7 +222,7 @@ pub fn refuse_turn(x: Refusal) -> Turn
 
 // A decision whose reply was written, in so many bytes.
 pub fn send_turn(n: usize, d: Decision) -> Turn
-    ensures { result ≡ sentTurn n d }
+    ensures { result ≡ sent_turn n d }
 {
     let c = d.change;
     let i = d.at;
@@ -237,7 +237,7 @@ pub fn send_turn(n: usize, d: Decision) -> Turn
 
 // The port after a turn: every login changed so, and then that login at its place.
 pub fn port_after(p: Port, t: Turn) -> Port
-    ensures { result ≡ portAfter p t }
+    ensures { result ≡ port_after p t }
 {
     let c = t.change;
     let at = t.at;

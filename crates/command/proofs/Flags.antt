@@ -7,7 +7,7 @@ use borrow.Author.Tests.{not-true}
 use Rattle.tables.proofs.Bools.{or_left, or_right}
 use Rattle.tables.proofs.Below.{agree}
 use Rattle.command.specs.declared.Task.TheVariants.{Code}
-use Rattle.command.specs.Cmnd.{taskFor}
+use Rattle.command.specs.Cmnd.{task_for}
 
 -- a flag of a byte, 1 where it is set, and how many are
 abbrev pub flag : ℕ → ℕ → ℕ
@@ -17,28 +17,28 @@ abbrev pub flags : ℕ → ℕ
 flags t = flag 1 t + flag 2 t + flag 4 t + flag 8 t + flag 16 t + flag 32 t + flag 64 t + flag 128 t
 
 -- "a task flag of 01h, 08h, 10h, or two flags"
-abbrev pub wrongTask : ℕ → Bool
-wrongTask t = eqb (flag 0x01 t) 1 || eqb (flag 0x08 t) 1 || eqb (flag 0x10 t) 1 || leb 2 (flags t)
+abbrev pub wrong_task : ℕ → Bool
+wrong_task t = eqb (flag 0x01 t) 1 || eqb (flag 0x08 t) 1 || eqb (flag 0x10 t) 1 || leb 2 (flags t)
 
 -- no flag, or one that has a meaning
-abbrev pub knownTask : ℕ → Bool
-knownTask t = eqb t 0x00 || eqb t 0x80 || eqb t 0x40 || eqb t 0x20 || eqb t 0x04 || eqb t 0x02
+abbrev pub known_task : ℕ → Bool
+known_task t = eqb t 0x00 || eqb t 0x80 || eqb t 0x40 || eqb t 0x20 || eqb t 0x04 || eqb t 0x02
 
 -- every other byte has a meaning
-pub tasks-are : (t : ℕ) → t < 256 → wrongTask t ≡ not (knownTask t)
-tasks-are = agree wrongTask (λ t. not (knownTask t)) 256 refl
+pub tasks_are : (t : ℕ) → t < 256 → wrong_task t ≡ not (known_task t)
+tasks_are = agree wrong_task (λ t. not (known_task t)) 256 refl
 
 -- and these are answered with 02
-pub wrong-tasks : (t lun from : ℕ) → t < 256 → wrongTask t ≡ true → taskFor t lun from ≡ Code 0x02
-unfolding taskFor
-wrong-tasks t lun from h w =
+pub wrong_tasks : (t lun from : ℕ) → t < 256 → wrong_task t ≡ true → task_for t lun from ≡ Code 0x02
+unfolding task_for
+wrong_tasks t lun from h w =
     let none = eqb t 0x00 in
     let a = eqb t 0x80 in
     let b = eqb t 0x40 in
     let c = eqb t 0x20 in
     let d = eqb t 0x04 in
     let e = eqb t 0x02 in
-    let n₅ = not-true (knownTask t) (sym (tasks-are t h) ∙ w) in
+    let n₅ = not-true (known_task t) (sym (tasks_are t h) ∙ w) in
     let n₄ = or_left (none || a || b || c || d) e n₅ in
     let n₃ = or_left (none || a || b || c) d n₄ in
     let n₂ = or_left (none || a || b) c n₃ in

@@ -16,100 +16,100 @@ use Rattle.state.specs.declared.Login.{Login}
 use Rattle.state.specs.declared.Port.{Port}
 use Rattle.state.specs.declared.Unit.{Unit}
 use Rattle.state.specs.declared.Change.TheVariants.{EndLogin}
-use Rattle.state.specs.Changes.{isClosed, loginAt, withAttention, withExchange}
-use Rattle.state.specs.Tables.{findLogin, findExchange, loginIn, loginOf, soughtIn}
-use Rattle.formed.specs.Formed.{total, fullFrame, openable, exchangeFine, wellFormed}
+use Rattle.state.specs.Changes.{is_closed, login_at, with_attention, with_exchange}
+use Rattle.state.specs.Tables.{find_login, find_exchange, login_in, login_of, sought_in}
+use Rattle.formed.specs.Formed.{total, full_frame, openable, exchange_fine, well_formed}
 use Rattle.formed.proofs.Parts.{Used}
-use Rattle.formed.proofs.Sizes.{stored-size}
-use Rattle.formed.proofs.Keeping.{attention-used, open-used, end-used, change-kept}
+use Rattle.formed.proofs.Sizes.{stored_size}
+use Rattle.formed.proofs.Keeping.{attention_used, open_used, end_used, change_kept}
 use Rattle.calls.specs.Turn.{Decided, served_at}
-use Rattle.calls.proofs.Views.{sought-is}
-use Rattle.calls.proofs.Decisions.{on-cond, on-found}
-use Rattle.calls.proofs.Keeping.{Keeps, stays, stored-kept}
+use Rattle.calls.proofs.Views.{sought_is}
+use Rattle.calls.proofs.Decisions.{on_cond, on_found_lem}
+use Rattle.calls.proofs.Keeping.{Keeps, stays, stored_kept}
 use Rattle.command.specs.declared.Cmnd.{Cmnd}
 use Rattle.command.specs.declared.Decoded.{Decoded}
 use Rattle.command.specs.declared.Task.{Task}
 use Rattle.command.specs.declared.Task.TheVariants as task
-use Rattle.command.specs.Cmnd.{cmndOf, task_of}
-use Rattle.command.specs.Cdb.{range10, decodedOf, Countable}
-use Rattle.command.specs.Command.{executeOf, doneAs, commandedAt, loggedOut, commandOf}
-use Rattle.command.proofs.Moves.{operationOf, Moves, same, ends, tells, opens, execute-moves}
-use Rattle.command.proofs.Opens.{New, exchange-new, moved_none, wants-opens}
+use Rattle.command.specs.Cmnd.{cmnd_of, task_of}
+use Rattle.command.specs.Cdb.{range10, decoded_of, Countable}
+use Rattle.command.specs.Command.{execute_of, done_as, commanded_at, logged_out, command_of}
+use Rattle.command.proofs.Moves.{operation_of, Moves, same, ends, tells, opens, execute_moves}
+use Rattle.command.proofs.Opens.{New, exchange_new, moved_none, wants_opens}
 
 -- what a command on a paired login makes of it is fine
-module _ (u : Unit) (own : ℕ) (l : Login) (pair : eqb l.paired 1 ≡ true) (ox : ℕ) (c : Cmnd) (few : Countable (operationOf c)) where
-  module _ (e : Exchange) (new : New ox e) (may : openable u e ≡ true) (none : findExchange l ox ≡ Nothing) where
-    fine : Used u own l → exchangeFine u (fullFrame l.size) l.paired e ≡ true
-    unfolding exchangeFine
+module _ (u : Unit) (own : ℕ) (l : Login) (pair : eqb l.paired 1 ≡ true) (ox : ℕ) (c : Cmnd) (few : Countable (operation_of c)) where
+  module _ (e : Exchange) (new : New ox e) (may : openable u e ≡ true) (none : find_exchange l ox ≡ Nothing) where
+    fine : Used u own l → exchange_fine u (full_frame l.size) l.paired e ≡ true
+    unfolding exchange_fine
     fine h =
-        let least : 256 ≤ l.size = stored-size l h.params in
-        rw (pair, may, moved_none (fullFrame l.size) e (omega arith) new) (or-true (isClosed e))
+        let least : 256 ≤ l.size = stored_size l h.params in
+        rw (pair, may, moved_none (full_frame l.size) e (omega arith) new) (or-true (is_closed e))
 
-    opened : (b : Bool) (j : ℕ) → Keeps u own l (withExchange (cond b (withAttention l 0) l) j e)
-    unfolding withExchange findExchange
-    opened true j = stays refl refl refl (λ h. open-used {l = withAttention l 0} (attention-used h 0 refl) j e (fine h) (rw new.id none))
-    opened false j = stays refl refl refl (λ h. open-used h j e (fine h) (rw new.id none))
+    opened : (b : Bool) (j : ℕ) → Keeps u own l (with_exchange (cond b (with_attention l 0) l) j e)
+    unfolding with_exchange find_exchange
+    opened true j = stays refl refl refl (λ h. open_used {l = with_attention l 0} (attention_used h 0 refl) j e (fine h) (rw new.id none))
+    opened false j = stays refl refl refl (λ h. open_used h j e (fine h) (rw new.id none))
 
-  moves-fine : (place : Found) → place ≡ findExchange l ox → (m : Login) → Moves u l place ox c m → Keeps u own l m
-  unfolding withExchange
-  moves-fine place at m same = stays refl refl refl (λ h. h)
-  moves-fine place at m (ends j) = stays refl refl refl (λ h. end-used h j)
-  moves-fine place at m tells = stays refl refl refl (λ h. attention-used h 0 refl)
-  moves-fine place at m (opens b j e p n none) =
-      opened e (rw p.is (exchange-new (operationOf c) l.attention ox c.lun c.expected)) (could n) (sym at ∙ none) b j
+  moves_fine : (place : Found) → place ≡ find_exchange l ox → (m : Login) → Moves u l place ox c m → Keeps u own l m
+  unfolding with_exchange
+  moves_fine place at m same = stays refl refl refl (λ h. h)
+  moves_fine place at m (ends j) = stays refl refl refl (λ h. end_used h j)
+  moves_fine place at m tells = stays refl refl refl (λ h. attention_used h 0 refl)
+  moves_fine place at m (opens b j e p n none) =
+      opened e (rw p.is (exchange_new (operation_of c) l.attention ox c.lun c.expected)) (could n) (sym at ∙ none) b j
     where
       could : (total e ≡ 0 → ⊥) → openable u e ≡ true
-      could = rw p.is (wants-opens u (operationOf c) l.attention ox c.lun c.expected few p.allowed p.within)
+      could = rw p.is (wants_opens u (operation_of c) l.attention ox c.lun c.expected few p.allowed p.within)
 
 -- a CDB's count of blocks is two bytes
 abbrev Small : Decoded → Type 0
 Small d = Countable d.operation
 
-countable : (cdb : List ℕ) → num 2 cdb 7 ≤ 65535 → Small (decodedOf cdb)
-unfolding decodedOf range10
+countable : (cdb : List ℕ) → num 2 cdb 7 ≤ 65535 → Small (decoded_of cdb)
+unfolding decoded_of range10
 countable cdb few =
     let code = get_or cdb 0 0 in
-    on-cond Small (eqb code 0x00) tt
-    (on-cond Small (eqb code 0x03) tt
-    (on-cond Small (eqb code 0x12) tt
-    (on-cond Small (eqb code 0x25) tt
-    (on-cond Small (eqb code 0x28) few
-    (on-cond Small (eqb code 0x2a) few tt)))))
+    on_cond Small (eqb code 0x00) tt
+    (on_cond Small (eqb code 0x03) tt
+    (on_cond Small (eqb code 0x12) tt
+    (on_cond Small (eqb code 0x25) tt
+    (on_cond Small (eqb code 0x28) few
+    (on_cond Small (eqb code 0x2a) few tt)))))
 
-module _ (u : Unit) (p : Port) (h : Header) (f : List ℕ) (known : AllBytes f) (w : wellFormed u p ≡ true) where
+module _ (u : Unit) (p : Port) (h : Header) (f : List ℕ) (known : AllBytes f) (w : well_formed u p ≡ true) where
   abbrev from : ℕ
   from = h.s_id
 
   abbrev Kept : Decided → Type 0
-  Kept d = wellFormed u d.port ≡ true
+  Kept d = well_formed u d.port ≡ true
 
-  out-kept : Kept (loggedOut p from)
-  unfolding loggedOut
-  out-kept = change-kept u p w (EndLogin from)
+  out_kept : Kept (logged_out p from)
+  unfolding logged_out
+  out_kept = change_kept u p w (EndLogin from)
 
-  few : Countable (operationOf (cmndOf f))
-  unfolding cmndOf
-  few = countable (cmndOf f).cdb (let a = known 43 in let b = known 44 in omega arith)
+  few : Countable (operation_of (cmnd_of f))
+  unfolding cmnd_of
+  few = countable (cmnd_of f).cdb (let a = known 43 in let b = known 44 in omega arith)
 
-  done-kept : (t : Task) (d : Decided) → Kept d → Kept (doneAs t p d)
-  done-kept (task.Code code) d x = w
-  done-kept (task.Apply e) d x = change-kept u p w e
-  done-kept task.Execute d x = x
+  done_kept : (t : Task) (d : Decided) → Kept d → Kept (done_as t p d)
+  done_kept (task.Code code) d x = w
+  done_kept (task.Apply e) d x = change_kept u p w e
+  done_kept task.Execute d x = x
 
   -- test 1 looks where the sender's login has its exchanges
-  sought : (i : ℕ) → findLogin p from ≡ At i → soughtIn p from h.ox_id ≡ findExchange (loginAt p i) h.ox_id
-  unfolding loginOf
-  sought i at = sought-is p from h.ox_id ∙ ap (λ (g : Found). findExchange (loginIn p g) h.ox_id) at
+  sought : (i : ℕ) → find_login p from ≡ At i → sought_in p from h.ox_id ≡ find_exchange (login_at p i) h.ox_id
+  unfolding login_of
+  sought i at = sought_is p from h.ox_id ∙ ap (λ (g : Found). find_exchange (login_in p g) h.ox_id) at
 
-  at-kept : (i : ℕ) → findLogin p from ≡ At i → (b : Bool) → eqb (loginAt p i).paired 1 ≡ b → Kept (cond b (commandedAt u p i h (cmndOf f) (length f)) (loggedOut p from))
-  unfolding commandedAt
-  at-kept i at true pair =
-      let place = soughtIn p from h.ox_id in
-      done-kept (task_of (cmndOf f) (length f) from) (served_at p i (executeOf u (loginAt p i) place h.ox_id (cmndOf f)))
-      (stored-kept u p w from i _ at (moves-fine u p.address (loginAt p i) pair h.ox_id (cmndOf f) few place (sought i at) _ (execute-moves u (loginAt p i) place h.ox_id (cmndOf f))))
-  at-kept i at false pair = out-kept
+  at_kept : (i : ℕ) → find_login p from ≡ At i → (b : Bool) → eqb (login_at p i).paired 1 ≡ b → Kept (cond b (commanded_at u p i h (cmnd_of f) (length f)) (logged_out p from))
+  unfolding commanded_at
+  at_kept i at true pair =
+      let place = sought_in p from h.ox_id in
+      done_kept (task_of (cmnd_of f) (length f) from) (served_at p i (execute_of u (login_at p i) place h.ox_id (cmnd_of f)))
+      (stored_kept u p w from i _ at (moves_fine u p.address (login_at p i) pair h.ox_id (cmnd_of f) few place (sought i at) _ (execute_moves u (login_at p i) place h.ox_id (cmnd_of f))))
+  at_kept i at false pair = out_kept
 
   -- no FCP_CMND makes a state ill formed
-  pub command-kept : wellFormed u (commandOf u p h f).port ≡ true
-  unfolding commandOf
-  command-kept = on-found Kept (findLogin p from) _ _ (λ i at. at-kept i at (eqb (loginAt p i).paired 1) refl) (λ _. out-kept)
+  pub command_kept : well_formed u (command_of u p h f).port ≡ true
+  unfolding command_of
+  command_kept = on_found_lem Kept (find_login p from) _ _ (λ i at. at_kept i at (eqb (login_at p i).paired 1) refl) (λ _. out_kept)

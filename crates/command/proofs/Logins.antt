@@ -8,51 +8,51 @@ use lib.Dec.{eqb}
 use lib.ListN.{length}
 use Rattle.tables.specs.declared.Found.{Found}
 use Rattle.tables.specs.declared.Found.TheVariants.{At, Nothing}
-use Rattle.tables.specs.Lists.{all, onFound, pairs}
+use Rattle.tables.specs.Lists.{all, on_found, pairs}
 use Rattle.tables.proofs.Bools.{apart}
-use Rattle.tables.proofs.Searches.{found_below, same-found}
+use Rattle.tables.proofs.Searches.{found_below, same_found}
 use Rattle.frame.specs.declared.Header.{Header}
 use Rattle.state.specs.declared.Exchange.{Exchange}
 use Rattle.state.specs.declared.Login.{Login}
 use Rattle.state.specs.declared.Port.{Port}
 use Rattle.state.specs.declared.Unit.{Unit}
 use Rattle.state.specs.declared.Change.TheVariants.{Keep, EndExchangesOf, Reset, Clear}
-use Rattle.state.specs.Changes.{emptyLogin, isUsed, hasAddress, loginAt, withState, withLogin, withExchange, withoutExchanges, abortedOf, resetOf, losesTo, clearedBy, changedAll}
-use Rattle.state.specs.Tables.{findLogin, findExchange, freeExchange, loginIn, loginOf, soughtIn}
-use Rattle.state.proofs.Places.{found-has, stored_at, login-other}
-use Rattle.formed.specs.Formed.{total, loginFine, apartLogin}
+use Rattle.state.specs.Changes.{empty_login, is_used, has_address, login_at, with_state, with_login, with_exchange, without_exchanges, aborted_of, reset_of, loses_to, cleared_by, changed_all}
+use Rattle.state.specs.Tables.{find_login, find_exchange, free_exchange, login_in, login_of, sought_in}
+use Rattle.state.proofs.Places.{found_has, stored_at, login_other}
+use Rattle.formed.specs.Formed.{total, login_fine, apart_login}
 use Rattle.reply.specs.declared.Reply.{Reply}
 use Rattle.reply.specs.declared.Reply.TheVariants as reply
 use Rattle.reply.specs.declared.Response.{Response}
 use Rattle.calls.specs.declared.View.{View}
 use Rattle.calls.specs.declared.Served.{Served}
 use Rattle.calls.specs.View.{view_of}
-use Rattle.calls.specs.Turn.{Decided, served_at, servedIn}
+use Rattle.calls.specs.Turn.{Decided, served_at, served_in}
 use Rattle.calls.specs.Others.{Elsewhere, LeavesLogin}
-use Rattle.calls.proofs.Views.{view-seat, view-login}
-use Rattle.calls.proofs.Decisions.{on-cond, on-found}
-use Rattle.calls.proofs.Others.{other-has, changed-sees, seat-another}
+use Rattle.calls.proofs.Views.{view_seat, view_login}
+use Rattle.calls.proofs.Decisions.{on_cond, on_found_lem}
+use Rattle.calls.proofs.Others.{other_has, changed_sees, seat_another}
 use Rattle.command.specs.declared.Cmnd.{Cmnd}
 use Rattle.command.specs.declared.Task.{Task}
 use Rattle.command.specs.declared.Task.TheVariants as task
 use Rattle.command.specs.declared.Asked.{Asked}
 use Rattle.command.specs.declared.Asked.TheVariants as asked
-use Rattle.command.specs.Cmnd.{cmndOf, malformed, taskFor, task_of}
+use Rattle.command.specs.Cmnd.{cmnd_of, malformed, task_for, task_of}
 use Rattle.command.specs.Tests.{asked_of}
-use Rattle.command.specs.Command.{refusedWith, bitFor, opened_of, answeredAs, executeOf, doneAs, commandedAt, loggedOut, commandOf}
-use Rattle.command.specs.Turn.{taskTurn, commandedTurn, commandTurn}
-use Rattle.command.proofs.Moves.{Moves, same, ends, tells, opens, execute-moves}
+use Rattle.command.specs.Command.{refused_with, bit_for, opened_of, answered_as, execute_of, done_as, commanded_at, logged_out, command_of}
+use Rattle.command.specs.Turn.{task_turn, commanded_turn, command_turn}
+use Rattle.command.proofs.Moves.{Moves, same, ends, tells, opens, execute_moves}
 
 -- a login with another attention and other exchanges
 pub data Alike (l : Login) : Login → Type 0 where
-  alike : (attention : ℕ) (es : List Exchange) → Alike l (withState l l.proven l.paired attention es)
+  alike : (attention : ℕ) (es : List Exchange) → Alike l (with_state l l.proven l.paired attention es)
 
 itself : (l : Login) → Alike l l
 itself l = alike l.attention l.places
 
-alike-has : {l m : Login} → Alike l m → (a : ℕ) → hasAddress a m ≡ hasAddress a l
-unfolding hasAddress
-alike-has (alike n es) a = refl
+alike_has : {l m : Login} → Alike l m → (a : ℕ) → has_address a m ≡ has_address a l
+unfolding has_address
+alike_has (alike n es) a = refl
 
 -- the task flags of a sender end logins of nobody
 pub data Mild (from : ℕ) : Task → Type 0 where
@@ -62,59 +62,59 @@ pub data Mild (from : ℕ) : Task → Type 0 where
   clear : Mild from (task.Apply (Clear from))
   execute : Mild from task.Execute
 
-pub task-mild : (c : Cmnd) (n from : ℕ) → Mild from (task_of c n from)
-unfolding task_of taskFor
-task-mild c n from =
+pub task_mild : (c : Cmnd) (n from : ℕ) → Mild from (task_of c n from)
+unfolding task_of task_for
+task_mild c n from =
     let t = c.task in
     let zero = eqb c.lun 0 in
-    on-cond (Mild from) (malformed n c.bits) (code 2)
-    (on-cond (Mild from) (eqb t 0x00) execute
-    (on-cond (Mild from) (eqb t 0x80) (code 4)
-    (on-cond (Mild from) (eqb t 0x40) (code 4)
-    (on-cond (Mild from) (eqb t 0x20) reset
-    (on-cond (Mild from) (eqb t 0x04) (on-cond (Mild from) zero clear (code 5))
-    (on-cond (Mild from) (eqb t 0x02) (on-cond (Mild from) zero abort (code 5)) (code 2)))))))
+    on_cond (Mild from) (malformed n c.bits) (code 2)
+    (on_cond (Mild from) (eqb t 0x00) execute
+    (on_cond (Mild from) (eqb t 0x80) (code 4)
+    (on_cond (Mild from) (eqb t 0x40) (code 4)
+    (on_cond (Mild from) (eqb t 0x20) reset
+    (on_cond (Mild from) (eqb t 0x04) (on_cond (Mild from) zero clear (code 5))
+    (on_cond (Mild from) (eqb t 0x02) (on_cond (Mild from) zero abort (code 5)) (code 2)))))))
 
-aborted-alike : (a : ℕ) (l : Login) → Alike l (abortedOf a l)
-unfolding abortedOf withoutExchanges
-aborted-alike a l = on-cond (Alike l) (hasAddress a l) (alike _ _) (itself l)
+aborted_alike : (a : ℕ) (l : Login) → Alike l (aborted_of a l)
+unfolding aborted_of without_exchanges
+aborted_alike a l = on_cond (Alike l) (has_address a l) (alike _ _) (itself l)
 
-reset-alike : (l : Login) → Alike l (resetOf l)
-unfolding resetOf withoutExchanges
-reset-alike l = on-cond (Alike l) (isUsed l) (alike _ _) (itself l)
+reset_alike : (l : Login) → Alike l (reset_of l)
+unfolding reset_of without_exchanges
+reset_alike l = on_cond (Alike l) (is_used l) (alike _ _) (itself l)
 
-cleared-alike : (a : ℕ) (l : Login) → Alike l (clearedBy a l)
-unfolding clearedBy withoutExchanges
-cleared-alike a l = on-cond (Alike l) (isUsed l) (on-cond (Alike l) (losesTo a l) (alike _ _) (alike _ _)) (itself l)
+cleared_alike : (a : ℕ) (l : Login) → Alike l (cleared_by a l)
+unfolding cleared_by without_exchanges
+cleared_alike a l = on_cond (Alike l) (is_used l) (on_cond (Alike l) (loses_to a l) (alike _ _) (alike _ _)) (itself l)
 
 -- what a command makes of its sender's login
-moves-alike : (u : Unit) (l : Login) (place : Found) (ox : ℕ) (c : Cmnd) {m : Login} → Moves u l place ox c m → Alike l m
-unfolding withExchange
-moves-alike u l place ox c same = itself l
-moves-alike u l place ox c (ends j) = alike _ _
-moves-alike u l place ox c tells = alike _ _
-moves-alike u l place ox c (opens true j e p n none) = alike _ _
-moves-alike u l place ox c (opens false j e p n none) = alike _ _
+moves_alike : (u : Unit) (l : Login) (place : Found) (ox : ℕ) (c : Cmnd) {m : Login} → Moves u l place ox c m → Alike l m
+unfolding with_exchange
+moves_alike u l place ox c same = itself l
+moves_alike u l place ox c (ends j) = alike _ _
+moves_alike u l place ox c tells = alike _ _
+moves_alike u l place ox c (opens true j e p n none) = alike _ _
+moves_alike u l place ox c (opens false j e p n none) = alike _ _
 
 -- a login stored where one alike stood: that of every address is alike
-found-stored : (p : Port) (i : ℕ) (m : Login) → Alike (loginAt p i) m → (b : ℕ) → findLogin (withLogin p i m) b ≡ findLogin p b
-unfolding findLogin withLogin loginAt
-found-stored p i m x b = same-found emptyLogin (hasAddress b) p.logins i m (alike-has x b)
+found_stored : (p : Port) (i : ℕ) (m : Login) → Alike (login_at p i) m → (b : ℕ) → find_login (with_login p i m) b ≡ find_login p b
+unfolding find_login with_login login_at
+found_stored p i m x b = same_found empty_login (has_address b) p.logins i m (alike_has x b)
 
-at_stored : (p : Port) (i : ℕ) (m : Login) → i < length p.logins → Alike (loginAt p i) m → (j : ℕ) → Alike (loginAt p j) (loginAt (withLogin p i m) j)
+at_stored : (p : Port) (i : ℕ) (m : Login) → i < length p.logins → Alike (login_at p i) m → (j : ℕ) → Alike (login_at p j) (login_at (with_login p i m) j)
 at_stored p i m below x j =
     elim (ℕ_discrete j i) [
       | yes e ↦ rw (e, stored_at p i m below) x
-      | no n ↦ rw (login-other p i j m n) (itself (loginAt p j))
+      | no n ↦ rw (login_other p i j m n) (itself (login_at p j))
     ]
 
-alike-stored : (p : Port) (i : ℕ) (m : Login) → i < length p.logins → Alike (loginAt p i) m → (b : ℕ) → Alike (loginOf p b) (loginOf (withLogin p i m) b)
-unfolding loginOf
-alike-stored p i m below x b = rw (found-stored p i m x b) (by (findLogin p b))
+alike_stored : (p : Port) (i : ℕ) (m : Login) → i < length p.logins → Alike (login_at p i) m → (b : ℕ) → Alike (login_of p b) (login_of (with_login p i m) b)
+unfolding login_of
+alike_stored p i m below x b = rw (found_stored p i m x b) (by (find_login p b))
   where
-    by : (f : Found) → Alike (loginIn p f) (loginIn (withLogin p i m) f)
+    by : (f : Found) → Alike (login_in p f) (login_in (with_login p i m) f)
     by (At j) = at_stored p i m below x j
-    by Nothing = itself emptyLogin
+    by Nothing = itself empty_login
 
 -- a command is answered with nothing or FCP_RSP
 pub data Spoken : Reply → Type 0 where
@@ -124,14 +124,14 @@ pub data Spoken : Reply → Type 0 where
 abbrev Says : Served → Type 0
 Says s = Spoken s.reply
 
-execute-spoken : (u : Unit) (l : Login) (place : Found) (ox : ℕ) (c : Cmnd) → Says (executeOf u l place ox c)
-unfolding executeOf refusedWith opened_of
-execute-spoken u l place ox c = on-found Says place _ _ (λ j _. responds _) (λ _. by (asked_of u l.attention ox c))
+execute_spoken : (u : Unit) (l : Login) (place : Found) (ox : ℕ) (c : Cmnd) → Says (execute_of u l place ox c)
+unfolding execute_of refused_with opened_of
+execute_spoken u l place ox c = on_found_lem Says place _ _ (λ j _. responds _) (λ _. by (asked_of u l.attention ox c))
   where
-    by : (a : Asked) → Says (answeredAs a l c)
+    by : (a : Asked) → Says (answered_as a l c)
     by (asked.Refused key sense) = responds _
     by asked.Attention = responds _
-    by (asked.Wants e) = on-cond Says (eqb (total e) 0) (responds _) (on-cond Says (bitFor e c.bits) (on-found Says (freeExchange l) _ _ (λ j _. silent) (λ _. responds _)) (responds _))
+    by (asked.Wants e) = on_cond Says (eqb (total e) 0) (responds _) (on_cond Says (bit_for e c.bits) (on_found_lem Says (free_exchange l) _ _ (λ j _. silent) (λ _. responds _)) (responds _))
 
 module _ (u : Unit) (p : Port) (h : Header) (f : List ℕ) where
   abbrev from : ℕ
@@ -139,97 +139,97 @@ module _ (u : Unit) (p : Port) (h : Header) (f : List ℕ) where
 
   -- the sender's login is paired, and there is one
   abbrev Paired : Bool → Type 0
-  Paired b = eqb (loginOf p from).paired 1 ≡ b
+  Paired b = eqb (login_of p from).paired 1 ≡ b
 
   -- from a paired login: the command of its place
-  paired_is : Paired true → (P : Decided → Type 0) → ((i : ℕ) → findLogin p from ≡ At i → P (commandedAt u p i h (cmndOf f) (length f))) → P (commandOf u p h f)
-  unfolding commandOf loginOf
-  paired_is r P holds = step (findLogin p from) refl r
+  paired_is : Paired true → (P : Decided → Type 0) → ((i : ℕ) → find_login p from ≡ At i → P (commanded_at u p i h (cmnd_of f) (length f))) → P (command_of u p h f)
+  unfolding command_of login_of
+  paired_is r P holds = step (find_login p from) refl r
     where
-      step : (x : Found) → findLogin p from ≡ x → eqb (loginIn p x).paired 1 ≡ true
-          → P (onFound x (λ i. cond (eqb (loginAt p i).paired 1) (commandedAt u p i h (cmndOf f) (length f)) (loggedOut p from)) (loggedOut p from))
+      step : (x : Found) → find_login p from ≡ x → eqb (login_in p x).paired 1 ≡ true
+          → P (on_found x (λ i. cond (eqb (login_at p i).paired 1) (commanded_at u p i h (cmnd_of f) (length f)) (logged_out p from)) (logged_out p from))
       step (At i) e r = rw r (holds i e)
       step Nothing e r = apart r refl
 
   -- its reply is FCP_RSP or nothing
-  pub command-spoken : Paired true → Spoken (commandOf u p h f).reply
-  unfolding commandedAt
-  command-spoken r = paired_is r (λ x. Spoken x.reply) (λ i e. by i (task_of (cmndOf f) (length f) from))
+  pub command_spoken : Paired true → Spoken (command_of u p h f).reply
+  unfolding commanded_at
+  command_spoken r = paired_is r (λ x. Spoken x.reply) (λ i e. by i (task_of (cmnd_of f) (length f) from))
     where
-      by : (i : ℕ) (t : Task) → Spoken (doneAs t p (served_at p i (executeOf u (loginAt p i) (soughtIn p from h.ox_id) h.ox_id (cmndOf f)))).reply
+      by : (i : ℕ) (t : Task) → Spoken (done_as t p (served_at p i (execute_of u (login_at p i) (sought_in p from h.ox_id) h.ox_id (cmnd_of f)))).reply
       by i (task.Code n) = responds _
       by i (task.Apply e) = responds _
-      by i task.Execute = execute-spoken u (loginAt p i) (soughtIn p from h.ox_id) h.ox_id (cmndOf f)
+      by i task.Execute = execute_spoken u (login_at p i) (sought_in p from h.ox_id) h.ox_id (cmnd_of f)
 
   -- from any other sender: a drive LOGO, and its login ends
-  pub command-unpaired : Paired false → commandOf u p h f ≡ loggedOut p from
-  unfolding commandOf loginOf
-  command-unpaired r = step (findLogin p from) r
+  pub command_unpaired : Paired false → command_of u p h f ≡ logged_out p from
+  unfolding command_of login_of
+  command_unpaired r = step (find_login p from) r
     where
-      step : (x : Found) → eqb (loginIn p x).paired 1 ≡ false
-          → onFound x (λ i. cond (eqb (loginAt p i).paired 1) (commandedAt u p i h (cmndOf f) (length f)) (loggedOut p from)) (loggedOut p from) ≡ loggedOut p from
+      step : (x : Found) → eqb (login_in p x).paired 1 ≡ false
+          → on_found x (λ i. cond (eqb (login_at p i).paired 1) (commanded_at u p i h (cmnd_of f) (length f)) (logged_out p from)) (logged_out p from) ≡ logged_out p from
       step (At i) r = rw r
       step Nothing r = refl
 
-  module _ (d : pairs apartLogin p.logins ≡ true) where
+  module _ (d : pairs apart_login p.logins ≡ true) where
     -- the login of every address is alike
     abbrev Same : Decided → Type 0
-    Same x = (b : ℕ) → Alike (loginOf p b) (loginOf x.port b)
+    Same x = (b : ℕ) → Alike (login_of p b) (login_of x.port b)
 
-    done-same : (t : Task) → Mild from t → (x : Decided) → Same x → Same (doneAs t p x)
-    done-same t (code n) x s b = itself (loginOf p b)
-    done-same t abort x s b = rw (changed-sees p d (EndExchangesOf from) b) (aborted-alike from (loginOf p b))
-    done-same t reset x s b = rw (changed-sees p d Reset b) (reset-alike (loginOf p b))
-    done-same t clear x s b = rw (changed-sees p d (Clear from) b) (cleared-alike from (loginOf p b))
-    done-same t execute x s b = s b
+    done_same : (t : Task) → Mild from t → (x : Decided) → Same x → Same (done_as t p x)
+    done_same t (code n) x s b = itself (login_of p b)
+    done_same t abort x s b = rw (changed_sees p d (EndExchangesOf from) b) (aborted_alike from (login_of p b))
+    done_same t reset x s b = rw (changed_sees p d Reset b) (reset_alike (login_of p b))
+    done_same t clear x s b = rw (changed_sees p d (Clear from) b) (cleared_alike from (login_of p b))
+    done_same t execute x s b = s b
 
-    commanded-same : (i : ℕ) → findLogin p from ≡ At i → Same (commandedAt u p i h (cmndOf f) (length f))
-    unfolding commandedAt findLogin
-    commanded-same i at =
-        let place = soughtIn p from h.ox_id in
-        done-same (task_of (cmndOf f) (length f) from) (task-mild (cmndOf f) (length f) from) (served_at p i (executeOf u (loginAt p i) place h.ox_id (cmndOf f)))
-        (alike-stored p i _ (found_below emptyLogin (hasAddress from) p.logins at) (moves-alike u (loginAt p i) place h.ox_id (cmndOf f) (execute-moves u (loginAt p i) place h.ox_id (cmndOf f))))
+    commanded_same : (i : ℕ) → find_login p from ≡ At i → Same (commanded_at u p i h (cmnd_of f) (length f))
+    unfolding commanded_at find_login
+    commanded_same i at =
+        let place = sought_in p from h.ox_id in
+        done_same (task_of (cmnd_of f) (length f) from) (task_mild (cmnd_of f) (length f) from) (served_at p i (execute_of u (login_at p i) place h.ox_id (cmnd_of f)))
+        (alike_stored p i _ (found_below empty_login (has_address from) p.logins at) (moves_alike u (login_at p i) place h.ox_id (cmnd_of f) (execute_moves u (login_at p i) place h.ox_id (cmnd_of f))))
 
     -- from a paired login: no login changes but in its attention and exchanges
-    pub command-paired : Paired true → Same (commandOf u p h f)
-    command-paired r = paired_is r Same commanded-same
+    pub command_paired : Paired true → Same (command_of u p h f)
+    command_paired r = paired_is r Same commanded_same
 
   -- as a turn, told on what the sender sees
-  module _ (fine : all (loginFine u p.address) p.logins ≡ true) where
+  module _ (fine : all (login_fine u p.address) p.logins ≡ true) where
     abbrev v : View
     v = view_of u p from
 
-    task-another : (b : ℕ) {t : Task} → Mild from t → (i : ℕ) (s : Served) → hasAddress b (loginAt (changedAll Keep p) i) ≡ false → hasAddress b s.login ≡ false → Elsewhere p b (taskTurn t (servedIn i s))
-    task-another b (code n) i s x y = tt
-    task-another b abort i s x y = tt
-    task-another b reset i s x y = tt
-    task-another b clear i s x y = tt
-    task-another b execute i s x y = (x, y)
+    task_another : (b : ℕ) {t : Task} → Mild from t → (i : ℕ) (s : Served) → has_address b (login_at (changed_all Keep p) i) ≡ false → has_address b s.login ≡ false → Elsewhere p b (task_turn t (served_in i s))
+    task_another b (code n) i s x y = tt
+    task_another b abort i s x y = tt
+    task_another b reset i s x y = tt
+    task_another b clear i s x y = tt
+    task_another b execute i s x y = (x, y)
 
     -- it stores nothing of another address
-    pub command-another : (b : ℕ) → (b ≡ from → ⊥) → Elsewhere p b (commandTurn v h f)
-    unfolding commandTurn commandedTurn
-    command-another b n = on-found (Elsewhere p b) v.seat _ _ (λ i e. on-cond (Elsewhere p b) (eqb v.login.paired 1) (at i e) tt) (λ _. tt)
+    pub command_another : (b : ℕ) → (b ≡ from → ⊥) → Elsewhere p b (command_turn v h f)
+    unfolding command_turn commanded_turn
+    command_another b n = on_found_lem (Elsewhere p b) v.seat _ _ (λ i e. on_cond (Elsewhere p b) (eqb v.login.paired 1) (at i e) tt) (λ _. tt)
       where
         place : Found
-        place = findExchange v.login h.ox_id
+        place = find_exchange v.login h.ox_id
 
-        at : (i : ℕ) → v.seat ≡ At i → Elsewhere p b (taskTurn (task_of (cmndOf f) (length f) from) (servedIn i (executeOf v.unit v.login place h.ox_id (cmndOf f))))
+        at : (i : ℕ) → v.seat ≡ At i → Elsewhere p b (task_turn (task_of (cmnd_of f) (length f) from) (served_in i (execute_of v.unit v.login place h.ox_id (cmnd_of f))))
         at i e =
-            let seat = sym (view-seat u p from fine) ∙ e in
-            task-another b (task-mild (cmndOf f) (length f) from) i _ (seat-another p b from i Keep n seat)
-            (alike-has (moves-alike v.unit v.login place h.ox_id (cmndOf f) (execute-moves v.unit v.login place h.ox_id (cmndOf f))) b
-            ∙ ap (hasAddress b) (view-login u p from fine i seat) ∙ other-has b from (loginAt p i) n (found-has p from i seat))
+            let seat = sym (view_seat u p from fine) ∙ e in
+            task_another b (task_mild (cmnd_of f) (length f) from) i _ (seat_another p b from i Keep n seat)
+            (alike_has (moves_alike v.unit v.login place h.ox_id (cmnd_of f) (execute_moves v.unit v.login place h.ox_id (cmnd_of f))) b
+            ∙ ap (has_address b) (view_login u p from fine i seat) ∙ other_has b from (login_at p i) n (found_has p from i seat))
 
-    task-leaves : (b : ℕ) {t : Task} → Mild from t → (i : ℕ) (s : Served) → LeavesLogin p b (taskTurn t (servedIn i s))
-    task-leaves b (code n) i s = tt
-    task-leaves b abort i s = tt
-    task-leaves b reset i s = tt
-    task-leaves b clear i s = tt
-    task-leaves b execute i s = tt
+    task_leaves : (b : ℕ) {t : Task} → Mild from t → (i : ℕ) (s : Served) → LeavesLogin p b (task_turn t (served_in i s))
+    task_leaves b (code n) i s = tt
+    task_leaves b abort i s = tt
+    task_leaves b reset i s = tt
+    task_leaves b clear i s = tt
+    task_leaves b execute i s = tt
 
     -- and ends no login of it
-    pub command-leaves : (b : ℕ) → (b ≡ from → ⊥) → LeavesLogin p b (commandTurn v h f)
-    unfolding commandTurn commandedTurn
-    command-leaves b n =
-        on-found (LeavesLogin p b) v.seat _ _ (λ i e. on-cond (LeavesLogin p b) (eqb v.login.paired 1) (task-leaves b (task-mild (cmndOf f) (length f) from) i _) n) (λ _. n)
+    pub command_leaves : (b : ℕ) → (b ≡ from → ⊥) → LeavesLogin p b (command_turn v h f)
+    unfolding command_turn commanded_turn
+    command_leaves b n =
+        on_found_lem (LeavesLogin p b) v.seat _ _ (λ i e. on_cond (LeavesLogin p b) (eqb v.login.paired 1) (task_leaves b (task_mild (cmnd_of f) (length f) from) i _) n) (λ _. n)

@@ -9,15 +9,15 @@ use borrow.Author.Tests.{le-leb, lt-ltb, leb-false, ltb-false, eq-eqb, not-false
 use Rattle.tables.proofs.Bools.{and_both, or_left, or_right}
 use Rattle.state.specs.declared.Exchange.{Exchange}
 use Rattle.state.specs.declared.Unit.{Unit}
-use Rattle.state.specs.Kinds.{kindFree, kindBlocks, kindInquiry, kindInquiryOther, kindCapacity, kindSenseNone, kindSenseReset, kindSenseCleared, kindSenseOther, toHost, fromHost, isWrite}
-use Rattle.formed.specs.Formed.{total, framesOf, blocksFit, madeFits, wantedFits, directionFits, openable, sentFits, takenFits, movedFits}
-use Rattle.formed.proofs.Taking.{burst, taken-whole}
-use Rattle.calls.proofs.Decisions.{on-cond}
+use Rattle.state.specs.Kinds.{kind_free, kind_blocks, kind_inquiry, kind_inquiry_other, kind_capacity, kind_sense_none, kind_sense_reset, kind_sense_cleared, kind_sense_other, to_host, from_host, is_write}
+use Rattle.formed.specs.Formed.{total, frames_of, blocks_fit, made_fits, wanted_fits, direction_fits, openable, sent_fits, taken_fits, moved_fits}
+use Rattle.formed.proofs.Taking.{burst, taken_whole}
+use Rattle.calls.proofs.Decisions.{on_cond}
 use Rattle.command.specs.declared.Range.{Range}
 use Rattle.command.specs.declared.Operation.{Operation}
 use Rattle.command.specs.declared.Operation.TheVariants.{TestUnitReady, RequestSense, Inquiry, ReadCapacity, Read, Write, Unknown}
 use Rattle.command.specs.Cdb.{Countable}
-use Rattle.command.specs.Tests.{protected, beyond, outside, senseKind, inquiryKind, fresh, exchangeFor}
+use Rattle.command.specs.Tests.{protected, beyond, outside, sense_kind, inquiry_kind, fresh, exchange_for}
 
 -- an exchange of this OX_ID of which nothing is sent, and no data are awaited
 pub record New (ox : ℕ) (e : Exchange) : Type 0 where
@@ -26,15 +26,15 @@ pub record New (ox : ℕ) (e : Exchange) : Type 0 where
   pub count : e.count ≡ 0
   pub awaited : e.awaited ≡ 0
 
-new-fresh : (ox expected direction kind wanted start blocks : ℕ) → New ox (fresh ox expected direction kind wanted start blocks)
-new-fresh ox expected direction kind wanted start blocks = record { id = refl; sent = refl; count = refl; awaited = refl }
+new_fresh : (ox expected direction kind wanted start blocks : ℕ) → New ox (fresh ox expected direction kind wanted start blocks)
+new_fresh ox expected direction kind wanted start blocks = record { id = refl; sent = refl; count = refl; awaited = refl }
 
 -- nothing is sent
-sent-none : (full : ℕ) (e : Exchange) → 0 < full → e.sent ≡ 0 → e.count ≡ 0 → sentFits full e ≡ true
-unfolding sentFits
-sent-none full e pos s n =
+sent_none : (full : ℕ) (e : Exchange) → 0 < full → e.sent ≡ 0 → e.count ≡ 0 → sent_fits full e ≡ true
+unfolding sent_fits
+sent_none full e pos s n =
     let m : 0 % full ≡ 0 = mod-eq_of_lt pos in
-    let d : framesOf 0 full ≡ 0 = div-eq_of_lt (omega arith) in
+    let d : frames_of 0 full ≡ 0 = div-eq_of_lt (omega arith) in
     rw (s, n, le-leb 0 (total e) (omega arith), m, d) (either (leb (total e) 0))
   where
     either : (b : Bool) → ((b || true) && true) ≡ true
@@ -42,14 +42,14 @@ sent-none full e pos s n =
     either false = refl
 
 -- nothing is taken: a whole number of bursts, none of them
-taken_none : {ox : ℕ} (e : Exchange) → New ox e → takenFits e ≡ true
-taken_none e new = taken-whole e record { within = let s = new.sent in omega arith; awaits = burst new.awaited (let s = new.sent in omega arith); uncounted = new.count }
+taken_none : {ox : ℕ} (e : Exchange) → New ox e → taken_fits e ≡ true
+taken_none e new = taken_whole e record { within = let s = new.sent in omega arith; awaits = burst new.awaited (let s = new.sent in omega arith); uncounted = new.count }
 
 -- so it fits, whichever way its data go
-pub moved_none : {ox : ℕ} (full : ℕ) (e : Exchange) → 0 < full → New ox e → movedFits full e ≡ true
-unfolding movedFits
+pub moved_none : {ox : ℕ} (full : ℕ) (e : Exchange) → 0 < full → New ox e → moved_fits full e ≡ true
+unfolding moved_fits
 moved_none full e pos new =
-    on-cond (λ (b : Bool). b ≡ true) (isWrite e) (taken_none e new) (and_both (eq-eqb e.awaited 0 new.awaited) (sent-none full e pos new.sent new.count))
+    on_cond (λ (b : Bool). b ≡ true) (is_write e) (taken_none e new) (and_both (eq-eqb e.awaited 0 new.awaited) (sent_none full e pos new.sent new.count))
 
 module _ (u : Unit) where
   -- an exchange with bytes to send or to take is one an accepted command could open
@@ -58,72 +58,72 @@ module _ (u : Unit) where
 
   module _ (ox expected : ℕ) where
     -- a kind that asks for 1 to `most` bytes
-    small-opens : (kind wanted most : ℕ) → wanted ≤ most → wantedFits u (fresh ox expected toHost kind wanted 0 0) ≡ (leb 1 wanted && leb wanted most) → Opens (fresh ox expected toHost kind wanted 0 0)
-    unfolding Opens directionFits
-    small-opens kind wanted most h e n = rw (le-leb 1 expected (omega arith), e, le-leb 1 wanted (omega arith), le-leb wanted most h)
+    small_opens : (kind wanted most : ℕ) → wanted ≤ most → wanted_fits u (fresh ox expected to_host kind wanted 0 0) ≡ (leb 1 wanted && leb wanted most) → Opens (fresh ox expected to_host kind wanted 0 0)
+    unfolding Opens direction_fits
+    small_opens kind wanted most h e n = rw (le-leb 1 expected (omega arith), e, le-leb 1 wanted (omega arith), le-leb wanted most h)
 
-    sense-fits : (b a r : Bool) (w : ℕ) → wantedFits u (fresh ox expected toHost (cond b kindSenseOther (cond a kindSenseNone (cond r kindSenseReset kindSenseCleared))) w 0 0) ≡ (leb 1 w && leb w 18)
-    unfolding wantedFits madeFits
-    sense-fits true a r w = refl
-    sense-fits false true r w = refl
-    sense-fits false false true w = refl
-    sense-fits false false false w = refl
+    sense_fits : (b a r : Bool) (w : ℕ) → wanted_fits u (fresh ox expected to_host (cond b kind_sense_other (cond a kind_sense_none (cond r kind_sense_reset kind_sense_cleared))) w 0 0) ≡ (leb 1 w && leb w 18)
+    unfolding wanted_fits made_fits
+    sense_fits true a r w = refl
+    sense_fits false true r w = refl
+    sense_fits false false true w = refl
+    sense_fits false false false w = refl
 
-    inquiry-fits : (b : Bool) (w : ℕ) → wantedFits u (fresh ox expected toHost (cond b kindInquiry kindInquiryOther) w 0 0) ≡ (leb 1 w && leb w 36)
-    unfolding wantedFits madeFits
-    inquiry-fits true w = refl
-    inquiry-fits false w = refl
+    inquiry_fits : (b : Bool) (w : ℕ) → wanted_fits u (fresh ox expected to_host (cond b kind_inquiry kind_inquiry_other) w 0 0) ≡ (leb 1 w && leb w 36)
+    unfolding wanted_fits made_fits
+    inquiry_fits true w = refl
+    inquiry_fits false w = refl
 
-    capacity-opens : Opens (fresh ox expected toHost kindCapacity 8 0 0)
-    unfolding Opens wantedFits madeFits directionFits
-    capacity-opens n = rw (le-leb 1 expected (omega arith))
+    capacity_opens : Opens (fresh ox expected to_host kind_capacity 8 0 0)
+    unfolding Opens wanted_fits made_fits direction_fits
+    capacity_opens n = rw (le-leb 1 expected (omega arith))
 
     -- READ and WRITE
-    abbrev blocksOf : ℕ → Range → Exchange
-    blocksOf direction r = fresh ox expected direction kindBlocks (512 * r.blocks) r.start r.blocks
+    abbrev blocks_of : ℕ → Range → Exchange
+    blocks_of direction r = fresh ox expected direction kind_blocks (512 * r.blocks) r.start r.blocks
 
-    read_goes : (r : Range) → directionFits u (blocksOf toHost r) ≡ true
-    unfolding directionFits
+    read_goes : (r : Range) → direction_fits u (blocks_of to_host r) ≡ true
+    unfolding direction_fits
     read_goes r = refl
 
     -- test 5 lets a WRITE only onto a unit that may be written
-    write_goes : (r : Range) → protected u (Write r) ≡ false → directionFits u (blocksOf fromHost r) ≡ true
-    unfolding directionFits protected
+    write_goes : (r : Range) → protected u (Write r) ≡ false → direction_fits u (blocks_of from_host r) ≡ true
+    unfolding direction_fits protected
     write_goes r allowed = not-false (eqb u.writable 1) allowed
 
     -- test 7 lets only blocks of the unit through
-    blocks-opens : (direction : ℕ) (r : Range) → r.blocks ≤ 65535 → beyond u r ≡ false → directionFits u (blocksOf direction r) ≡ true → Opens (blocksOf direction r)
-    unfolding Opens wantedFits blocksFit beyond
-    blocks-opens direction r few within goes n =
+    blocks_opens : (direction : ℕ) (r : Range) → r.blocks ≤ 65535 → beyond u r ≡ false → direction_fits u (blocks_of direction r) ≡ true → Opens (blocks_of direction r)
+    unfolding Opens wanted_fits blocks_fit beyond
+    blocks_opens direction r few within goes n =
         let a = leb u.capacity r.start in
         let b = ltb u.capacity (r.start + r.blocks) in
         let below = leb-false u.capacity r.start (or_left a b within) in
         let inside = ltb-false u.capacity (r.start + r.blocks) (or_right a b within) in
         rw (le-leb 1 expected (omega arith), le-leb 1 r.blocks (omega arith), le-leb r.blocks 65535 few, eq-eqb (512 * r.blocks) (512 * r.blocks) refl, lt-ltb r.start u.capacity below, le-leb (r.start + r.blocks) u.capacity inside, goes)
 
-    nothing-opens : Opens (fresh ox expected toHost kindFree 0 0 0)
+    nothing_opens : Opens (fresh ox expected to_host kind_free 0 0 0)
     unfolding Opens
-    nothing-opens n = absurd (n (omega arith))
+    nothing_opens n = absurd (n (omega arith))
 
   -- whatever the command, where tests 5 and 7 let it through
-  pub wants-opens : (o : Operation) (attention ox lun expected : ℕ) → Countable o → protected u o ≡ false → outside u o ≡ false
-      → (total (exchangeFor o attention ox lun expected) ≡ 0 → ⊥) → openable u (exchangeFor o attention ox lun expected) ≡ true
-  unfolding Opens senseKind inquiryKind
-  wants-opens TestUnitReady attention ox lun expected few allowed within = nothing-opens ox expected
-  wants-opens (RequestSense most) attention ox lun expected few allowed within =
-      small-opens ox expected _ (min 18 most) 18 (omega arith) (sense-fits ox expected (not (eqb lun 0)) (eqb attention 0) (eqb attention 0x29) (min 18 most))
-  wants-opens (Inquiry most) attention ox lun expected few allowed within =
-      small-opens ox expected _ (min 36 most) 36 (omega arith) (inquiry-fits ox expected (eqb lun 0) (min 36 most))
-  wants-opens ReadCapacity attention ox lun expected few allowed within = capacity-opens ox expected
-  wants-opens (Read r) attention ox lun expected few allowed within = blocks-opens ox expected toHost r few within (read_goes ox expected r)
-  wants-opens (Write r) attention ox lun expected few allowed within = blocks-opens ox expected fromHost r few within (write_goes ox expected r allowed)
-  wants-opens Unknown attention ox lun expected few allowed within = nothing-opens ox expected
+  pub wants_opens : (o : Operation) (attention ox lun expected : ℕ) → Countable o → protected u o ≡ false → outside u o ≡ false
+      → (total (exchange_for o attention ox lun expected) ≡ 0 → ⊥) → openable u (exchange_for o attention ox lun expected) ≡ true
+  unfolding Opens sense_kind inquiry_kind
+  wants_opens TestUnitReady attention ox lun expected few allowed within = nothing_opens ox expected
+  wants_opens (RequestSense most) attention ox lun expected few allowed within =
+      small_opens ox expected _ (min 18 most) 18 (omega arith) (sense_fits ox expected (not (eqb lun 0)) (eqb attention 0) (eqb attention 0x29) (min 18 most))
+  wants_opens (Inquiry most) attention ox lun expected few allowed within =
+      small_opens ox expected _ (min 36 most) 36 (omega arith) (inquiry_fits ox expected (eqb lun 0) (min 36 most))
+  wants_opens ReadCapacity attention ox lun expected few allowed within = capacity_opens ox expected
+  wants_opens (Read r) attention ox lun expected few allowed within = blocks_opens ox expected to_host r few within (read_goes ox expected r)
+  wants_opens (Write r) attention ox lun expected few allowed within = blocks_opens ox expected from_host r few within (write_goes ox expected r allowed)
+  wants_opens Unknown attention ox lun expected few allowed within = nothing_opens ox expected
 
-pub exchange-new : (o : Operation) (attention ox lun expected : ℕ) → New ox (exchangeFor o attention ox lun expected)
-exchange-new TestUnitReady attention ox lun expected = new-fresh ox expected _ _ _ _ _
-exchange-new (RequestSense most) attention ox lun expected = new-fresh ox expected _ _ _ _ _
-exchange-new (Inquiry most) attention ox lun expected = new-fresh ox expected _ _ _ _ _
-exchange-new ReadCapacity attention ox lun expected = new-fresh ox expected _ _ _ _ _
-exchange-new (Read r) attention ox lun expected = new-fresh ox expected _ _ _ _ _
-exchange-new (Write r) attention ox lun expected = new-fresh ox expected _ _ _ _ _
-exchange-new Unknown attention ox lun expected = new-fresh ox expected _ _ _ _ _
+pub exchange_new : (o : Operation) (attention ox lun expected : ℕ) → New ox (exchange_for o attention ox lun expected)
+exchange_new TestUnitReady attention ox lun expected = new_fresh ox expected _ _ _ _ _
+exchange_new (RequestSense most) attention ox lun expected = new_fresh ox expected _ _ _ _ _
+exchange_new (Inquiry most) attention ox lun expected = new_fresh ox expected _ _ _ _ _
+exchange_new ReadCapacity attention ox lun expected = new_fresh ox expected _ _ _ _ _
+exchange_new (Read r) attention ox lun expected = new_fresh ox expected _ _ _ _ _
+exchange_new (Write r) attention ox lun expected = new_fresh ox expected _ _ _ _ _
+exchange_new Unknown attention ox lun expected = new_fresh ox expected _ _ _ _ _

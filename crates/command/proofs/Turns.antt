@@ -11,36 +11,36 @@ use Rattle.frame.specs.declared.Header.{Header}
 use Rattle.state.specs.declared.Login.{Login}
 use Rattle.state.specs.declared.Port.{Port}
 use Rattle.state.specs.declared.Unit.{Unit}
-use Rattle.state.specs.Changes.{loginAt}
-use Rattle.state.specs.Tables.{soughtIn}
-use Rattle.formed.specs.Formed.{loginFine}
+use Rattle.state.specs.Changes.{login_at}
+use Rattle.state.specs.Tables.{sought_in}
+use Rattle.formed.specs.Formed.{login_fine}
 use Rattle.calls.specs.declared.Served.{Served}
 use Rattle.calls.specs.View.{view_of}
-use Rattle.calls.specs.Turn.{served_at, servedIn, decidedBy}
-use Rattle.calls.proofs.Views.{view-unit, view-login, sought-seen}
-use Rattle.calls.proofs.Decisions.{answers-is, served-is, either_is, found-is}
+use Rattle.calls.specs.Turn.{served_at, served_in, decided_by}
+use Rattle.calls.proofs.Views.{view_unit, view_login, sought_seen}
+use Rattle.calls.proofs.Decisions.{answers_is, served_is, either_is, found_is}
 use Rattle.command.specs.declared.Cmnd.{Cmnd}
 use Rattle.command.specs.declared.Task.{Task}
 use Rattle.command.specs.declared.Task.TheVariants as task
-use Rattle.command.specs.Cmnd.{cmndOf, task_of}
-use Rattle.command.specs.Command.{executeOf, doneAs, commandedAt, loggedOut, commandOf}
-use Rattle.command.specs.Turn.{taskTurn, commandedTurn, loggedOutTurn, commandTurn}
+use Rattle.command.specs.Cmnd.{cmnd_of, task_of}
+use Rattle.command.specs.Command.{execute_of, done_as, commanded_at, logged_out, command_of}
+use Rattle.command.specs.Turn.{task_turn, commanded_turn, logged_out_turn, command_turn}
 
-done-is : (p : Port) (t : Task) (i : ℕ) (s : Served) → decidedBy p (taskTurn t (servedIn i s)) ≡ doneAs t p (served_at p i s)
-done-is p (task.Code code) i s = answers-is p _
-done-is p (task.Apply e) i s = refl
-done-is p task.Execute i s = served-is p i s
+done_is : (p : Port) (t : Task) (i : ℕ) (s : Served) → decided_by p (task_turn t (served_in i s)) ≡ done_as t p (served_at p i s)
+done_is p (task.Code code) i s = answers_is p _
+done_is p (task.Apply e) i s = refl
+done_is p task.Execute i s = served_is p i s
 
 -- from the login m that is seen, the exchange sought at the place that is seen
-at-is : (u : Unit) (p : Port) (i : ℕ) (h : Header) (c : Cmnd) (n : ℕ) {w : Unit} {m : Login} {place : Found} → w ≡ u → m ≡ loginAt p i → place ≡ soughtIn p h.s_id h.ox_id
-    → decidedBy p (cond (eqb m.paired 1) (taskTurn (task_of c n h.s_id) (servedIn i (executeOf w m place h.ox_id c))) (loggedOutTurn h.s_id))
-    ≡ cond (eqb (loginAt p i).paired 1) (commandedAt u p i h c n) (loggedOut p h.s_id)
-unfolding commandedAt loggedOut
-at-is u p i h c n eu em ep = rw (eu, em, ep) (either_is p (eqb (loginAt p i).paired 1) _ _ (done-is p (task_of c n h.s_id) i _) refl)
+at_is : (u : Unit) (p : Port) (i : ℕ) (h : Header) (c : Cmnd) (n : ℕ) {w : Unit} {m : Login} {place : Found} → w ≡ u → m ≡ login_at p i → place ≡ sought_in p h.s_id h.ox_id
+    → decided_by p (cond (eqb m.paired 1) (task_turn (task_of c n h.s_id) (served_in i (execute_of w m place h.ox_id c))) (logged_out_turn h.s_id))
+    ≡ cond (eqb (login_at p i).paired 1) (commanded_at u p i h c n) (logged_out p h.s_id)
+unfolding commanded_at logged_out
+at_is u p i h c n eu em ep = rw (eu, em, ep) (either_is p (eqb (login_at p i).paired 1) _ _ (done_is p (task_of c n h.s_id) i _) refl)
 
-pub command-turn : (u : Unit) (p : Port) → all (loginFine u p.address) p.logins ≡ true → (h : Header) (f : List ℕ) → decidedBy p (commandTurn (view_of u p h.s_id) h f) ≡ commandOf u p h f
-unfolding commandTurn commandedTurn commandOf loggedOut
-command-turn u p fine h f =
+pub command_turn_lem : (u : Unit) (p : Port) → all (login_fine u p.address) p.logins ≡ true → (h : Header) (f : List ℕ) → decided_by p (command_turn (view_of u p h.s_id) h f) ≡ command_of u p h f
+unfolding command_turn commanded_turn command_of logged_out
+command_turn_lem u p fine h f =
     let from = h.s_id in
-    found-is u p from fine _ _ (λ i. cond (eqb (loginAt p i).paired 1) (commandedAt u p i h (cmndOf f) (length f)) (loggedOut p from))
-    (λ i e. at-is u p i h (cmndOf f) (length f) (view-unit u p from) (view-login u p from fine i e) (sym (sought-seen u p from fine h.ox_id))) refl
+    found_is u p from fine _ _ (λ i. cond (eqb (login_at p i).paired 1) (commanded_at u p i h (cmnd_of f) (length f)) (logged_out p from))
+    (λ i e. at_is u p i h (cmnd_of f) (length f) (view_unit u p from) (view_login u p from fine i e) (sym (sought_seen u p from fine h.ox_id))) refl

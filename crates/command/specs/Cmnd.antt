@@ -8,36 +8,36 @@ use Rattle.command.specs.declared.Task.{Task}
 use Rattle.command.specs.declared.Task.TheVariants.{Code, Apply, Execute}
 
 -- "FCP_CMND: LUN 8, byte 9 attribute (ignored), 10 task flags, 11 bit 1 read and bit 0 write, CDB 16, FCP_DL 4"; the payload starts at byte 24 of the frame
-unfoldable pub cmndOf : List ℕ → Cmnd
-cmndOf f = record { lun = num 8 f 24; task = get_or f 34 0; bits = get_or f 35 0; cdb = part 16 f 36; expected = num 4 f 52 }
+unfoldable pub cmnd_of : List ℕ → Cmnd
+cmnd_of f = record { lun = num 8 f 24; task = get_or f 34 0; bits = get_or f 35 0; cdb = part 16 f 36; expected = num 4 f 52 }
 
 -- bit 0 of a byte
-abbrev pub lowBit : ℕ → Bool
-lowBit byte = eqb (byte % 2) 1
+abbrev pub low_bit : ℕ → Bool
+low_bit byte = eqb (byte % 2) 1
 
 -- "11 bit 1 read"
-abbrev pub readBit : ℕ → Bool
-readBit bits = eqb (bits / 2 % 2) 1
+abbrev pub read_bit : ℕ → Bool
+read_bit bits = eqb (bits / 2 % 2) 1
 
 -- "RSP_CODE 02 for a size other than 32, both data bits"; the frame is 24 bytes longer
 unfoldable pub malformed : ℕ → ℕ → Bool
-malformed length bits = not (eqb length 56) || readBit bits && lowBit bits
+malformed length bits = not (eqb length 56) || read_bit bits && low_bit bits
 
 -- "04h clear task set .., 02h abort task set ..; with a nonzero LUN 05"
-abbrev pub onUnit : ℕ → Change → Task
-onUnit lun e = cond (eqb lun 0) (Apply e) (Code 0x05)
+abbrev pub on_unit : ℕ → Change → Task
+on_unit lun e = cond (eqb lun 0) (Apply e) (Code 0x05)
 
 -- "80h, 40h: 04. 20h target reset .. 04h clear task set ends all, 02h abort task set the sender's"; no flag: the command of the CDB;
 -- every other byte is "a task flag of 01h, 08h, 10h, or two flags": 02
-unfoldable pub taskFor : ℕ → ℕ → ℕ → Task
-taskFor task lun from =
+unfoldable pub task_for : ℕ → ℕ → ℕ → Task
+task_for task lun from =
     cond (eqb task 0x00) Execute
     (cond (eqb task 0x80) (Code 0x04)
     (cond (eqb task 0x40) (Code 0x04)
     (cond (eqb task 0x20) (Apply Reset)
-    (cond (eqb task 0x04) (onUnit lun (Clear from))
-    (cond (eqb task 0x02) (onUnit lun (EndExchangesOf from))
+    (cond (eqb task 0x04) (on_unit lun (Clear from))
+    (cond (eqb task 0x02) (on_unit lun (EndExchangesOf from))
     (Code 0x02))))))
 
 unfoldable pub task_of : Cmnd → ℕ → ℕ → Task
-task_of c length from = cond (malformed length c.bits) (Code 0x02) (taskFor c.task c.lun from)
+task_of c length from = cond (malformed length c.bits) (Code 0x02) (task_for c.task c.lun from)

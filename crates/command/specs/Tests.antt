@@ -2,7 +2,7 @@
 use Rattle.std.specs.Prelude.{ℕ, ◌+◌, ◌*◌, min, Bool, true, false, cond, not, ◌&&◌, ◌||◌, eqb, leb, ltb}
 use Rattle.state.specs.declared.Exchange.{Exchange}
 use Rattle.state.specs.declared.Unit.{Unit}
-use Rattle.state.specs.Kinds.{kindFree, kindBlocks, kindInquiry, kindInquiryOther, kindCapacity, kindSenseNone, kindSenseReset, kindSenseCleared, kindSenseOther, toHost, fromHost}
+use Rattle.state.specs.Kinds.{kind_free, kind_blocks, kind_inquiry, kind_inquiry_other, kind_capacity, kind_sense_none, kind_sense_reset, kind_sense_cleared, kind_sense_other, to_host, from_host}
 use Rattle.command.specs.declared.Cmnd.{Cmnd}
 use Rattle.command.specs.declared.Range.{Range}
 use Rattle.command.specs.declared.Operation.{Operation}
@@ -10,7 +10,7 @@ use Rattle.command.specs.declared.Operation.TheVariants.{TestUnitReady, RequestS
 use Rattle.command.specs.declared.Decoded.{Decoded}
 use Rattle.command.specs.declared.Asked.{Asked}
 use Rattle.command.specs.declared.Asked.TheVariants.{Refused, Attention, Wants}
-use Rattle.command.specs.Cdb.{decodedOf}
+use Rattle.command.specs.Cdb.{decoded_of}
 
 -- "INQUIRY and REQUEST SENSE skip 2 and 3"
 abbrev pub skips : Operation → Bool
@@ -23,8 +23,8 @@ skips (Write r) = false
 skips Unknown = false
 
 -- "(2) LUN not 0"
-unfoldable pub otherUnit : Operation → ℕ → Bool
-otherUnit o lun = not (skips o) && not (eqb lun 0)
+unfoldable pub other_unit : Operation → ℕ → Bool
+other_unit o lun = not (skips o) && not (eqb lun 0)
 
 -- "(3) attention"
 unfoldable pub attends : Operation → ℕ → Bool
@@ -69,12 +69,12 @@ outside u (Write r) = beyond u r
 outside u Unknown = false
 
 -- "00/00/00, the attention, .. or 05/25/00 for another LUN", as the kind of the exchange that reports it
-unfoldable pub senseKind : ℕ → ℕ → ℕ
-senseKind lun attention = cond (not (eqb lun 0)) kindSenseOther (cond (eqb attention 0) kindSenseNone (cond (eqb attention 0x29) kindSenseReset kindSenseCleared))
+unfoldable pub sense_kind : ℕ → ℕ → ℕ
+sense_kind lun attention = cond (not (eqb lun 0)) kind_sense_other (cond (eqb attention 0) kind_sense_none (cond (eqb attention 0x29) kind_sense_reset kind_sense_cleared))
 
 -- "7Fh first for another LUN", as the kind of the exchange that sends it
-unfoldable pub inquiryKind : ℕ → ℕ
-inquiryKind lun = cond (eqb lun 0) kindInquiry kindInquiryOther
+unfoldable pub inquiry_kind : ℕ → ℕ
+inquiry_kind lun = cond (eqb lun 0) kind_inquiry kind_inquiry_other
 
 -- an exchange of which nothing is sent
 abbrev pub fresh : ℕ → ℕ → ℕ → ℕ → ℕ → ℕ → ℕ → Exchange
@@ -93,25 +93,25 @@ fresh ox expected direction kind wanted start blocks =
     }
 
 -- "Wanted: 0; 18 or byte 4 if smaller (..); 36 or byte 4 if smaller (..); 8 (..); count × 512": of TEST UNIT READY, REQUEST SENSE, INQUIRY, READ CAPACITY, READ(10) and WRITE(10)
-abbrev pub exchangeFor : Operation → ℕ → ℕ → ℕ → ℕ → Exchange
-exchangeFor TestUnitReady attention ox lun expected = fresh ox expected toHost kindFree 0 0 0
-exchangeFor (RequestSense most) attention ox lun expected = fresh ox expected toHost (senseKind lun attention) (min 18 most) 0 0
-exchangeFor (Inquiry most) attention ox lun expected = fresh ox expected toHost (inquiryKind lun) (min 36 most) 0 0
-exchangeFor ReadCapacity attention ox lun expected = fresh ox expected toHost kindCapacity 8 0 0
-exchangeFor (Read r) attention ox lun expected = fresh ox expected toHost kindBlocks (512 * r.blocks) r.start r.blocks
-exchangeFor (Write r) attention ox lun expected = fresh ox expected fromHost kindBlocks (512 * r.blocks) r.start r.blocks
-exchangeFor Unknown attention ox lun expected = fresh ox expected toHost kindFree 0 0 0
+abbrev pub exchange_for : Operation → ℕ → ℕ → ℕ → ℕ → Exchange
+exchange_for TestUnitReady attention ox lun expected = fresh ox expected to_host kind_free 0 0 0
+exchange_for (RequestSense most) attention ox lun expected = fresh ox expected to_host (sense_kind lun attention) (min 18 most) 0 0
+exchange_for (Inquiry most) attention ox lun expected = fresh ox expected to_host (inquiry_kind lun) (min 36 most) 0 0
+exchange_for ReadCapacity attention ox lun expected = fresh ox expected to_host kind_capacity 8 0 0
+exchange_for (Read r) attention ox lun expected = fresh ox expected to_host kind_blocks (512 * r.blocks) r.start r.blocks
+exchange_for (Write r) attention ox lun expected = fresh ox expected from_host kind_blocks (512 * r.blocks) r.start r.blocks
+exchange_for Unknown attention ox lun expected = fresh ox expected to_host kind_free 0 0 0
 
 -- "(2) .., 05/25/00; (3) .., and cleared; (4) .., 05/20/00; (5) .., 07/27/00; (6) .., 05/24/00; (7) .., 05/21/00"
-unfoldable pub testedBy : Unit → ℕ → ℕ → Cmnd → Decoded → Asked
-testedBy u attention ox c d =
-    cond (otherUnit d.operation c.lun) (Refused 0x05 0x25)
+unfoldable pub tested_by : Unit → ℕ → ℕ → Cmnd → Decoded → Asked
+tested_by u attention ox c d =
+    cond (other_unit d.operation c.lun) (Refused 0x05 0x25)
     (cond (attends d.operation attention) Attention
     (cond (unknown d.operation) (Refused 0x05 0x20)
     (cond (protected u d.operation) (Refused 0x07 0x27)
     (cond d.wrong_field (Refused 0x05 0x24)
     (cond (outside u d.operation) (Refused 0x05 0x21)
-    (Wants (exchangeFor d.operation attention ox c.lun c.expected)))))))
+    (Wants (exchange_for d.operation attention ox c.lun c.expected)))))))
 
 unfoldable pub asked_of : Unit → ℕ → ℕ → Cmnd → Asked
-asked_of u attention ox c = testedBy u attention ox c (decodedOf c.cdb)
+asked_of u attention ox c = tested_by u attention ox c (decoded_of c.cdb)

@@ -6,10 +6,10 @@ mod tests;
 
 ghost use Rattle.std.specs.Prelude.{◌≡◌};
 ghost use Rattle.wire.specs.Bytes.{part};
-ghost use Rattle.state.specs.Tables.{findExchange};
-ghost use Rattle.command.specs.Cmnd.{cmndOf};
-ghost use Rattle.command.specs.Command.{refusedWith, executeOf};
-ghost use Rattle.command.specs.Turn.{loggedOutTurn, commandedTurn, commandTurn};
+ghost use Rattle.state.specs.Tables.{find_exchange};
+ghost use Rattle.command.specs.Cmnd.{cmnd_of};
+ghost use Rattle.command.specs.Command.{refused_with, execute_of};
+ghost use Rattle.command.specs.Turn.{logged_out_turn, commanded_turn, command_turn};
 
 use calls::{Decision, Served, View, answer_only, change_logins, serve_as, serve_at};
 use frame::Header;
@@ -81,7 +81,7 @@ pub enum Asked {
 
 // An FCP_CMND: without a paired login a drive LOGO, and the login ends.
 pub fn command(v: View, h: Header, frame: &[u8]) -> Decision
-    ensures { result ≡ commandTurn v h frame.now }
+    ensures { result ≡ command_turn v h frame.now }
 {
     let seat = v.seat;
     let Found::At(i) = seat else {
@@ -98,14 +98,14 @@ pub fn command(v: View, h: Header, frame: &[u8]) -> Decision
 }
 
 fn logged_out(from: u32) -> Decision
-    ensures { result ≡ loggedOutTurn from }
+    ensures { result ≡ logged_out_turn from }
 {
     change_logins(Reply::Logout, Change::EndLogin(from))
 }
 
 // An FCP_CMND from the paired login l at place i, in a frame of this length.
 fn commanded(u: Unit, i: usize, l: Login, h: Header, c: Cmnd, length: usize) -> Decision
-    ensures { result ≡ commandedTurn u i l h c length }
+    ensures { result ≡ commanded_turn u i l h c length }
 {
     let t = task_of(c, length, h.s_id);
     match t {
@@ -117,7 +117,7 @@ fn commanded(u: Unit, i: usize, l: Login, h: Header, c: Cmnd, length: usize) -> 
 
 // The fields, each from its place in the frame; a byte past the end counts as 0.
 fn read_cmnd(frame: &[u8]) -> Cmnd
-    ensures { result ≡ cmndOf frame.now }
+    ensures { result ≡ cmnd_of frame.now }
 {
     let cdb = cdb_at(frame);
     Cmnd {
@@ -142,7 +142,7 @@ fn cdb_at(frame: &[u8]) -> [u8; 16]
 
 // A command on its sender's login: test 1, that its OX_ID is not open, and what the other tests make of it.
 fn execute(u: Unit, l: Login, ox_id: u16, c: Cmnd) -> Served
-    ensures { result ≡ executeOf u l (findExchange l ox_id) ox_id c }
+    ensures { result ≡ execute_of u l (find_exchange l ox_id) ox_id c }
 {
     let expected = c.expected;
     if let Found::At(j) = find_exchange(l, ox_id) {
@@ -163,7 +163,7 @@ fn execute(u: Unit, l: Login, ox_id: u16, c: Cmnd) -> Served
 
 // CHECK CONDITION with this sense; nothing is wanted then.
 fn refuse(l: Login, key: u8, code: u8, expected: u32) -> Served
-    ensures { result ≡ refusedWith l key code expected }
+    ensures { result ≡ refused_with l key code expected }
 {
     let s = sense_with(key, code);
     serve_as(

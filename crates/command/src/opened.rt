@@ -1,9 +1,9 @@
 // What a command wants, and the exchange that opens (document 01, "Wanted").
 ghost use Rattle.std.specs.Prelude.{◌≡◌, ◌*◌, ◌≤◌, min};
-ghost use Rattle.state.specs.Kinds.{kindBlocks, toHost};
+ghost use Rattle.state.specs.Kinds.{kind_blocks, to_host};
 ghost use Rattle.command.specs.Cdb.{Countable};
-ghost use Rattle.command.specs.Tests.{senseKind, inquiryKind, fresh, exchangeFor};
-ghost use Rattle.command.specs.Command.{toldOf, bitFor, opened_of};
+ghost use Rattle.command.specs.Tests.{sense_kind, inquiry_kind, fresh, exchange_for};
+ghost use Rattle.command.specs.Command.{told_of, bit_for, opened_of};
 
 use crate::tasks::{low_bit, read_bit};
 use crate::{Operation, Range};
@@ -23,7 +23,7 @@ pub(crate) fn exchange_for(
     expected: u32,
 ) -> Exchange
     requires { Countable o }
-    ensures { result ≡ exchangeFor o attention ox_id lun expected }
+    ensures { result ≡ exchange_for o attention ox_id lun expected }
 {
     match o {
         Operation::TestUnitReady => made_exchange(ox_id, expected, Exchange::FREE, 0),
@@ -49,7 +49,7 @@ pub(crate) fn exchange_for(
 // READ and WRITE: 512 bytes for each block.
 fn blocks_exchange(ox_id: u16, expected: u32, direction: u8, r: Range) -> Exchange
     requires { r.blocks ≤ 65535 }
-    ensures { result ≡ fresh ox_id expected direction kindBlocks (512 * r.blocks) r.start r.blocks }
+    ensures { result ≡ fresh ox_id expected direction kind_blocks (512 * r.blocks) r.start r.blocks }
 {
     Exchange {
         start: r.start,
@@ -67,7 +67,7 @@ fn blocks_exchange(ox_id: u16, expected: u32, direction: u8, r: Range) -> Exchan
 
 // An exchange of made data: of no blocks.
 fn made_exchange(ox_id: u16, expected: u32, kind: u16, wanted: u32) -> Exchange
-    ensures { result ≡ fresh ox_id expected toHost kind wanted 0 0 }
+    ensures { result ≡ fresh ox_id expected to_host kind wanted 0 0 }
 {
     Exchange {
         start: 0,
@@ -85,7 +85,7 @@ fn made_exchange(ox_id: u16, expected: u32, kind: u16, wanted: u32) -> Exchange
 
 // What REQUEST SENSE reports, as the kind of its exchange.
 fn sense_kind(lun: u64, attention: u8) -> u16
-    ensures { result ≡ senseKind lun attention }
+    ensures { result ≡ sense_kind lun attention }
 {
     if lun != 0 {
         return Exchange::SENSE_OTHER_UNIT;
@@ -101,7 +101,7 @@ fn sense_kind(lun: u64, attention: u8) -> u16
 }
 
 fn inquiry_kind(lun: u64) -> u16
-    ensures { result ≡ inquiryKind lun }
+    ensures { result ≡ inquiry_kind lun }
 {
     if lun == 0 {
         Exchange::INQUIRY
@@ -140,7 +140,7 @@ pub(crate) fn answer(l: Login, bits: u8, e: Exchange) -> Served
 
 // The bit that test 8 asks for: the write bit of a WRITE, else the read bit.
 fn data_bit(e: Exchange, bits: u8) -> bool
-    ensures { result ≡ bitFor e bits }
+    ensures { result ≡ bit_for e bits }
 {
     if e.direction == Exchange::FROM_HOST {
         low_bit(bits)
@@ -151,7 +151,7 @@ fn data_bit(e: Exchange, bits: u8) -> bool
 
 // An attention is cleared as the exchange that reports it opens.
 fn told(l: Login, kind: u16) -> Login
-    ensures { result ≡ toldOf l kind }
+    ensures { result ≡ told_of l kind }
 {
     if kind == Exchange::SENSE_RESET {
         return set_attention(l, Login::NO_ATTENTION);

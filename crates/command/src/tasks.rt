@@ -1,6 +1,6 @@
 // What the task flags of an FCP_CMND ask for (document 01, "Commands").
 ghost use Rattle.std.specs.Prelude.{◌≡◌};
-ghost use Rattle.command.specs.Cmnd.{lowBit, readBit, malformed, onUnit, taskFor, task_of};
+ghost use Rattle.command.specs.Cmnd.{low_bit, read_bit, malformed, on_unit, task_for, task_of};
 
 use crate::{Cmnd, Task};
 use state::Change;
@@ -27,7 +27,7 @@ fn is_malformed(length: usize, bits: u8) -> bool
 
 // Any byte that is not named has a flag of 01h, 08h or 10h, or two flags.
 fn task_for(task: u8, lun: u64, from: u32) -> Task
-    ensures { result ≡ taskFor task lun from }
+    ensures { result ≡ task_for task lun from }
 {
     match task {
         0x00 => Task::Execute,
@@ -42,7 +42,7 @@ fn task_for(task: u8, lun: u64, from: u32) -> Task
 
 // A task set is that of unit 0 alone.
 fn on_unit(lun: u64, e: Change) -> Task
-    ensures { result ≡ onUnit lun e }
+    ensures { result ≡ on_unit lun e }
 {
     if lun == 0 {
         Task::Apply(e)
@@ -52,13 +52,13 @@ fn on_unit(lun: u64, e: Change) -> Task
 }
 
 pub(crate) fn low_bit(byte: u8) -> bool
-    ensures { result ≡ lowBit byte }
+    ensures { result ≡ low_bit byte }
 {
     byte % 2 == 1
 }
 
 pub(crate) fn read_bit(bits: u8) -> bool
-    ensures { result ≡ readBit bits }
+    ensures { result ≡ read_bit bits }
 {
     bits / 2 % 2 == 1
 }

@@ -1,7 +1,7 @@
 // The CDB, decoded, and tests 2 to 7 of a command (document 01, "Tests for the rest").
 ghost use Rattle.std.specs.Prelude.{◌≡◌, ◌≤◌};
-ghost use Rattle.command.specs.Cdb.{decodedAs, decodedOf, range10, inquiryField, capacityField, Countable};
-ghost use Rattle.command.specs.Tests.{skips, otherUnit, attends, unknown, writes, protected, beyond, outside, asked_of};
+ghost use Rattle.command.specs.Cdb.{decoded_as, decoded_of, range10, inquiry_field, capacity_field, Countable};
+ghost use Rattle.command.specs.Tests.{skips, other_unit, attends, unknown, writes, protected, beyond, outside, asked_of};
 
 use crate::opened::exchange_for;
 use crate::tasks::low_bit;
@@ -39,7 +39,7 @@ pub(crate) fn tested(u: Unit, attention: u8, ox_id: u16, c: Cmnd) -> Asked
 
 // The one place where operation codes are told apart.
 fn decode(cdb: [u8; 16]) -> Decoded
-    ensures { (result ≡ decodedOf cdb) × Countable result.operation }
+    ensures { (result ≡ decoded_of cdb) × Countable result.operation }
 {
     let most = cdb[4];
     match cdb[0] {
@@ -54,7 +54,7 @@ fn decode(cdb: [u8; 16]) -> Decoded
 }
 
 fn decoded_as(o: Operation, wrong_field: bool) -> Decoded
-    ensures { result ≡ decodedAs o wrong_field }
+    ensures { result ≡ decoded_as o wrong_field }
 {
     Decoded {
         operation: o,
@@ -73,13 +73,13 @@ fn range_10(cdb: [u8; 16]) -> Range
 }
 
 fn inquiry_field(cdb: [u8; 16]) -> bool
-    ensures { result ≡ inquiryField cdb }
+    ensures { result ≡ inquiry_field cdb }
 {
     if low_bit(cdb[1]) { true } else { cdb[2] != 0 }
 }
 
 fn capacity_field(cdb: [u8; 16]) -> bool
-    ensures { result ≡ capacityField cdb }
+    ensures { result ≡ capacity_field cdb }
 {
     if be32(&cdb, 2) == 0 {
         low_bit(cdb[8])
@@ -90,7 +90,7 @@ fn capacity_field(cdb: [u8; 16]) -> bool
 
 // Test 2.
 fn other_unit(o: Operation, lun: u64) -> bool
-    ensures { result ≡ otherUnit o lun }
+    ensures { result ≡ other_unit o lun }
 {
     if skips_two(o) { false } else { lun != 0 }
 }

@@ -8,21 +8,21 @@ use lib.Dec.{leb}
 use borrow.Author.Tests.{ltb-true, ltb-false, le-leb, lt-leb}
 use Rattle.tables.specs.declared.Found.{Found}
 use Rattle.tables.specs.declared.Found.TheVariants.{At, Nothing}
-use Rattle.cover.specs.Cover.{position_of, fitsAt, coverOf, tooLong, lentPlace}
+use Rattle.cover.specs.Cover.{position_of, fits_at, cover_of, too_long, lent_place}
 
-pub fits : (k n len : ℕ) → k + n ≤ len → At k ≡ fitsAt k n len
-unfolding fitsAt
+pub fits : (k n len : ℕ) → k + n ≤ len → At k ≡ fits_at k n len
+unfolding fits_at
 fits k n len h = rw (le-leb (k + n) len h)
 
-pub fits_not : (k n len : ℕ) → len < k + n → Nothing ≡ fitsAt k n len
-unfolding fitsAt
+pub fits_not : (k n len : ℕ) → len < k + n → Nothing ≡ fits_at k n len
+unfolding fits_at
 fits_not k n len h = rw (lt-leb (k + n) len h)
 
 module _ (block offset n start len : ℕ) where
   -- the block is the window's first or after it
-  pub cover-after : start ≤ block → fitsAt (position_of (block - start) offset) n len ≡ coverOf (position_of block offset) n start len
-  unfolding fitsAt coverOf
-  cover-after h =
+  pub cover_after : start ≤ block → fits_at (position_of (block - start) offset) n len ≡ cover_of (position_of block offset) n start len
+  unfolding fits_at cover_of
+  cover_after h =
       let k : position_of block offset - 512 * start ≡ position_of (block - start) offset = omega arith in
       elim (dec_le (position_of (block - start) offset + n) len) [
         | yes l ↦ rw (le-leb (position_of (block - start) offset + n) len l, le-leb (512 * start) (position_of block offset) (omega arith), le-leb (position_of block offset + n) (512 * start + len) (omega arith), k)
@@ -30,10 +30,10 @@ module _ (block offset n start len : ℕ) where
       ]
 
   -- the block is before the window's first
-  pub cover-before : block < start
-      → cond (leb (512 * (start - block)) offset) (fitsAt (offset - 512 * (start - block)) n len) Nothing ≡ coverOf (position_of block offset) n start len
-  unfolding fitsAt coverOf
-  cover-before h =
+  pub cover_before : block < start
+      → cond (leb (512 * (start - block)) offset) (fits_at (offset - 512 * (start - block)) n len) Nothing ≡ cover_of (position_of block offset) n start len
+  unfolding fits_at cover_of
+  cover_before h =
       let k : position_of block offset - 512 * start ≡ offset - 512 * (start - block) = omega arith in
       elim (dec_le (512 * (start - block)) offset) [
         | yes m ↦ elim (dec_le (offset - 512 * (start - block) + n) len) [
@@ -45,22 +45,22 @@ module _ (block offset n start len : ℕ) where
 
 -- the window's first block is so many blocks past the block
 module _ (blocks offset n len : ℕ) {r : Found} where
-  pub before-not : offset < 512 * blocks → r ≡ Nothing → r ≡ cond (leb (512 * blocks) offset) (fitsAt (offset - 512 * blocks) n len) Nothing
-  before-not h e = rw (lt-leb (512 * blocks) offset h) e
+  pub before_not : offset < 512 * blocks → r ≡ Nothing → r ≡ cond (leb (512 * blocks) offset) (fits_at (offset - 512 * blocks) n len) Nothing
+  before_not h e = rw (lt-leb (512 * blocks) offset h) e
 
-  pub before-fits : 512 * blocks ≤ offset → r ≡ fitsAt (offset - 512 * blocks) n len → r ≡ cond (leb (512 * blocks) offset) (fitsAt (offset - 512 * blocks) n len) Nothing
-  before-fits h e = rw (le-leb (512 * blocks) offset h) e
+  pub before_fits : 512 * blocks ≤ offset → r ≡ fits_at (offset - 512 * blocks) n len → r ≡ cond (leb (512 * blocks) offset) (fits_at (offset - 512 * blocks) n len) Nothing
+  before_fits h e = rw (le-leb (512 * blocks) offset h) e
 
 -- a lent window
 module _ (at n start len : ℕ) where
-  pub lent-too-long : tooLong len ≡ true → Nothing ≡ lentPlace at n start len
-  unfolding lentPlace
-  lent-too-long t = rw t
+  pub lent_too_long : too_long len ≡ true → Nothing ≡ lent_place at n start len
+  unfolding lent_place
+  lent_too_long t = rw t
 
   -- more bytes than a window may have are in none
-  pub lent-too-many : tooLong len ≡ false → tooLong n ≡ true → Nothing ≡ lentPlace at n start len
-  unfolding lentPlace coverOf
-  lent-too-many t m =
+  pub lent_too_many : too_long len ≡ false → too_long n ≡ true → Nothing ≡ lent_place at n start len
+  unfolding lent_place cover_of
+  lent_too_many t m =
       let few = ltb-false 65536 len t in
       let many = ltb-true 65536 n m in
       elim (dec_le (512 * start) at) [
@@ -68,6 +68,6 @@ module _ (at n start len : ℕ) where
         | no l ↦ rw (t, lt-leb (512 * start) at (omega (arith, l)))
       ]
 
-  pub lent_is : {r : Found} → tooLong len ≡ false → r ≡ coverOf at n start len → r ≡ lentPlace at n start len
-  unfolding lentPlace
+  pub lent_is : {r : Found} → too_long len ≡ false → r ≡ cover_of at n start len → r ≡ lent_place at n start len
+  unfolding lent_place
   lent_is t e = rw t e

@@ -12,21 +12,21 @@ abbrev pub cut : List ℕ → ℕ → ℕ → List ℕ
 cut unit start len = take len (drop (512 * start) unit)
 
 -- place k, if the n bytes from it on are among len
-unfoldable pub fitsAt : ℕ → ℕ → ℕ → Found
-fitsAt k n len = cond (leb (k + n) len) (At k) Nothing
+unfoldable pub fits_at : ℕ → ℕ → ℕ → Found
+fits_at k n len = cond (leb (k + n) len) (At k) Nothing
 
 -- "a window: a starting block and at most 65,536 bytes holding that frame's bytes": whether one of len bytes has the n bytes from this one of the unit on
 abbrev pub holds : ℕ → ℕ → ℕ → ℕ → Bool
 holds at n start len = leb (512 * start) at && leb (at + n) (512 * start + len)
 
 -- where they begin in it, or that it does not hold them: "not covering"
-unfoldable pub coverOf : ℕ → ℕ → ℕ → ℕ → Found
-coverOf at n start len = cond (holds at n start len) (At (at - 512 * start)) Nothing
+unfoldable pub cover_of : ℕ → ℕ → ℕ → ℕ → Found
+cover_of at n start len = cond (holds at n start len) (At (at - 512 * start)) Nothing
 
 -- "a window: .. at most 65,536 bytes"
-abbrev pub tooLong : ℕ → Bool
-tooLong len = ltb 65536 len
+abbrev pub too_long : ℕ → Bool
+too_long len = ltb 65536 len
 
 -- where they begin in it, in a window that is too long nowhere
-unfoldable pub lentPlace : ℕ → ℕ → ℕ → ℕ → Found
-lentPlace at n start len = cond (tooLong len) Nothing (coverOf at n start len)
+unfoldable pub lent_place : ℕ → ℕ → ℕ → ℕ → Found
+lent_place at n start len = cond (too_long len) Nothing (cover_of at n start len)

@@ -1,7 +1,7 @@
 // Where bytes of the unit stand in a lent window.
 ghost use Rattle.std.specs.Prelude.{◌≡◌, cond, ◌+◌, ◌-◌, ◌*◌, leb};
 ghost use Rattle.tables.specs.declared.Found.TheVariants.{Nothing};
-ghost use Rattle.cover.specs.Cover.{position_of, fitsAt, coverOf, tooLong, lentPlace};
+ghost use Rattle.cover.specs.Cover.{position_of, fits_at, cover_of, too_long, lent_place};
 
 use tables::Found;
 
@@ -10,14 +10,14 @@ const MOST_WINDOW: usize = 65536;
 
 // Whether a window has too many bytes.
 pub fn too_long(len: usize) -> bool
-    ensures { result ≡ tooLong len }
+    ensures { result ≡ too_long len }
 {
     MOST_WINDOW < len
 }
 
 // Where the n bytes from an offset past the start of a block on begin in a window, if it is not too long and holds them all.
 pub fn lent_place(block: u64, offset: u32, n: usize, start: u64, len: usize) -> Found
-    ensures { result ≡ lentPlace (position_of block offset) n start len }
+    ensures { result ≡ lent_place (position_of block offset) n start len }
 {
     if too_long(len) {
         return Found::Nothing;
@@ -31,7 +31,7 @@ pub fn lent_place(block: u64, offset: u32, n: usize, start: u64, len: usize) -> 
 
 // Where the n bytes from an offset past the start of a block on begin in a window of len bytes that starts at a block, if it holds them all.
 pub fn covered(block: u64, offset: u32, n: u32, start: u64, len: usize) -> Found
-    ensures { result ≡ coverOf (position_of block offset) n start len }
+    ensures { result ≡ cover_of (position_of block offset) n start len }
 {
     if start <= block {
         after_start(block - start, offset, n, len)
@@ -42,7 +42,7 @@ pub fn covered(block: u64, offset: u32, n: u32, start: u64, len: usize) -> Found
 
 // The same where the block is so many blocks past the window's first.
 fn after_start(blocks: u64, offset: u32, n: u32, len: usize) -> Found
-    ensures { result ≡ fitsAt (position_of blocks offset) n len }
+    ensures { result ≡ fits_at (position_of blocks offset) n len }
 {
     let most = len as u64;
     if most / 512 < blocks {
@@ -57,7 +57,7 @@ fn after_start(blocks: u64, offset: u32, n: u32, len: usize) -> Found
 
 // The same where the window's first block is so many blocks past the block.
 fn before_start(blocks: u64, offset: u32, n: u32, len: usize) -> Found
-    ensures { result ≡ cond (leb (512 * blocks) offset) (fitsAt (offset - 512 * blocks) n len) Nothing }
+    ensures { result ≡ cond (leb (512 * blocks) offset) (fits_at (offset - 512 * blocks) n len) Nothing }
 {
     let most = len as u64;
     let all = offset as u64;

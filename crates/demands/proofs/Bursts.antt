@@ -9,8 +9,8 @@ use Rattle.state.specs.declared.Exchange.{Exchange}
 use Rattle.state.specs.Changes.{taken}
 use Rattle.formed.specs.Formed.{total}
 use Rattle.formed.proofs.Taking.{Awaits, more, done, burst, Taken}
-use Rattle.taking.specs.Taking.{burstEnd, takenOn}
-use Rattle.taking.proofs.Bursts.{burst-awaited, burst-unasked}
+use Rattle.taking.specs.Taking.{burst_end, taken_on}
+use Rattle.taking.proofs.Bursts.{burst_awaited, burst_unasked}
 
 module _ {e : Exchange} (t : Taken e) where
   -- data are awaited or not
@@ -23,25 +23,25 @@ module _ {e : Exchange} (t : Taken e) where
       by (burst a h) = a
 
   -- all came: its end is the total
-  pub burst-all : total e ≤ e.sent → burstEnd e ≡ total e
-  burst-all l = by t.awaits
+  pub burst_all : total e ≤ e.sent → burst_end e ≡ total e
+  burst_all l = by t.awaits
     where
-      by : Awaits (total e) e.sent e.awaited → burstEnd e ≡ total e
+      by : Awaits (total e) e.sent e.awaited → burst_end e ≡ total e
       by (more a h) = absurd (omega arith)
-      by (done a h) = burst-unasked e a ∙ h
-      by (burst a h) = let w = t.within in burst-unasked e a ∙ (omega arith)
+      by (done a h) = burst_unasked e a ∙ h
+      by (burst a h) = let w = t.within in burst_unasked e a ∙ (omega arith)
 
   -- a data frame within it leaves its end
-  pub burst-taken : (n : ℕ) → e.sent + n ≤ burstEnd e → (e.sent + n) % 4294967296 ≡ e.sent + n → burstEnd (takenOn e n) ≡ burstEnd e
-  burst-taken n within wrap =
-      elim (ℕ_discrete (e.sent + n) (burstEnd e)) [
-        | yes h ↦ (let f : takenOn e n ≡ taken e n 0 = ap (λ b. taken e n (cond b 0 1)) (eq-eqb (e.sent + n) (burstEnd e) h) in
-            ap burstEnd f ∙ burst-unasked (taken e n 0) refl ∙ wrap ∙ h)
+  pub burst_taken : (n : ℕ) → e.sent + n ≤ burst_end e → (e.sent + n) % 4294967296 ≡ e.sent + n → burst_end (taken_on e n) ≡ burst_end e
+  burst_taken n within wrap =
+      elim (ℕ_discrete (e.sent + n) (burst_end e)) [
+        | yes h ↦ (let f : taken_on e n ≡ taken e n 0 = ap (λ b. taken e n (cond b 0 1)) (eq-eqb (e.sent + n) (burst_end e) h) in
+            ap burst_end f ∙ burst_unasked (taken e n 0) refl ∙ wrap ∙ h)
         | no h ↦ (elim (ℕ_discrete e.awaited 1) [
-          | yes a ↦ (let f : takenOn e n ≡ taken e n 1 = ap (λ b. taken e n (cond b 0 1)) (ne_eqb (e.sent + n) (burstEnd e) h) in
-              let b = burst-awaited e a in
-              ap burstEnd f ∙ burst-awaited (taken e n 1) refl ∙ ap (λ (s : ℕ). min (total e) ((s / 65536 + 1) * 65536)) wrap ∙ same e.sent n (total e) (omega arith) ∙ sym b)
-          | no a ↦ (let b = burst-unasked e (unasked a) in absurd (omega arith))
+          | yes a ↦ (let f : taken_on e n ≡ taken e n 1 = ap (λ b. taken e n (cond b 0 1)) (ne_eqb (e.sent + n) (burst_end e) h) in
+              let b = burst_awaited e a in
+              ap burst_end f ∙ burst_awaited (taken e n 1) refl ∙ ap (λ (s : ℕ). min (total e) ((s / 65536 + 1) * 65536)) wrap ∙ same e.sent n (total e) (omega arith) ∙ sym b)
+          | no a ↦ (let b = burst_unasked e (unasked a) in absurd (omega arith))
         ])
       ]
     where

@@ -21,19 +21,19 @@ module _ {M : Type 1} (𝓤 : Ura M) where
       let rest = sep 𝓤 (fact 𝓤 ψ) (fact 𝓤 χ) in
       fact_use 𝓤 φ (fst∗ 𝓤 (fact 𝓤 φ) rest) (λ p. fact_use 𝓤 (ψ × χ) (via 𝓤 rest (snd∗ 𝓤 (fact 𝓤 φ) rest) (both ψ χ)) (λ q. fact_i 𝓤 (φ × ψ × χ) _ (p, q.0, q.1)))
 
-pub one-reply : {M : Type 1} {𝓤 : Ura M} (𝓛 : Logic 𝓤) (mem : Memory → SProp 𝓤) (run : Routine → Fun 𝓤) → OneReply 𝓛 mem run
-one-reply {𝓤 = 𝓤} 𝓛 mem run =
+pub one_reply : {M : Type 1} {𝓤 : Ura M} (𝓛 : Logic 𝓤) (mem : Memory → SProp 𝓤) (run : Routine → Fun 𝓤) → OneReply 𝓛 mem run
+one_reply {𝓤 = 𝓤} 𝓛 mem run =
     record {
       making = λ s. from_one 𝓤 _ _ (λ x. id⊢ 𝓤 _) (λ x y p q. p ∙ sym q);
       frame = λ κs d f start W l. from_one 𝓤 _ _ (λ x. three 𝓤 _ _ _) (λ x y p q i. ((p.0 ∙ sym q.0) i, (p.2 ∙ sym q.2) i, (p.1 ∙ sym q.1) i));
       next = λ κs d a x start W l. from_one 𝓤 _ _ (λ x. id⊢ 𝓤 _) (λ x y p q i. ((p.0 ∙ sym q.0) i, (p.1 ∙ sym q.1) i));
       happens = λ d e. from_one 𝓤 _ _ (λ x. id⊢ 𝓤 _) (λ x y p q. p ∙ sym q);
-      c-make = λ κs d s. from_one 𝓤 _ _ (λ x. id⊢ 𝓤 _) (λ x y p q i. ((p.0 ∙ sym q.0) i, (p.1 ∙ sym q.1) i));
+      c_make = λ κs d s. from_one 𝓤 _ _ (λ x. id⊢ 𝓤 _) (λ x y p q i. ((p.0 ∙ sym q.0) i, (p.1 ∙ sym q.1) i));
       c_frame = λ κs d f start W l. from_one 𝓤 _ _ (λ x. id⊢ 𝓤 _) (λ x y p q i. ((p.0.0 ∙ sym q.0.0) i, (p.0.1 ∙ sym q.0.1) i, (p.2 ∙ sym q.2) i, (p.1 ∙ sym q.1) i));
-      c-next = λ κs d a x start W l. from_one 𝓤 _ _ (λ x. id⊢ 𝓤 _) (λ x y p q i. ((p.0.0 ∙ sym q.0.0) i, ((p.0.1 ∙ sym q.0.1) i, (p.1 ∙ sym q.1) i)));
-      c-loop-reset = λ κs d. from_one 𝓤 _ _ (λ x. id⊢ 𝓤 _) (λ x y p q i. ((p.0 ∙ sym q.0) i, (p.1 ∙ sym q.1) i));
-      c-time-over = λ κs d. from_one 𝓤 _ _ (λ x. id⊢ 𝓤 _) (λ x y p q i. ((p.0 ∙ sym q.0) i, (p.1 ∙ sym q.1) i));
-      c-power-on = λ κs d. from_one 𝓤 _ _ (λ x. id⊢ 𝓤 _) (λ x y p q i. ((p.0 ∙ sym q.0) i, (p.1 ∙ sym q.1) i));
+      c_next = λ κs d a x start W l. from_one 𝓤 _ _ (λ x. id⊢ 𝓤 _) (λ x y p q i. ((p.0.0 ∙ sym q.0.0) i, ((p.0.1 ∙ sym q.0.1) i, (p.1 ∙ sym q.1) i)));
+      c_loop_reset = λ κs d. from_one 𝓤 _ _ (λ x. id⊢ 𝓤 _) (λ x y p q i. ((p.0 ∙ sym q.0) i, (p.1 ∙ sym q.1) i));
+      c_time_over = λ κs d. from_one 𝓤 _ _ (λ x. id⊢ 𝓤 _) (λ x y p q i. ((p.0 ∙ sym q.0) i, (p.1 ∙ sym q.1) i));
+      c_power_on = λ κs d. from_one 𝓤 _ _ (λ x. id⊢ 𝓤 _) (λ x y p q i. ((p.0 ∙ sym q.0) i, (p.1 ∙ sym q.1) i));
       judges = λ κs login. from_one 𝓤 _ _ (λ x. id⊢ 𝓤 _) (λ x y p q. p ∙ sym q);
       lines = λ number j. from_one 𝓤 _ _ (λ x. id⊢ 𝓤 _) (λ x y p q. p.is ∙ sym q.is);
       tells = λ κs s letter body. from_one 𝓤 _ _ (λ x. both 𝓤 _ _) (λ x y p q i. ((p.0.is ∙ sym q.0.is) i, (p.1 ∙ sym q.1) i));

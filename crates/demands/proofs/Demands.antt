@@ -6,87 +6,87 @@ use native.Mathlib.Omega.{arith}
 use lib.ListN.{length}
 use borrow.Author.Tests.{not-true}
 use Rattle.tables.proofs.Bools.{apart}
-use Rattle.wire.proofs.Digits.{name-same}
-use Rattle.frame.proofs.Trips.{write_read, read-write}
-use Rattle.formed.specs.Formed.{wellFormed}
+use Rattle.wire.proofs.Digits.{name_same}
+use Rattle.frame.proofs.Trips.{write_read, read_write}
+use Rattle.formed.specs.Formed.{well_formed}
 use Rattle.refusal.specs.declared.Refusal.TheVariants.{IllFormed}
 use Rattle.refusal.specs.declared.Said.TheVariants.{Refused}
 use Rattle.drive.specs.declared.Drive.{Drive}
-use Rattle.drive.specs.Entry.{frameIn, nextFrame}
-use Rattle.drive.proofs.Made.{new-refused, new-made, event-refused, event-answered}
+use Rattle.drive.specs.Entry.{frame_in, next_frame}
+use Rattle.drive.proofs.Made.{new_refused, new_made, event_refused, event_answered}
 use Rattle.demands.specs.Driven.{Driven}
 use Rattle.demands.specs.Demands.{Demand1, Demand2}
-use Rattle.demands.proofs.Contracts.{one-reply}
-use Rattle.demands.proofs.Reach.{driven-fine}
-use Rattle.demands.proofs.Refusals.{frame-first, frame-refuses, next-first, next-refuses, next-unchanged}
-use Rattle.demands.proofs.Lengths.{frame-long, next-long, next-silent, next-most}
-use Rattle.demands.proofs.Login.{login-is, moved-is}
-use Rattle.demands.proofs.Judges.{judges-is}
-use Rattle.demands.proofs.Between.{leaves-open}
-use Rattle.demands.proofs.Ending.{ends_open, no-third-call}
-use Rattle.demands.proofs.Reading.{reads-shown, reads-read, reads_made, reads-come}
-use Rattle.demands.proofs.Opening.{opens-command, read-in, made_in, comes-in}
-use Rattle.demands.proofs.Outside.{write-local, write-outside}
-use Rattle.demands.proofs.Writing.{whole-write, whole-write-in}
-use Rattle.demands.proofs.WriteComes.{write-comes}
-use Rattle.demands.proofs.Numbers.{known-numbers}
+use Rattle.demands.proofs.Contracts.{one_reply}
+use Rattle.demands.proofs.Reach.{driven_fine}
+use Rattle.demands.proofs.Refusals.{frame_first, frame_refuses, next_first, next_refuses, next_unchanged}
+use Rattle.demands.proofs.Lengths.{frame_long, next_long, next_silent, next_most}
+use Rattle.demands.proofs.Login.{login_is, moved_is}
+use Rattle.demands.proofs.Judges.{judges_is}
+use Rattle.demands.proofs.Between.{leaves_open}
+use Rattle.demands.proofs.Ending.{ends_open, no_third_call}
+use Rattle.demands.proofs.Reading.{reads_shown, reads_read, reads_made, reads_come}
+use Rattle.demands.proofs.Opening.{opens_command, read_in, made_in, comes_in}
+use Rattle.demands.proofs.Outside.{write_local, write_outside}
+use Rattle.demands.proofs.Writing.{whole_write, whole_write_in}
+use Rattle.demands.proofs.WriteComes.{write_comes}
+use Rattle.demands.proofs.Numbers.{known_numbers}
 
 -- 2 is given where the state is not well formed, and a driven one is
-never-frame : {d : Drive} → Driven d → (f : List ℕ) (start : ℕ) (W l : List ℕ) → (frameIn d f start W (length l)).said ≡ Refused IllFormed → ⊥
-never-frame {d} r f start W l e = apart (driven-fine r) (not-true (wellFormed d.unit d.port) (frame-first d f start W l IllFormed e).this)
+never_frame : {d : Drive} → Driven d → (f : List ℕ) (start : ℕ) (W l : List ℕ) → (frame_in d f start W (length l)).said ≡ Refused IllFormed → ⊥
+never_frame {d} r f start W l e = apart (driven_fine r) (not-true (well_formed d.unit d.port) (frame_first d f start W l IllFormed e).this)
 
-never-next : {d : Drive} → Driven d → (a x start : ℕ) (W l : List ℕ) → (nextFrame d a x start W (length l)).said ≡ Refused IllFormed → ⊥
-never-next {d} r a x start W l e = apart (driven-fine r) (not-true (wellFormed d.unit d.port) (next-first d a x start W l IllFormed e).this)
+never_next : {d : Drive} → Driven d → (a x start : ℕ) (W l : List ℕ) → (next_frame d a x start W (length l)).said ≡ Refused IllFormed → ⊥
+never_next {d} r a x start W l e = apart (driven_fine r) (not-true (well_formed d.unit d.port) (next_first d a x start W l IllFormed e).this)
 
 below : (n m : ℕ) → n ≤ m → m < 65536 → n < 65536
 below n m h k = omega arith
 
-pub demand-1 : Demand1
-demand-1 =
+pub demand_1 : Demand1
+demand_1 =
     record {
-      no-two-replies = one-reply;
-      frame-given = frame-first;
-      frame_then = frame-refuses;
-      next-given = next-first;
-      next-then = next-refuses;
-      next-same = next-unchanged;
-      event-given = λ d e. (event-refused d e, event-answered d e);
-      new-given = λ s. (new-refused s, new-made s);
-      driven-formed = driven-fine;
-      frame-never-2 = never-frame;
-      next-never-2 = never-next;
-      event-never-2 = λ {d} r e. event-answered d e (driven-fine r);
-      frame-length = frame-long;
-      next-length = next-long;
-      next-awaits = next-silent;
-      frame_below = λ d f start W l n words e. below n 140 (frame-long d f start W l n words e).0 (omega arith);
-      next-below = λ d a x start W l n e. below n 2072 (next-most d a x start W l n e) (omega arith);
+      no_two_replies = one_reply;
+      frame_given = frame_first;
+      frame_then = frame_refuses;
+      next_given = next_first;
+      next_then = next_refuses;
+      next_same = next_unchanged;
+      event_given = λ d e. (event_refused d e, event_answered d e);
+      new_given = λ s. (new_refused s, new_made s);
+      driven_formed = driven_fine;
+      frame_never_2 = never_frame;
+      next_never_2 = never_next;
+      event_never_2 = λ {d} r e. event_answered d e (driven_fine r);
+      frame_length = frame_long;
+      next_length = next_long;
+      next_awaits = next_silent;
+      frame_below = λ d f start W l n words e. below n 140 (frame_long d f start W l n words e).0 (omega arith);
+      next_below = λ d a x start W l n e. below n 2072 (next_most d a x start W l n e) (omega arith);
     }
 
-pub demand-2 : Demand2
-demand-2 =
+pub demand_2 : Demand2
+demand_2 =
     record {
-      header-bytes = write_read;
-      header-fields = read-write;
-      port-login = login-is;
-      host-moved = λ d f start W l p words b n. moved-is d f start W l p words b n;
-      name-same = λ x y bx by ex ey e. name-same x y bx by (ex ∙ sym ey) e;
-      whole-read = reads-read;
-      whole-made = reads_made;
-      stays_open = leaves-open;
+      header_bytes_lem = write_read;
+      header_fields = read_write;
+      port_login = login_is;
+      host_moved = λ d f start W l p words b n. moved_is d f start W l p words b n;
+      name_same = λ x y bx by ex ey e. name_same x y bx by (ex ∙ sym ey) e;
+      whole_read = reads_read;
+      whole_made = reads_made;
+      stays_open = leaves_open;
       ends_open = ends_open;
-      no-third-call = no-third-call;
-      command-opens = opens-command;
-      whole-read-in = λ d e unit f start W l frames last long known r. read-in d f start W l known r e unit frames last long;
-      whole-made-in = λ opens made unwritten d e unit f start W l frames last words known r. made_in opens made unwritten d f start W l known r e unit frames last words;
-      whole-comes = reads-come;
-      whole-comes-in = λ opens unwritten d unit f start W l long known r. comes-in opens d f start W l known r unwritten unit long;
-      frames-shown = reads-shown;
-      write-local = write-local;
-      write-outside = write-outside;
-      whole-write = whole-write;
-      whole-write-in = whole-write-in;
-      write-comes = write-comes;
-      judges-is = judges-is;
-      p-cases = known-numbers;
+      no_third_call = no_third_call;
+      command_opens = opens_command;
+      whole_read_in = λ d e unit f start W l frames last long known r. read_in d f start W l known r e unit frames last long;
+      whole_made_in = λ opens made unwritten d e unit f start W l frames last words known r. made_in opens made unwritten d f start W l known r e unit frames last words;
+      whole_comes = reads_come;
+      whole_comes_in = λ opens unwritten d unit f start W l long known r. comes_in opens d f start W l known r unwritten unit long;
+      frames_shown = reads_shown;
+      write_local = write_local;
+      write_outside = write_outside;
+      whole_write = whole_write;
+      whole_write_in = whole_write_in;
+      write_comes = write_comes;
+      judges_is = judges_is;
+      p_cases = known_numbers;
     }

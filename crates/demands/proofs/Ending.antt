@@ -12,18 +12,18 @@ use lib.Seq.{get_or-set_same}
 use borrow.Author.Tests.{eqb-true, eq-eqb, ne_eqb, leb-false}
 use Rattle.tables.specs.declared.Found.{Found}
 use Rattle.tables.specs.declared.Found.TheVariants.{At, Nothing}
-use Rattle.tables.specs.Lists.{onFound}
+use Rattle.tables.specs.Lists.{on_found}
 use Rattle.tables.proofs.Bools.{or_right, apart}
 use Rattle.tables.proofs.Searches.{found_below}
 use Rattle.wire.specs.Bytes.{num, part, name_of}
 use Rattle.wire.specs.Layout.{AllBytes}
 use Rattle.frame.specs.declared.Header.{Header}
-use Rattle.frame.specs.Head.{headerOf}
+use Rattle.frame.specs.Head.{header_of}
 use Rattle.params.specs.declared.Params.{Params}
 use Rattle.params.specs.declared.Verdict.{Verdict}
 use Rattle.params.specs.declared.Verdict.TheVariants as verdict
-use Rattle.params.specs.Words.{params_of, verdictOf}
-use Rattle.params.proofs.Exactly.{accepted, accepts-then}
+use Rattle.params.specs.Words.{params_of, verdict_of}
+use Rattle.params.proofs.Exactly.{accepted, accepts_then}
 use Rattle.refusal.specs.declared.Refusal.{Refusal}
 use Rattle.refusal.specs.declared.Said.TheVariants.{Sent, Refused}
 use Rattle.state.specs.declared.Login.{Login}
@@ -32,276 +32,276 @@ use Rattle.state.specs.declared.Unit.{Unit}
 use Rattle.state.specs.declared.Change.{Change}
 use Rattle.state.specs.declared.Change.TheVariants.{EndAll, EndLogin, EndHost, EndUnproven, EndExchangesOf, Reset, Clear}
 use Rattle.state.specs.Standing.{Open}
-use Rattle.state.specs.Changes.{emptyExchange, emptyLogin, isUsed, hasAddress, hasName, isHost, loginAt, exchangeAt, withLogin, withExchange, withoutExchanges, endedAt, freedOf, ended_of, hostEnded, verified, abortedOf, resetOf, losesTo, clearedBy, changedOf, changedAll}
-use Rattle.state.specs.Tables.{isFree, hasId, findLogin, findExchange, freeLogin, loginIn, loginOf, lookupOf, soughtIn}
-use Rattle.state.proofs.Places.{found-has, open-place, open-exchange, open-has, login-inside, exchange-inside, stored_at, login-other, exchange-other}
-use Rattle.formed.specs.Formed.{wellFormed}
+use Rattle.state.specs.Changes.{empty_exchange, empty_login, is_used, has_address, has_name, is_host, login_at, exchange_at, with_login, with_exchange, without_exchanges, ended_at, freed_of, ended_of, host_ended, verified, aborted_of, reset_of, loses_to, cleared_by, changed_of, changed_all}
+use Rattle.state.specs.Tables.{is_free, has_id, find_login, find_exchange, free_login, login_in, login_of, lookup_of, sought_in}
+use Rattle.state.proofs.Places.{found_has, open_place, open_exchange, open_has, login_inside, exchange_inside, stored_at, login_other, exchange_other}
+use Rattle.formed.specs.Formed.{well_formed}
 use Rattle.reply.specs.Reply.{silent, bytes_of}
 use Rattle.calls.specs.declared.Served.{Served}
 use Rattle.calls.specs.Turn.{Decided, served_at}
-use Rattle.calls.proofs.Decisions.{by_cond, on-cond}
-use Rattle.calls.proofs.Others.{at-changed, free-has, empty-has}
-use Rattle.calls.proofs.Standing.{seat-found, stands-there}
+use Rattle.calls.proofs.Decisions.{by_cond, on_cond}
+use Rattle.calls.proofs.Others.{at_changed, free_has, empty_has}
+use Rattle.calls.proofs.Standing.{seat_found, stands_there}
 use Rattle.link.specs.Login.{named_in, Moves}
-use Rattle.link.specs.Link.{newLogin, outcomeAfter, outcomePort, endsFor, endsBy, outcomeOf, plogiOf, logoOf, pdiscOf, adiscOf, prloOf, serviceOf, size_of, link_of, abtsOf, namesDiffer, pageFine}
+use Rattle.link.specs.Link.{new_login, outcome_after, outcome_port, ends_for, ends_by, outcome_of, plogi_of, logo_of, pdisc_of, adisc_of, prlo_of, service_of, size_of, link_of, abts_of, names_differ, page_fine}
 use Rattle.command.specs.declared.Task.{Task}
 use Rattle.command.specs.declared.Task.TheVariants as task
-use Rattle.command.specs.Cmnd.{cmndOf, task_of}
-use Rattle.command.specs.Command.{refusedWith, executeOf, doneAs, commandedAt, loggedOut, commandOf}
-use Rattle.command.proofs.Logins.{Mild, task-mild}
+use Rattle.command.specs.Cmnd.{cmnd_of, task_of}
+use Rattle.command.specs.Command.{refused_with, execute_of, done_as, commanded_at, logged_out, command_of}
+use Rattle.command.proofs.Logins.{Mild, task_mild}
 use Rattle.command.proofs.Logins as mild
 use Rattle.taking.specs.declared.Step.{Step}
 use Rattle.taking.specs.declared.Step.TheVariants.{NoWrite, Fault, Uncovered, Take}
-use Rattle.taking.specs.Taking.{dataSize, stepIn, servedBy, servedData, dataDecided}
-use Rattle.taking.proofs.Steps.{Means, step-means}
-use Rattle.arrival.specs.Arrival.{unknownForm, knownPair, badSequence, form_of}
+use Rattle.taking.specs.Taking.{data_size, step_in, served_by, served_data, data_decided}
+use Rattle.taking.proofs.Steps.{Means, step_means}
+use Rattle.arrival.specs.Arrival.{unknown_form, known_pair, bad_sequence, form_of}
 use Rattle.drive.specs.declared.Drive.{Drive}
 use Rattle.drive.specs.declared.Answer.{Answer}
 use Rattle.drive.specs.declared.Event.{Event}
 use Rattle.drive.specs.declared.Event.TheVariants.{LoopReset, TimeOver, PowerOn}
-use Rattle.drive.specs.Drive.{changeOf, afterEvent, eventAnswer}
-use Rattle.drive.specs.Entry.{decidedOf, decidedIn, replyBytes, frameIn}
-use Rattle.drive.proofs.Made.{event-answered}
-use Rattle.drive.proofs.Ways.{frame-cases}
-use Rattle.demands.specs.Between.{Call, frame, next, event, after, asked, EndsAll, Own, Service, pdiscNames, adiscNames, LeavesOpen, EndsOpen, Serves, Taken}
+use Rattle.drive.specs.Drive.{change_of, after_event, event_answer}
+use Rattle.drive.specs.Entry.{decided_of, decided_in, reply_bytes, frame_in}
+use Rattle.drive.proofs.Made.{event_answered}
+use Rattle.drive.proofs.Ways.{frame_cases}
+use Rattle.demands.specs.Between.{Call, frame, next, event, after, asked, EndsAll, Own, Service, pdisc_names, adisc_names, LeavesOpen, EndsOpen, Serves, Taken}
 use Rattle.demands.specs.Between as call
 use Rattle.demands.proofs.Lengths.{same_length}
-use Rattle.demands.proofs.Between.{login-found, seat, sought-there, is-paired, own-command, login-there, command-form}
+use Rattle.demands.proofs.Between.{login_found, seat, sought_there, is_paired, own_command, login_there, command_form}
 
 -- reading a list of free places gives a free one, past its end too
-all-empty : (n m : ℕ) → get_or (replicate n emptyExchange) m emptyExchange ≡ emptyExchange
-all-empty zero m = refl
-all-empty (suc n) zero = refl
-all-empty (suc n) (suc m) = all-empty n m
+all_empty : (n m : ℕ) → get_or (replicate n empty_exchange) m empty_exchange ≡ empty_exchange
+all_empty zero m = refl
+all_empty (suc n) zero = refl
+all_empty (suc n) (suc m) = all_empty n m
 
 -- the exchange of a and x is open nowhere
 module _ (a x : ℕ) where
   -- at no place of a login of a
   abbrev Lacks : Login → Type 0
-  Lacks l = hasAddress a l ≡ true → (m : ℕ) → hasId x (exchangeAt l m) ≡ true → ⊥
+  Lacks l = has_address a l ≡ true → (m : ℕ) → has_id x (exchange_at l m) ≡ true → ⊥
 
   -- at no login
   abbrev Gone : Port → Type 0
-  Gone q = (k : ℕ) → Lacks (loginAt q k)
+  Gone q = (k : ℕ) → Lacks (login_at q k)
 
   -- so a search for it finds none
-  nowhere : (q : Port) → Gone q → (k m : ℕ) → lookupOf q a x ≡ Open k m → ⊥
-  nowhere q g k m o = g k (found-has q a k (open-place q a x k m o)) m (open-has q a x k m o)
+  nowhere : (q : Port) → Gone q → (k m : ℕ) → lookup_of q a x ≡ Open k m → ⊥
+  nowhere q g k m o = g k (found_has q a k (open_place q a x k m o)) m (open_has q a x k m o)
 
   -- at a login of another, and at a free place for one
-  strange : (l : Login) → hasAddress a l ≡ false → Lacks l
+  strange : (l : Login) → has_address a l ≡ false → Lacks l
   strange l n h m id = apart h n
 
-  unused : (l : Login) → isUsed l ≡ false → Lacks l
-  unused l n = strange l (free-has a l n)
+  unused : (l : Login) → is_used l ≡ false → Lacks l
+  unused l n = strange l (free_has a l n)
 
-  empty : Lacks emptyLogin
-  empty = strange emptyLogin (empty-has a)
+  empty : Lacks empty_login
+  empty = strange empty_login (empty_has a)
 
   -- at a login without exchanges
-  bare : (l : Login) → l.places ≡ replicate 8 emptyExchange → Lacks l
-  unfolding exchangeAt hasId
-  bare l e h m id = apart id (rw (e, all-empty 8 m))
+  bare : (l : Login) → l.places ≡ replicate 8 empty_exchange → Lacks l
+  unfolding exchange_at has_id
+  bare l e h m id = apart id (rw (e, all_empty 8 m))
 
   -- the changes of every login that end it at a login
   data Ends (l : Login) : Change → Type 0 where
-    ends-all : Ends l EndAll
-    ends-login : Ends l (EndLogin a)
-    ends-host : (b n : ℕ) → (hasAddress a l ≡ true → isHost b n l ≡ true) → Ends l (EndHost b n)
-    ends-unproven : (eqb l.proven 1 ≡ true → Lacks l) → Ends l EndUnproven
-    ends-exchanges : Ends l (EndExchangesOf a)
+    ends_all : Ends l EndAll
+    ends_login : Ends l (EndLogin a)
+    ends_host : (b n : ℕ) → (has_address a l ≡ true → is_host b n l ≡ true) → Ends l (EndHost b n)
+    ends_unproven : (eqb l.proven 1 ≡ true → Lacks l) → Ends l EndUnproven
+    ends_exchanges : Ends l (EndExchangesOf a)
     resets : Ends l Reset
     clears : (b : ℕ) → Ends l (Clear b)
 
   -- each of them does
-  lacks-then : (l : Login) (c : Change) → Ends l c → Lacks (changedOf c l)
-  unfolding freedOf ended_of hostEnded verified abortedOf resetOf clearedBy withoutExchanges
-  lacks-then l c ends-all = by_cond Lacks (isUsed l) (λ _. empty) (unused l)
-  lacks-then l c ends-login = by_cond Lacks (hasAddress a l) (λ _. empty) (strange l)
-  lacks-then l c (ends-host b n s) = by_cond Lacks (isHost b n l) (λ _. empty) (λ other h. apart (s h) other)
-  lacks-then l c (ends-unproven s) = by_cond Lacks (isUsed l) (λ _. by_cond Lacks (eqb l.proven 1) s (λ _. empty)) (unused l)
-  lacks-then l c ends-exchanges = by_cond Lacks (hasAddress a l) (λ _. bare _ refl) (strange l)
-  lacks-then l c resets = by_cond Lacks (isUsed l) (λ _. bare _ refl) (unused l)
-  lacks-then l c (clears b) = by_cond Lacks (isUsed l) (λ _. on-cond Lacks (losesTo b l) (bare _ refl) (bare _ refl)) (unused l)
+  lacks_then : (l : Login) (c : Change) → Ends l c → Lacks (changed_of c l)
+  unfolding freed_of ended_of host_ended verified aborted_of reset_of cleared_by without_exchanges
+  lacks_then l c ends_all = by_cond Lacks (is_used l) (λ _. empty) (unused l)
+  lacks_then l c ends_login = by_cond Lacks (has_address a l) (λ _. empty) (strange l)
+  lacks_then l c (ends_host b n s) = by_cond Lacks (is_host b n l) (λ _. empty) (λ other h. apart (s h) other)
+  lacks_then l c (ends_unproven s) = by_cond Lacks (is_used l) (λ _. by_cond Lacks (eqb l.proven 1) s (λ _. empty)) (unused l)
+  lacks_then l c ends_exchanges = by_cond Lacks (has_address a l) (λ _. bare _ refl) (strange l)
+  lacks_then l c resets = by_cond Lacks (is_used l) (λ _. bare _ refl) (unused l)
+  lacks_then l c (clears b) = by_cond Lacks (is_used l) (λ _. on_cond Lacks (loses_to b l) (bare _ refl) (bare _ refl)) (unused l)
 
-  changed-gone : (q : Port) (c : Change) → ((k : ℕ) → Ends (loginAt q k) c) → Gone (changedAll c q)
-  changed-gone q c s k = subst Lacks (sym (at-changed q k c)) (lacks-then (loginAt q k) c (s k))
+  changed_gone : (q : Port) (c : Change) → ((k : ℕ) → Ends (login_at q k) c) → Gone (changed_all c q)
+  changed_gone q c s k = subst Lacks (sym (at_changed q k c)) (lacks_then (login_at q k) c (s k))
 
   -- one login stored, where no other has it
-  stored-gone : (q : Port) (i : ℕ) (m : Login) → i < length q.logins → Lacks m → ((k : ℕ) → (k ≡ i → ⊥) → Lacks (loginAt q k)) → Gone (withLogin q i m)
-  stored-gone q i m below its others k =
+  stored_gone : (q : Port) (i : ℕ) (m : Login) → i < length q.logins → Lacks m → ((k : ℕ) → (k ≡ i → ⊥) → Lacks (login_at q k)) → Gone (with_login q i m)
+  stored_gone q i m below its others k =
       elim (ℕ_discrete k i) [
-        | yes e ↦ subst Lacks (sym (ap (loginAt (withLogin q i m)) e ∙ stored_at q i m below)) its
-        | no n ↦ subst Lacks (sym (login-other q i k m n)) (others k n)
+        | yes e ↦ subst Lacks (sym (ap (login_at (with_login q i m)) e ∙ stored_at q i m below)) its
+        | no n ↦ subst Lacks (sym (login_other q i k m n)) (others k n)
       ]
 
 -- an open exchange of a and x, at place j of the login at place i
-module _ (u : Unit) (p : Port) (a x i j : ℕ) (w : wellFormed u p ≡ true) (o : lookupOf p a x ≡ Open i j) where
+module _ (u : Unit) (p : Port) (a x i j : ℕ) (w : well_formed u p ≡ true) (o : lookup_of p a x ≡ Open i j) where
   abbrev l : Login
-  l = loginAt p i
+  l = login_at p i
 
   -- it has ended in what is decided
   abbrev Over : Decided → Type 0
   Over r = Gone a x r.port
 
   -- it stands at no other place
-  only-login : (k : ℕ) → (k ≡ i → ⊥) → Lacks a x (loginAt p k)
-  only-login k n has m id = let s = stands-there u p w a x k m has id in n (cc)
+  only_login : (k : ℕ) → (k ≡ i → ⊥) → Lacks a x (login_at p k)
+  only_login k n has m id = let s = stands_there u p w a x k m has id in n (cc)
 
-  only-place : (m : ℕ) → hasAddress a l ≡ true → hasId x (exchangeAt l m) ≡ true → m ≡ j
-  only-place m has id = let s = stands-there u p w a x i m has id in cc
+  only_place : (m : ℕ) → has_address a l ≡ true → has_id x (exchange_at l m) ≡ true → m ≡ j
+  only_place m has id = let s = stands_there u p w a x i m has id in cc
 
   -- so it has ended where its login lacks it
-  login-gone : (m : Login) → Lacks a x m → Gone a x (withLogin p i m)
-  login-gone m t = stored-gone a x p i m (login-inside p a x i j o) t only-login
+  login_gone : (m : Login) → Lacks a x m → Gone a x (with_login p i m)
+  login_gone m t = stored_gone a x p i m (login_inside p a x i j o) t only_login
 
   -- its place was freed
-  place-free : hasId x (exchangeAt (endedAt l j) j) ≡ false
-  unfolding exchangeAt withExchange hasId
-  place-free = ap (hasId x) (get_or-set_same l.places j emptyExchange emptyExchange (exchange-inside p a x i j o))
+  place_free : has_id x (exchange_at (ended_at l j) j) ≡ false
+  unfolding exchange_at with_exchange has_id
+  place_free = ap (has_id x) (get_or-set_same l.places j empty_exchange empty_exchange (exchange_inside p a x i j o))
 
-  freed : Lacks a x (endedAt l j)
-  unfolding hasAddress withExchange
+  freed : Lacks a x (ended_at l j)
+  unfolding has_address with_exchange
   freed has m =
       elim (ℕ_discrete m j) [
-        | yes e ↦ (λ id. apart id (ap (λ (k : ℕ). hasId x (exchangeAt (endedAt l j) k)) e ∙ place-free))
-        | no n ↦ (λ id. n (only-place m has (ap (hasId x) (sym (exchange-other l j m emptyExchange n)) ∙ id)))
+        | yes e ↦ (λ id. apart id (ap (λ (k : ℕ). has_id x (exchange_at (ended_at l j) k)) e ∙ place_free))
+        | no n ↦ (λ id. n (only_place m has (ap (has_id x) (sym (exchange_other l j m empty_exchange n)) ∙ id)))
       ]
 
   -- the login's time is over: it is unproven
-  out-of-time : (l.proven ≡ 1 → ⊥) → Gone a x (changedAll EndUnproven p)
-  out-of-time n = changed-gone a x p EndUnproven (λ k. ends-unproven (proven k))
+  out_of_time : (l.proven ≡ 1 → ⊥) → Gone a x (changed_all EndUnproven p)
+  out_of_time n = changed_gone a x p EndUnproven (λ k. ends_unproven (proven k))
     where
-      proven : (k : ℕ) → eqb (loginAt p k).proven 1 ≡ true → Lacks a x (loginAt p k)
+      proven : (k : ℕ) → eqb (login_at p k).proven 1 ≡ true → Lacks a x (login_at p k)
       proven k t =
           elim (ℕ_discrete k i) [
-            | yes e ↦ absurd (n (eqb-true l.proven 1 (ap (λ (m : ℕ). eqb (loginAt p m).proven 1) (sym e) ∙ t)))
-            | no other ↦ only-login k other
+            | yes e ↦ absurd (n (eqb-true l.proven 1 (ap (λ (m : ℕ). eqb (login_at p m).proven 1) (sym e) ∙ t)))
+            | no other ↦ only_login k other
           ]
 
   -- an FCP_CMND of whatever paired login that ends all exchanges
-  task-gone : (b : ℕ) (t : Task) (r : Decided) → (t ≡ task.Apply Reset) ⊎ (t ≡ task.Apply (Clear b)) → Over (doneAs t p r)
-  task-gone b t r (inl e) = rw e (changed-gone a x p Reset (λ _. resets))
-  task-gone b t r (inr e) = rw e (changed-gone a x p (Clear b) (λ _. clears b))
+  task_gone : (b : ℕ) (t : Task) (r : Decided) → (t ≡ task.Apply Reset) ⊎ (t ≡ task.Apply (Clear b)) → Over (done_as t p r)
+  task_gone b t r (inl e) = rw e (changed_gone a x p Reset (λ _. resets))
+  task_gone b t r (inr e) = rw e (changed_gone a x p (Clear b) (λ _. clears b))
 
-  all-gone : (h : Header) (f : List ℕ) → (loginOf p h.s_id).paired ≡ 1
-      → (task_of (cmndOf f) (length f) h.s_id ≡ task.Apply Reset) ⊎ (task_of (cmndOf f) (length f) h.s_id ≡ task.Apply (Clear h.s_id)) → Over (commandOf u p h f)
-  unfolding commandOf commandedAt loginOf
-  all-gone h f pair flags = by (findLogin p h.s_id) pair
+  all_gone : (h : Header) (f : List ℕ) → (login_of p h.s_id).paired ≡ 1
+      → (task_of (cmnd_of f) (length f) h.s_id ≡ task.Apply Reset) ⊎ (task_of (cmnd_of f) (length f) h.s_id ≡ task.Apply (Clear h.s_id)) → Over (command_of u p h f)
+  unfolding command_of commanded_at login_of
+  all_gone h f pair flags = by (find_login p h.s_id) pair
     where
       b : ℕ
       b = h.s_id
 
-      by : (g : Found) → (loginIn p g).paired ≡ 1 → Over (onFound g (λ k. cond (eqb (loginAt p k).paired 1) (commandedAt u p k h (cmndOf f) (length f)) (loggedOut p b)) (loggedOut p b))
-      by (At k) e = rw (eq-eqb (loginAt p k).paired 1 e) (task-gone b (task_of (cmndOf f) (length f) b) _ flags)
+      by : (g : Found) → (login_in p g).paired ≡ 1 → Over (on_found g (λ k. cond (eqb (login_at p k).paired 1) (commanded_at u p k h (cmnd_of f) (length f)) (logged_out p b)) (logged_out p b))
+      by (At k) e = rw (eq-eqb (login_at p k).paired 1 e) (task_gone b (task_of (cmnd_of f) (length f) b) _ flags)
       by Nothing e = absurd (omega arith)
 
   -- its own: abort task set, and a command of its OX_ID
-  aborted-gone : (h : Header) (f : List ℕ) → h.s_id ≡ a → task_of (cmndOf f) (length f) h.s_id ≡ task.Apply (EndExchangesOf a) → Over (commandOf u p h f)
-  aborted-gone h f is asks = own-command u p a x i j w o Over h f (task.Apply (EndExchangesOf a)) is asks (changed-gone a x p (EndExchangesOf a) (λ _. ends-exchanges))
+  aborted_gone : (h : Header) (f : List ℕ) → h.s_id ≡ a → task_of (cmnd_of f) (length f) h.s_id ≡ task.Apply (EndExchangesOf a) → Over (command_of u p h f)
+  aborted_gone h f is asks = own_command u p a x i j w o Over h f (task.Apply (EndExchangesOf a)) is asks (changed_gone a x p (EndExchangesOf a) (λ _. ends_exchanges))
 
-  again-gone : (h : Header) (f : List ℕ) → h.s_id ≡ a → task_of (cmndOf f) (length f) h.s_id ≡ task.Execute → h.ox_id ≡ x → Over (commandOf u p h f)
-  unfolding executeOf refusedWith
-  again-gone h f is asks its =
-      own-command u p a x i j w o Over h f task.Execute is asks
-      (rw (its, sought-there u p a x i j w o x, open-exchange p a x i j o) (login-gone (endedAt l j) freed))
+  again_gone : (h : Header) (f : List ℕ) → h.s_id ≡ a → task_of (cmnd_of f) (length f) h.s_id ≡ task.Execute → h.ox_id ≡ x → Over (command_of u p h f)
+  unfolding execute_of refused_with
+  again_gone h f is asks its =
+      own_command u p a x i j w o Over h f task.Execute is asks
+      (rw (its, sought_there u p a x i j w o x, open_exchange p a x i j o) (login_gone (ended_at l j) freed))
 
   -- ABTS
-  abts-gone : (ox rx : ℕ) → ox ≡ x → rx ≡ 0xffff → Over (abtsOf p a ox rx)
-  unfolding abtsOf
-  abts-gone ox rx its whole = rw (its, whole, o) (login-gone (endedAt l j) freed)
+  abts_gone : (ox rx : ℕ) → ox ≡ x → rx ≡ 0xffff → Over (abts_of p a ox rx)
+  unfolding abts_of
+  abts_gone ox rx its whole = rw (its, whole, o) (login_gone (ended_at l j) freed)
 
   -- its own data frame that is answered with a frame: a fault
-  data-gone : (h : Header) (size start len : ℕ) → h.s_id ≡ a → h.ox_id ≡ x → (silent (dataDecided p h size start len).reply ≡ true → ⊥) → Over (dataDecided p h size start len)
-  unfolding dataDecided servedData
-  data-gone h size start len is its = rw (is, seat u p a x i j w o) (by (stepIn l h size start len) (step-means l h.ox_id h.offset (dataSize h size) start len))
+  data_gone : (h : Header) (size start len : ℕ) → h.s_id ≡ a → h.ox_id ≡ x → (silent (data_decided p h size start len).reply ≡ true → ⊥) → Over (data_decided p h size start len)
+  unfolding data_decided served_data
+  data_gone h size start len is its = rw (is, seat u p a x i j w o) (by (step_in l h size start len) (step_means l h.ox_id h.offset (data_size h size) start len))
     where
-      by : (s : Step) → Means l h.ox_id h.offset (dataSize h size) start len s → (silent (servedBy s l (dataSize h size)).reply ≡ true → ⊥) → Gone a x (withLogin p i (servedBy s l (dataSize h size)).login)
+      by : (s : Step) → Means l h.ox_id h.offset (data_size h size) start len s → (silent (served_by s l (data_size h size)).reply ≡ true → ⊥) → Gone a x (with_login p i (served_by s l (data_size h size)).login)
       by NoWrite at loud = absurd (loud refl)
       by (Fault k code) at loud =
-          let there = open-exchange p a x i j o in
-          let here = ap (findExchange l) (sym its) ∙ at.found in
+          let there = open_exchange p a x i j o in
+          let here = ap (find_exchange l) (sym its) ∙ at.found in
           let place : j ≡ k = cc in
-          subst (λ (m : ℕ). Gone a x (withLogin p i (endedAt l m))) place (login-gone (endedAt l j) freed)
+          subst (λ (m : ℕ). Gone a x (with_login p i (ended_at l m))) place (login_gone (ended_at l j) freed)
       by Uncovered at loud = absurd (loud refl)
       by (Take k m) at loud = absurd (loud refl)
 
   -- its login ended
-  ended-gone : Gone a x (changedAll (EndLogin a) p)
-  ended-gone = changed-gone a x p (EndLogin a) (λ _. ends-login)
+  ended_gone : Gone a x (changed_all (EndLogin a) p)
+  ended_gone = changed_gone a x p (EndLogin a) (λ _. ends_login)
 
   -- a new login has no exchange
-  new-gone : (q : Params) (b k : ℕ) (ended : Port) → Gone a x ended → freeLogin ended ≡ At k → Gone a x (withLogin ended k (newLogin b q))
-  unfolding newLogin freeLogin
-  new-gone q b k ended g e = stored-gone a x ended k (newLogin b q) (found_below emptyLogin isFree ended.logins e) (bare a x (newLogin b q) refl) (λ n _. g n)
+  new_gone : (q : Params) (b k : ℕ) (ended : Port) → Gone a x ended → free_login ended ≡ At k → Gone a x (with_login ended k (new_login b q))
+  unfolding new_login free_login
+  new_gone q b k ended g e = stored_gone a x ended k (new_login b q) (found_below empty_login is_free ended.logins e) (bare a x (new_login b q) refl) (λ n _. g n)
 
   -- a PLOGI that ends its login, accepted or not
-  ends-gone : (b : ℕ) (q : Params) → ((v : Verdict) → verdictOf q ≡ v → Gone a x (changedAll (endsFor v b (name_of q.port_name)) p)) → Over (plogiOf p b q)
-  unfolding plogiOf outcomeOf
-  ends-gone b q gone = by (verdictOf q) (freeLogin (changedAll (endsBy b q) p)) refl (gone (verdictOf q) refl)
+  ends_gone : (b : ℕ) (q : Params) → ((v : Verdict) → verdict_of q ≡ v → Gone a x (changed_all (ends_for v b (name_of q.port_name)) p)) → Over (plogi_of p b q)
+  unfolding plogi_of outcome_of
+  ends_gone b q gone = by (verdict_of q) (free_login (changed_all (ends_by b q) p)) refl (gone (verdict_of q) refl)
     where
       name : ℕ
       name = name_of q.port_name
 
-      by : (v : Verdict) (g : Found) → freeLogin (changedAll (endsFor v b name) p) ≡ g → Gone a x (changedAll (endsFor v b name) p)
-          → Gone a x (outcomePort (outcomeAfter v g) (changedAll (endsFor v b name) p) (newLogin b q))
-      by verdict.Accept (At k) e over = new-gone q b k (changedAll (EndHost b name) p) over e
+      by : (v : Verdict) (g : Found) → free_login (changed_all (ends_for v b name) p) ≡ g → Gone a x (changed_all (ends_for v b name) p)
+          → Gone a x (outcome_port (outcome_after v g) (changed_all (ends_for v b name) p) (new_login b q))
+      by verdict.Accept (At k) e over = new_gone q b k (changed_all (EndHost b name) p) over e
       by verdict.Accept Nothing e over = over
       by (verdict.Reject t) g e over = over
 
   -- its own
-  plogi-gone : (q : Params) → Over (plogiOf p a q)
-  plogi-gone q = ends-gone a q (λ v _. by v)
+  plogi_gone : (q : Params) → Over (plogi_of p a q)
+  plogi_gone q = ends_gone a q (λ v _. by v)
     where
-      by : (v : Verdict) → Gone a x (changedAll (endsFor v a (name_of q.port_name)) p)
-      by verdict.Accept = changed-gone a x p (EndHost a (name_of q.port_name)) (λ _. ends-host a (name_of q.port_name) (λ h. rw h))
-      by (verdict.Reject t) = ended-gone
+      by : (v : Verdict) → Gone a x (changed_all (ends_for v a (name_of q.port_name)) p)
+      by verdict.Accept = changed_gone a x p (EndHost a (name_of q.port_name)) (λ _. ends_host a (name_of q.port_name) (λ h. rw h))
+      by (verdict.Reject t) = ended_gone
 
   -- one by which its host has moved
-  moved-gone : (h : Header) (f : List ℕ) → Moves p a h f → Over (link_of p h f)
+  moved_gone : (h : Header) (f : List ℕ) → Moves p a h f → Over (link_of p h f)
   unfolding link_of size_of
-  moved-gone h f m = rw (m.plogi, m.size) (ends-gone b (params_of f 28) (λ v e. subst (λ (t : Verdict). Gone a x (changedAll (endsFor t b (named_in f)) p)) (sym (accepts-then (params_of f 28) m.tests) ∙ e) gone))
+  moved_gone h f m = rw (m.plogi, m.size) (ends_gone b (params_of f 28) (λ v e. subst (λ (t : Verdict). Gone a x (changed_all (ends_for t b (named_in f)) p)) (sym (accepts_then (params_of f 28) m.tests) ∙ e) gone))
     where
       b : ℕ
       b = h.s_id
 
-      named : (k : ℕ) → hasAddress a (loginAt p k) ≡ true → isHost b (named_in f) (loginAt p k) ≡ true
+      named : (k : ℕ) → has_address a (login_at p k) ≡ true → is_host b (named_in f) (login_at p k) ≡ true
       named k has =
-          let name : hasName (named_in f) (loginAt p k) ≡ true = ap (hasName (named_in f)) (sym (login-found p a k (seat-found u p w a k has))) ∙ m.name in
-          rw (name, or-true (hasAddress b (loginAt p k)))
+          let name : has_name (named_in f) (login_at p k) ≡ true = ap (has_name (named_in f)) (sym (login_found p a k (seat_found u p w a k has))) ∙ m.name in
+          rw (name, or-true (has_address b (login_at p k)))
 
-      gone : Gone a x (changedAll (EndHost b (named_in f)) p)
-      gone = changed-gone a x p (EndHost b (named_in f)) (λ k. ends-host b (named_in f) (named k))
+      gone : Gone a x (changed_all (EndHost b (named_in f)) p)
+      gone = changed_gone a x p (EndHost b (named_in f)) (λ k. ends_host b (named_in f) (named k))
 
   -- its own link requests of right size
   module _ (f : List ℕ) where
-    link-gone : (code : ℕ) → Service a code f → eqb (size_of code) 0 ≡ false
-        → Over (cond (eqb code 0x03) (plogiOf p a (params_of f 28)) (cond (eqb code 0x05) (logoOf p a (num 3 f 29)) (served_at p i (serviceOf code l (soughtIn p a) a f)))) → Over (link_of p (headerOf f) f)
+    link_gone : (code : ℕ) → Service a code f → eqb (size_of code) 0 ≡ false
+        → Over (cond (eqb code 0x03) (plogi_of p a (params_of f 28)) (cond (eqb code 0x05) (logo_of p a (num 3 f 29)) (served_at p i (service_of code l (sought_in p a) a f)))) → Over (link_of p (header_of f) f)
     unfolding link_of
-    link-gone code s some t = rw (s.code_is, some, eq-eqb (length f) (24 + size_of code) s.sized, s.own.from, seat u p a x i j w o) t
+    link_gone code s some t = rw (s.code_is, some, eq-eqb (length f) (24 + size_of code) s.sized, s.own.from, seat u p a x i j w o) t
 
-    logo-gone : num 3 f 29 ≡ a → Over (logoOf p a (num 3 f 29))
-    unfolding logoOf
-    logo-gone named = rw (eq-eqb (num 3 f 29) a named) ended-gone
+    logo_gone : num 3 f 29 ≡ a → Over (logo_of p a (num 3 f 29))
+    unfolding logo_of
+    logo_gone named = rw (eq-eqb (num 3 f 29) a named) ended_gone
 
-    prlo-lacks : pageFine (num 3 f 25) (get_or f 28 0) ≡ true → Lacks a x (serviceOf 0x21 l (soughtIn p a) a f).login
-    unfolding serviceOf prloOf withoutExchanges
-    prlo-lacks fine = rw fine (bare a x _ refl)
+    prlo_lacks : page_fine (num 3 f 25) (get_or f 28 0) ≡ true → Lacks a x (service_of 0x21 l (sought_in p a) a f).login
+    unfolding service_of prlo_of without_exchanges
+    prlo_lacks fine = rw fine (bare a x _ refl)
 
-    pdisc-lacks : (pdiscNames l f → ⊥) → Lacks a x (serviceOf 0x50 l (soughtIn p a) a f).login
-    unfolding serviceOf pdiscOf
-    pdisc-lacks n = by_cond (λ (s : Served). Lacks a x s.login) (namesDiffer l (params_of f 28).port_name (params_of f 28).node_name) (λ _. empty a x) (λ same. absurd (n same))
+    pdisc_lacks : (pdisc_names l f → ⊥) → Lacks a x (service_of 0x50 l (sought_in p a) a f).login
+    unfolding service_of pdisc_of
+    pdisc_lacks n = by_cond (λ (s : Served). Lacks a x s.login) (names_differ l (params_of f 28).port_name (params_of f 28).node_name) (λ _. empty a x) (λ same. absurd (n same))
 
-    adisc-lacks : (adiscNames l f → ⊥) ⊎ (num 3 f 49 ≡ a → ⊥) → Lacks a x (serviceOf 0x52 l (soughtIn p a) a f).login
-    unfolding serviceOf adiscOf
-    adisc-lacks why =
-        by_cond Bare (namesDiffer l (part 8 f 32) (part 8 f 40)) (λ _. empty a x)
+    adisc_lacks : (adisc_names l f → ⊥) ⊎ (num 3 f 49 ≡ a → ⊥) → Lacks a x (service_of 0x52 l (sought_in p a) a f).login
+    unfolding service_of adisc_of
+    adisc_lacks why =
+        by_cond Bare (names_differ l (part 8 f 32) (part 8 f 40)) (λ _. empty a x)
         (λ same. by_cond Bare (eqb (num 3 f 49) a) (λ named. absurd (either same (eqb-true (num 3 f 49) a named) why)) (λ _. empty a x))
       where
         Bare : Served → Type 0
         Bare s = Lacks a x s.login
 
-        either : adiscNames l f → num 3 f 49 ≡ a → (adiscNames l f → ⊥) ⊎ (num 3 f 49 ≡ a → ⊥) → ⊥
+        either : adisc_names l f → num 3 f 49 ≡ a → (adisc_names l f → ⊥) ⊎ (num 3 f 49 ≡ a → ⊥) → ⊥
         either same named (inl n) = n same
         either same named (inr n) = n named
 
@@ -335,20 +335,20 @@ request c =
     is {k} r e _ = subst Request (sym (eqb-true c k e)) r
 
 -- whether a task ends all exchanges, and so whether a frame does
-asks-all : (b : ℕ) (t : Task) → Mild b t → Dec ((t ≡ task.Apply Reset) ⊎ (t ≡ task.Apply (Clear b)))
-asks-all b t (mild.code m) = no (⊎_elim (λ e. let z : ◌≡◌ {A = ℕ} 0 1 = cc in absurd (omega arith)) (λ e. let z : ◌≡◌ {A = ℕ} 0 1 = cc in absurd (omega arith)))
-asks-all b t mild.abort = no (⊎_elim (λ e. let z : ◌≡◌ {A = ℕ} 0 1 = cc in absurd (omega arith)) (λ e. let z : ◌≡◌ {A = ℕ} 0 1 = cc in absurd (omega arith)))
-asks-all b t mild.reset = yes (inl refl)
-asks-all b t mild.clear = yes (inr refl)
-asks-all b t mild.execute = no (⊎_elim (λ e. let z : ◌≡◌ {A = ℕ} 0 1 = cc in absurd (omega arith)) (λ e. let z : ◌≡◌ {A = ℕ} 0 1 = cc in absurd (omega arith)))
+asks_all : (b : ℕ) (t : Task) → Mild b t → Dec ((t ≡ task.Apply Reset) ⊎ (t ≡ task.Apply (Clear b)))
+asks_all b t (mild.code m) = no (⊎_elim (λ e. let z : ◌≡◌ {A = ℕ} 0 1 = cc in absurd (omega arith)) (λ e. let z : ◌≡◌ {A = ℕ} 0 1 = cc in absurd (omega arith)))
+asks_all b t mild.abort = no (⊎_elim (λ e. let z : ◌≡◌ {A = ℕ} 0 1 = cc in absurd (omega arith)) (λ e. let z : ◌≡◌ {A = ℕ} 0 1 = cc in absurd (omega arith)))
+asks_all b t mild.reset = yes (inl refl)
+asks_all b t mild.clear = yes (inr refl)
+asks_all b t mild.execute = no (⊎_elim (λ e. let z : ◌≡◌ {A = ℕ} 0 1 = cc in absurd (omega arith)) (λ e. let z : ◌≡◌ {A = ℕ} 0 1 = cc in absurd (omega arith)))
 
-all-or-not : (p : Port) (f : List ℕ) → Dec (EndsAll p f)
-all-or-not p f =
-    elim (ℕ_discrete (headerOf f).r_ctl 0x06) [
+all_or_not : (p : Port) (f : List ℕ) → Dec (EndsAll p f)
+all_or_not p f =
+    elim (ℕ_discrete (header_of f).r_ctl 0x06) [
       | no n ↦ no (λ e. n e.command)
-      | yes command ↦ elim (ℕ_discrete (loginOf p (headerOf f).s_id).paired 1) [
+      | yes command ↦ elim (ℕ_discrete (login_of p (header_of f).s_id).paired 1) [
         | no n ↦ no (λ e. n e.paired)
-        | yes paired ↦ elim (asks-all (headerOf f).s_id (asked f) (task-mild (cmndOf f) (length f) (headerOf f).s_id)) [
+        | yes paired ↦ elim (asks_all (header_of f).s_id (asked f) (task_mild (cmnd_of f) (length f) (header_of f).s_id)) [
           | no n ↦ no (λ e. n e.flags)
           | yes flags ↦ yes record { command = command; paired = paired; flags = flags }
         ]
@@ -356,38 +356,38 @@ all-or-not p f =
     ]
 
 -- whether a frame is one by which the host of a has moved
-pub moved-or-not : (p : Port) (a : ℕ) (h : Header) (f : List ℕ) → Dec (Moves p a h f)
-moved-or-not p a h f =
+pub moved_or_not : (p : Port) (a : ℕ) (h : Header) (f : List ℕ) → Dec (Moves p a h f)
+moved_or_not p a h f =
     elim (ℕ_discrete h.r_ctl 0x22) [
       | no n ↦ no (λ m. n m.link)
       | yes link ↦ elim (ℕ_discrete (get_or f 24 0) 3) [
         | no n ↦ no (λ m. n m.plogi)
         | yes code ↦ elim (ℕ_discrete (length f) 140) [
           | no n ↦ no (λ m. n m.size)
-          | yes size ↦ by link code size (verdictOf (params_of f 28)) (hasName (named_in f) (loginOf p a)) refl refl
+          | yes size ↦ by link code size (verdict_of (params_of f 28)) (has_name (named_in f) (login_of p a)) refl refl
         ]
       ]
     ]
   where
-    by : h.r_ctl ≡ 0x22 → get_or f 24 0 ≡ 3 → length f ≡ 140 → (v : Verdict) (b : Bool) → verdictOf (params_of f 28) ≡ v → hasName (named_in f) (loginOf p a) ≡ b → Dec (Moves p a h f)
+    by : h.r_ctl ≡ 0x22 → get_or f 24 0 ≡ 3 → length f ≡ 140 → (v : Verdict) (b : Bool) → verdict_of (params_of f 28) ≡ v → has_name (named_in f) (login_of p a) ≡ b → Dec (Moves p a h f)
     by link code size verdict.Accept true e k = yes record { link = link; plogi = code; size = size; tests = accepted (params_of f 28) e; name = k }
     by link code size verdict.Accept false e k = no (λ m. apart m.name k)
-    by link code size (verdict.Reject t) b e k = no (λ m. let c = sym (accepts-then (params_of f 28) m.tests) ∙ e in let z : ◌≡◌ {A = ℕ} 0 1 = cc in absurd (omega arith))
+    by link code size (verdict.Reject t) b e k = no (λ m. let c = sym (accepts_then (params_of f 28) m.tests) ∙ e in let z : ◌≡◌ {A = ℕ} 0 1 = cc in absurd (omega arith))
 
 -- a link request that passes has a payload
-has-payload : (h : Header) (n : ℕ) → unknownForm h n ≡ false → h.r_ctl ≡ 0x22 → 24 < n
-unfolding unknownForm
-has-payload h n known is =
-    let others = not (knownPair h.r_ctl h.protocol) || not (eqb h.df_ctl 0) || badSequence h n in
+has_payload : (h : Header) (n : ℕ) → unknown_form h n ≡ false → h.r_ctl ≡ 0x22 → 24 < n
+unfolding unknown_form
+has_payload h n known is =
+    let others = not (known_pair h.r_ctl h.protocol) || not (eqb h.df_ctl 0) || bad_sequence h n in
     leb-false n 24 (rw (eq-eqb h.r_ctl 0x22 is) at (or_right others (eqb h.r_ctl 0x22 && leb n 24) known))
 
 -- a reply that is none has no bytes
-silent-none : (d : Drive) (h : Header) (r : Decided) → silent r.reply ≡ true → Sent (length (replyBytes d h r)) ≡ Sent 0
-unfolding replyBytes bytes_of
-silent-none d h r s = rw s
+silent_none : (d : Drive) (h : Header) (r : Decided) → silent r.reply ≡ true → Sent (length (reply_bytes d h r)) ≡ Sent 0
+unfolding reply_bytes bytes_of
+silent_none d h r s = rw s
 
 -- at the entries
-module _ (d : Drive) (a x i j : ℕ) (w : wellFormed d.unit d.port ≡ true) (o : lookupOf d.port a x ≡ Open i j) where
+module _ (d : Drive) (a x i j : ℕ) (w : well_formed d.unit d.port ≡ true) (o : lookup_of d.port a x ≡ Open i j) where
   abbrev u : Unit
   u = d.unit
 
@@ -395,56 +395,56 @@ module _ (d : Drive) (a x i j : ℕ) (w : wellFormed d.unit d.port ≡ true) (o 
   p = d.port
 
   -- a frame that is not refused is decided
-  frame-over : (f : List ℕ) (start : ℕ) (W : List ℕ) (room : ℕ) (known : AllBytes f) → Taken d (frame f start W room known) → Gone a x (decidedIn d f start (length W)).port → Gone a x (frameIn d f start W room).drive.port
-  frame-over f start W room known t g =
-      frame-cases d f start W room (λ (r : Answer). r.said ≡ Sent t.n → Gone a x r.drive.port) (λ r _ e. let z : ◌≡◌ {A = ℕ} 0 1 = cc in absurd (omega arith)) (λ _ _. g) t.said
+  frame_over : (f : List ℕ) (start : ℕ) (W : List ℕ) (room : ℕ) (known : AllBytes f) → Taken d (frame f start W room known) → Gone a x (decided_in d f start (length W)).port → Gone a x (frame_in d f start W room).drive.port
+  frame_over f start W room known t g =
+      frame_cases d f start W room (λ (r : Answer). r.said ≡ Sent t.n → Gone a x r.drive.port) (λ r _ e. let z : ◌≡◌ {A = ℕ} 0 1 = cc in absurd (omega arith)) (λ _ _. g) t.said
 
-  own-over : (f : List ℕ) (start : ℕ) (W : List ℕ) (room : ℕ) (known : AllBytes f) (rctl : ℕ) → Taken d (frame f start W room known) → (headerOf f).r_ctl ≡ rctl → Gone a x (decidedOf u p (headerOf f) (form_of rctl) f start (length W)).port → Gone a x (frameIn d f start W room).drive.port
-  own-over f start W room known rctl t its g = frame-over f start W room known t (subst (λ (n : ℕ). Gone a x (decidedOf u p (headerOf f) (form_of n) f start (length W)).port) (sym its) g)
+  own_over : (f : List ℕ) (start : ℕ) (W : List ℕ) (room : ℕ) (known : AllBytes f) (rctl : ℕ) → Taken d (frame f start W room known) → (header_of f).r_ctl ≡ rctl → Gone a x (decided_of u p (header_of f) (form_of rctl) f start (length W)).port → Gone a x (frame_in d f start W room).drive.port
+  own_over f start W room known rctl t its g = frame_over f start W room known t (subst (λ (n : ℕ). Gone a x (decided_of u p (header_of f) (form_of n) f start (length W)).port) (sym its) g)
 
   -- a fault: what is answered has bytes
-  fault-over : (f : List ℕ) (start : ℕ) (W : List ℕ) (room : ℕ) (known : AllBytes f) → Taken d (frame f start W room known) → Own a 0x01 f → (headerOf f).ox_id ≡ x
-      → ((frameIn d f start W room).said ≡ Sent 0 → ⊥) → Gone a x (frameIn d f start W room).drive.port
+  fault_over : (f : List ℕ) (start : ℕ) (W : List ℕ) (room : ℕ) (known : AllBytes f) → Taken d (frame f start W room known) → Own a 0x01 f → (header_of f).ox_id ≡ x
+      → ((frame_in d f start W room).said ≡ Sent 0 → ⊥) → Gone a x (frame_in d f start W room).drive.port
   unfolding form_of
-  fault-over f start W room known t its same =
-      frame-cases d f start W room (λ (r : Answer). r.said ≡ Sent t.n → (r.said ≡ Sent 0 → ⊥) → Gone a x r.drive.port) (λ r _ e _. let z : ◌≡◌ {A = ℕ} 0 1 = cc in absurd (omega arith))
-      (λ _ _ some. subst (λ (r : Decided). Gone a x r.port) (sym decided) (data-gone u p a x i j w o (headerOf f) (length f) start (length W) its.from same (λ quiet. some (bare-said quiet)))) t.said
+  fault_over f start W room known t its same =
+      frame_cases d f start W room (λ (r : Answer). r.said ≡ Sent t.n → (r.said ≡ Sent 0 → ⊥) → Gone a x r.drive.port) (λ r _ e _. let z : ◌≡◌ {A = ℕ} 0 1 = cc in absurd (omega arith))
+      (λ _ _ some. subst (λ (r : Decided). Gone a x r.port) (sym decided) (data_gone u p a x i j w o (header_of f) (length f) start (length W) its.from same (λ quiet. some (bare_said quiet)))) t.said
     where
-      decided : decidedIn d f start (length W) ≡ dataDecided p (headerOf f) (length f) start (length W)
+      decided : decided_in d f start (length W) ≡ data_decided p (header_of f) (length f) start (length W)
       decided = rw its.form
 
-      bare-said : silent (dataDecided p (headerOf f) (length f) start (length W)).reply ≡ true → Sent (length (replyBytes d (headerOf f) (decidedIn d f start (length W)))) ≡ Sent 0
-      bare-said quiet = silent-none d (headerOf f) (decidedIn d f start (length W)) (ap (λ (r : Decided). silent r.reply) decided ∙ quiet)
+      bare_said : silent (data_decided p (header_of f) (length f) start (length W)).reply ≡ true → Sent (length (reply_bytes d (header_of f) (decided_in d f start (length W)))) ≡ Sent 0
+      bare_said quiet = silent_none d (header_of f) (decided_in d f start (length W)) (ap (λ (r : Decided). silent r.reply) decided ∙ quiet)
 
-  event-over : (e : Event) → Gone a x (changedAll (changeOf e) p) → Gone a x (eventAnswer d e).drive.port
-  unfolding afterEvent
-  event-over e g = subst (λ (r : Answer). Gone a x r.drive.port) (sym (event-answered d e w)) g
+  event_over : (e : Event) → Gone a x (changed_all (change_of e) p) → Gone a x (event_answer d e).drive.port
+  unfolding after_event
+  event_over e g = subst (λ (r : Answer). Gone a x r.drive.port) (sym (event_answered d e w)) g
 
   -- each of the calls that end it
   over : (c : Call) → Taken d c → EndsOpen d a x c → Gone a x (after d c).port
   unfolding form_of size_of
-  over c t call.power-on = event-over PowerOn (changed-gone a x p EndAll (λ _. ends-all))
-  over c t (call.time-out n) = event-over TimeOver (out-of-time u p a x i j w o (λ e. n (ap (λ (m : Login). m.proven) (login-there u p a x i j w o) ∙ e)))
-  over c t (call.all_end f start W room known e) = own-over f start W room known 0x06 t e.command (all-gone u p a x i j w o (headerOf f) f e.paired e.flags)
-  over c t (call.moved f start W room known n m) = own-over f start W room known 0x22 t m.link (moved-gone u p a x i j w o (headerOf f) f m)
-  over c t (call.aborts-set f start W room known its asks) = own-over f start W room known 0x06 t its.form (aborted-gone u p a x i j w o (headerOf f) f its.from asks)
-  over c t (call.again f start W room known its asks same) = own-over f start W room known 0x06 t its.form (again-gone u p a x i j w o (headerOf f) f its.from asks same)
+  over c t call.power_on = event_over PowerOn (changed_gone a x p EndAll (λ _. ends_all))
+  over c t (call.time_out n) = event_over TimeOver (out_of_time u p a x i j w o (λ e. n (ap (λ (m : Login). m.proven) (login_there u p a x i j w o) ∙ e)))
+  over c t (call.all_end f start W room known e) = own_over f start W room known 0x06 t e.command (all_gone u p a x i j w o (header_of f) f e.paired e.flags)
+  over c t (call.moved f start W room known n m) = own_over f start W room known 0x22 t m.link (moved_gone u p a x i j w o (header_of f) f m)
+  over c t (call.aborts_set f start W room known its asks) = own_over f start W room known 0x06 t its.form (aborted_gone u p a x i j w o (header_of f) f its.from asks)
+  over c t (call.again f start W room known its asks same) = own_over f start W room known 0x06 t its.form (again_gone u p a x i j w o (header_of f) f its.from asks same)
   over c t (call.abts f start W room known its same whole) =
-      own-over f start W room known 0x81 t its.form
-      (subst (λ (b : ℕ). Gone a x (abtsOf p b (headerOf f).ox_id (headerOf f).rx_id).port) (sym its.from) (abts-gone u p a x i j w o (headerOf f).ox_id (headerOf f).rx_id same whole))
-  over c t (call.faulted f start W room known its same some) = fault-over f start W room known t its same some
-  over c t (call.plogi f start W room known s) = own-over f start W room known 0x22 t s.own.form (link-gone u p a x i j w o f 0x03 s refl (plogi-gone u p a x i j w o (params_of f 28)))
-  over c t (call.logo f start W room known s named) = own-over f start W room known 0x22 t s.own.form (link-gone u p a x i j w o f 0x05 s refl (logo-gone u p a x i j w o f named))
-  over c t (call.prlo f start W room known s fine) = own-over f start W room known 0x22 t s.own.form (link-gone u p a x i j w o f 0x21 s refl (login-gone u p a x i j w o _ (prlo-lacks u p a x i j w o f fine)))
-  over c t (call.pdisc-differs f start W room known s n) =
-      own-over f start W room known 0x22 t s.own.form
-      (link-gone u p a x i j w o f 0x50 s refl (login-gone u p a x i j w o _ (pdisc-lacks u p a x i j w o f (rw (login-there u p a x i j w o) at n))))
-  over c t (call.adisc-differs f start W room known s why) =
-      own-over f start W room known 0x22 t s.own.form
-      (link-gone u p a x i j w o f 0x52 s refl (login-gone u p a x i j w o _ (adisc-lacks u p a x i j w o f (rw (login-there u p a x i j w o) at why))))
+      own_over f start W room known 0x81 t its.form
+      (subst (λ (b : ℕ). Gone a x (abts_of p b (header_of f).ox_id (header_of f).rx_id).port) (sym its.from) (abts_gone u p a x i j w o (header_of f).ox_id (header_of f).rx_id same whole))
+  over c t (call.faulted f start W room known its same some) = fault_over f start W room known t its same some
+  over c t (call.plogi f start W room known s) = own_over f start W room known 0x22 t s.own.form (link_gone u p a x i j w o f 0x03 s refl (plogi_gone u p a x i j w o (params_of f 28)))
+  over c t (call.logo f start W room known s named) = own_over f start W room known 0x22 t s.own.form (link_gone u p a x i j w o f 0x05 s refl (logo_gone u p a x i j w o f named))
+  over c t (call.prlo f start W room known s fine) = own_over f start W room known 0x22 t s.own.form (link_gone u p a x i j w o f 0x21 s refl (login_gone u p a x i j w o _ (prlo_lacks u p a x i j w o f fine)))
+  over c t (call.pdisc_differs f start W room known s n) =
+      own_over f start W room known 0x22 t s.own.form
+      (link_gone u p a x i j w o f 0x50 s refl (login_gone u p a x i j w o _ (pdisc_lacks u p a x i j w o f (rw (login_there u p a x i j w o) at n))))
+  over c t (call.adisc_differs f start W room known s why) =
+      own_over f start W room known 0x22 t s.own.form
+      (link_gone u p a x i j w o f 0x52 s refl (login_gone u p a x i j w o _ (adisc_lacks u p a x i j w o f (rw (login_there u p a x i j w o) at why))))
 
   -- and so it is open nowhere
-  pub ends_open : (c : Call) → Taken d c → EndsOpen d a x c → (k m : ℕ) → lookupOf (after d c).port a x ≡ Open k m → ⊥
+  pub ends_open : (c : Call) → Taken d c → EndsOpen d a x c → (k m : ℕ) → lookup_of (after d c).port a x ≡ Open k m → ⊥
   ends_open c t e = nowhere a x (after d c).port (over c t e)
 
   -- a call leaves it open, or is not refused and ends it
@@ -452,151 +452,151 @@ module _ (d : Drive) (a x i j : ℕ) (w : wellFormed d.unit d.port ≡ true) (o 
   Sorted c = LeavesOpen d a x c ⊎ (Taken d c × EndsOpen d a x c)
 
   -- a frame that is not refused
-  module _ (f : List ℕ) (start : ℕ) (W : List ℕ) (room : ℕ) (known : AllBytes f) (strange-one : Serves d a x (frame f start W room known) → ⊥) (t : Taken d (frame f start W room known)) where
+  module _ (f : List ℕ) (start : ℕ) (W : List ℕ) (room : ℕ) (known : AllBytes f) (strange_one : Serves d a x (frame f start W room known) → ⊥) (t : Taken d (frame f start W room known)) where
     abbrev its : Call
     its = frame f start W room known
 
     -- of another sender
-    other-sorted : ((headerOf f).s_id ≡ a → ⊥) → Sorted its
-    other-sorted n =
-        elim (all-or-not p f) [
+    other_sorted : ((header_of f).s_id ≡ a → ⊥) → Sorted its
+    other_sorted n =
+        elim (all_or_not p f) [
           | yes all ↦ inr (t, call.all_end f start W room known all)
-          | no spares ↦ elim (moved-or-not p a (headerOf f) f) [
+          | no spares ↦ elim (moved_or_not p a (header_of f) f) [
             | yes moves ↦ inr (t, call.moved f start W room known n moves)
             | no still ↦ inl (call.other f start W room known n spares still)
           ]
         ]
 
     -- ABTS
-    abts-sorted : Own a 0x81 f → Sorted its
-    abts-sorted own =
-        elim (ℕ_discrete (headerOf f).ox_id x) [
-          | no n ↦ inl (call.abts-other f start W room known own n)
-          | yes same ↦ elim (ℕ_discrete (headerOf f).rx_id 0xffff) [
-            | no n ↦ inl (call.abts-rejected f start W room known own n)
+    abts_sorted : Own a 0x81 f → Sorted its
+    abts_sorted own =
+        elim (ℕ_discrete (header_of f).ox_id x) [
+          | no n ↦ inl (call.abts_other f start W room known own n)
+          | yes same ↦ elim (ℕ_discrete (header_of f).rx_id 0xffff) [
+            | no n ↦ inl (call.abts_rejected f start W room known own n)
             | yes whole ↦ inr (t, call.abts f start W room known own same whole)
           ]
         ]
 
     -- FCP_DATA: one that is taken serves it
-    data-sorted : Own a 0x01 f → Sorted its
-    data-sorted own =
-        elim (ℕ_discrete (headerOf f).ox_id x) [
-          | no n ↦ inl (call.data-other f start W room known own n)
+    data_sorted : Own a 0x01 f → Sorted its
+    data_sorted own =
+        elim (ℕ_discrete (header_of f).ox_id x) [
+          | no n ↦ inl (call.data_other f start W room known own n)
           | yes same ↦ elim (ℕ_discrete t.n 0) [
-            | yes none ↦ absurd (strange-one (own, same, t.said ∙ ap Sent none))
+            | yes none ↦ absurd (strange_one (own, same, t.said ∙ ap Sent none))
             | no some ↦ inr (t, call.faulted f start W room known own same (λ e. some (same_length t.n 0 (sym t.said ∙ e))))
           ]
         ]
 
     -- FCP_CMND, by what it asks for; its login is paired
-    command-sorted : Own a 0x06 f → Sorted its
-    command-sorted own = by (asked f) refl (task-mild (cmndOf f) (length f) (headerOf f).s_id)
+    command_sorted : Own a 0x06 f → Sorted its
+    command_sorted own = by (asked f) refl (task_mild (cmnd_of f) (length f) (header_of f).s_id)
       where
-        paired : (loginOf p (headerOf f).s_id).paired ≡ 1
-        paired = rw (own.from, login-there u p a x i j w o) (eqb-true (loginAt p i).paired 1 (is-paired u p a x i j w o))
+        paired : (login_of p (header_of f).s_id).paired ≡ 1
+        paired = rw (own.from, login_there u p a x i j w o) (eqb-true (login_at p i).paired 1 (is_paired u p a x i j w o))
 
-        by : (k : Task) → asked f ≡ k → Mild (headerOf f).s_id k → Sorted its
+        by : (k : Task) → asked f ≡ k → Mild (header_of f).s_id k → Sorted its
         by k e (mild.code m) = inl (call.coded f start W room known m own e)
-        by k e mild.abort = inr (t, call.aborts-set f start W room known own (e ∙ ap (λ (b : ℕ). task.Apply (EndExchangesOf b)) own.from))
+        by k e mild.abort = inr (t, call.aborts_set f start W room known own (e ∙ ap (λ (b : ℕ). task.Apply (EndExchangesOf b)) own.from))
         by k e mild.reset = inr (t, call.all_end f start W room known record { command = own.form; paired = paired; flags = inl e })
         by k e mild.clear = inr (t, call.all_end f start W room known record { command = own.form; paired = paired; flags = inr e })
         by k e mild.execute =
-            elim (ℕ_discrete (headerOf f).ox_id x) [
+            elim (ℕ_discrete (header_of f).ox_id x) [
               | yes same ↦ inr (t, call.again f start W room known own e same)
-              | no n ↦ inl (call.command-other f start W room known own e n)
+              | no n ↦ inl (call.command_other f start W room known own e n)
             ]
 
     -- a link request of right size, by its code
-    request-sorted : (c : ℕ) → Request c → Service a c f → Sorted its
-    request-sorted c plogi s = inr (t, call.plogi f start W room known s)
-    request-sorted c logo s =
+    request_sorted : (c : ℕ) → Request c → Service a c f → Sorted its
+    request_sorted c plogi s = inr (t, call.plogi f start W room known s)
+    request_sorted c logo s =
         elim (ℕ_discrete (num 3 f 29) a) [
           | yes named ↦ inr (t, call.logo f start W room known s named)
-          | no n ↦ inl (call.logo-rejected f start W room known s n)
+          | no n ↦ inl (call.logo_rejected f start W room known s n)
         ]
-    request-sorted c rrq s = inl (call.rrq f start W room known s)
-    request-sorted c prli s = inl (call.prli f start W room known s)
-    request-sorted c prlo s = by (pageFine (num 3 f 25) (get_or f 28 0)) refl
+    request_sorted c rrq s = inl (call.rrq f start W room known s)
+    request_sorted c prli s = inl (call.prli f start W room known s)
+    request_sorted c prlo s = by (page_fine (num 3 f 25) (get_or f 28 0)) refl
       where
-        by : (b : Bool) → pageFine (num 3 f 25) (get_or f 28 0) ≡ b → Sorted its
+        by : (b : Bool) → page_fine (num 3 f 25) (get_or f 28 0) ≡ b → Sorted its
         by true e = inr (t, call.prlo f start W room known s e)
-        by false e = inl (call.prlo-rejected f start W room known s e)
-    request-sorted c pdisc s = by (namesDiffer (loginOf p a) (params_of f 28).port_name (params_of f 28).node_name) refl
+        by false e = inl (call.prlo_rejected f start W room known s e)
+    request_sorted c pdisc s = by (names_differ (login_of p a) (params_of f 28).port_name (params_of f 28).node_name) refl
       where
-        by : (b : Bool) → namesDiffer (loginOf p a) (params_of f 28).port_name (params_of f 28).node_name ≡ b → Sorted its
-        by true e = inr (t, call.pdisc-differs f start W room known s (apart e))
+        by : (b : Bool) → names_differ (login_of p a) (params_of f 28).port_name (params_of f 28).node_name ≡ b → Sorted its
+        by true e = inr (t, call.pdisc_differs f start W room known s (apart e))
         by false e = inl (call.pdisc f start W room known s e)
-    request-sorted c adisc s = by (namesDiffer (loginOf p a) (part 8 f 32) (part 8 f 40)) refl
+    request_sorted c adisc s = by (names_differ (login_of p a) (part 8 f 32) (part 8 f 40)) refl
       where
-        by : (b : Bool) → namesDiffer (loginOf p a) (part 8 f 32) (part 8 f 40) ≡ b → Sorted its
-        by true e = inr (t, call.adisc-differs f start W room known s (inl (apart e)))
+        by : (b : Bool) → names_differ (login_of p a) (part 8 f 32) (part 8 f 40) ≡ b → Sorted its
+        by true e = inr (t, call.adisc_differs f start W room known s (inl (apart e)))
         by false e =
             elim (ℕ_discrete (num 3 f 49) a) [
               | yes named ↦ inl (call.adisc f start W room known s e named)
-              | no n ↦ inr (t, call.adisc-differs f start W room known s (inr n))
+              | no n ↦ inr (t, call.adisc_differs f start W room known s (inr n))
             ]
 
     -- a link request: another code has no size, and so none with a payload
-    link-sorted : Own a 0x22 f → 24 < length f → Sorted its
-    link-sorted own long =
+    link_sorted : Own a 0x22 f → 24 < length f → Sorted its
+    link_sorted own long =
         elim (ℕ_discrete (length f) (24 + size_of (get_or f 24 0))) [
-          | yes e ↦ request-sorted (get_or f 24 0) (request (get_or f 24 0) (λ none. absurd (omega arith))) record { own = own; code_is = refl; sized = e }
+          | yes e ↦ request_sorted (get_or f 24 0) (request (get_or f 24 0) (λ none. absurd (omega arith))) record { own = own; code_is = refl; sized = e }
           | no n ↦ inl (call.unsized f start W room known own n)
         ]
 
     -- its own frames, by their R_CTL
-    own-sorted : unknownForm (headerOf f) (length f) ≡ false → (headerOf f).s_id ≡ a → Sorted its
+    own_sorted : unknown_form (header_of f) (length f) ≡ false → (header_of f).s_id ≡ a → Sorted its
     unfolding form_of
-    own-sorted form is =
-        elim (ℕ_discrete (headerOf f).r_ctl 0x22) [
-          | yes e ↦ link-sorted record { from = is; form = e } (has-payload (headerOf f) (length f) form e)
-          | no link ↦ elim (ℕ_discrete (headerOf f).r_ctl 0x23) [
+    own_sorted form is =
+        elim (ℕ_discrete (header_of f).r_ctl 0x22) [
+          | yes e ↦ link_sorted record { from = is; form = e } (has_payload (header_of f) (length f) form e)
+          | no link ↦ elim (ℕ_discrete (header_of f).r_ctl 0x23) [
             | yes e ↦ inl (call.done f start W room known record { from = is; form = e })
-            | no done ↦ elim (ℕ_discrete (headerOf f).r_ctl 0x81) [
-              | yes e ↦ abts-sorted record { from = is; form = e }
-              | no abort ↦ elim (ℕ_discrete (headerOf f).r_ctl 0x01) [
-                | yes e ↦ data-sorted record { from = is; form = e }
-                | no other ↦ command-sorted
-                    record { from = is; form = command-form (headerOf f) (length f) form (rw (ne_eqb (headerOf f).r_ctl 0x22 link, ne_eqb (headerOf f).r_ctl 0x23 done, ne_eqb (headerOf f).r_ctl 0x81 abort, ne_eqb (headerOf f).r_ctl 0x01 other)) }
+            | no done ↦ elim (ℕ_discrete (header_of f).r_ctl 0x81) [
+              | yes e ↦ abts_sorted record { from = is; form = e }
+              | no abort ↦ elim (ℕ_discrete (header_of f).r_ctl 0x01) [
+                | yes e ↦ data_sorted record { from = is; form = e }
+                | no other ↦ command_sorted
+                    record { from = is; form = command_form (header_of f) (length f) form (rw (ne_eqb (header_of f).r_ctl 0x22 link, ne_eqb (header_of f).r_ctl 0x23 done, ne_eqb (header_of f).r_ctl 0x81 abort, ne_eqb (header_of f).r_ctl 0x01 other)) }
               ]
             ]
           ]
         ]
 
-    frame-sorted : unknownForm (headerOf f) (length f) ≡ false → Sorted its
-    frame-sorted form =
-        elim (ℕ_discrete (headerOf f).s_id a) [
-          | yes is ↦ own-sorted form is
-          | no n ↦ other-sorted n
+    frame_sorted : unknown_form (header_of f) (length f) ≡ false → Sorted its
+    frame_sorted form =
+        elim (ℕ_discrete (header_of f).s_id a) [
+          | yes is ↦ own_sorted form is
+          | no n ↦ other_sorted n
         ]
 
   -- an event is not refused
-  event-taken : (e : Event) → Taken d (event e)
-  event-taken e = record { n = 0; said = ap (λ (r : Answer). r.said) (event-answered d e w) }
+  event_taken : (e : Event) → Taken d (event e)
+  event_taken e = record { n = 0; said = ap (λ (r : Answer). r.said) (event_answered d e w) }
 
-  event-sorted : (e : Event) → Sorted (event e)
-  event-sorted LoopReset = inl call.loop-reset
-  event-sorted TimeOver =
-      elim (ℕ_discrete (loginOf p a).proven 1) [
-        | yes e ↦ inl (call.time-over e)
-        | no n ↦ inr (event-taken TimeOver, call.time-out n)
+  event_sorted : (e : Event) → Sorted (event e)
+  event_sorted LoopReset = inl call.loop_reset
+  event_sorted TimeOver =
+      elim (ℕ_discrete (login_of p a).proven 1) [
+        | yes e ↦ inl (call.time_over e)
+        | no n ↦ inr (event_taken TimeOver, call.time_out n)
       ]
-  event-sorted PowerOn = inr (event-taken PowerOn, call.power-on)
+  event_sorted PowerOn = inr (event_taken PowerOn, call.power_on)
 
   -- a frame is refused, or its form is known and it is answered
-  answer-sorted : (f : List ℕ) (start : ℕ) (W : List ℕ) (room : ℕ) (known : AllBytes f) → (Serves d a x (frame f start W room known) → ⊥) → Sorted (frame f start W room known)
-  answer-sorted f start W room known strange-one =
-      frame-cases d f start W room By (λ r _ refuses _. refuses r refl) (λ passes _ answers. answers _ refl passes.arrived.known) (λ r e. inl (call.refused r e)) (λ n e. frame-sorted f start W room known strange-one record { n = n; said = e })
+  answer_sorted : (f : List ℕ) (start : ℕ) (W : List ℕ) (room : ℕ) (known : AllBytes f) → (Serves d a x (frame f start W room known) → ⊥) → Sorted (frame f start W room known)
+  answer_sorted f start W room known strange_one =
+      frame_cases d f start W room By (λ r _ refuses _. refuses r refl) (λ passes _ answers. answers _ refl passes.arrived.known) (λ r e. inl (call.refused r e)) (λ n e. frame_sorted f start W room known strange_one record { n = n; said = e })
     where
       S : Type 0
       S = Sorted (frame f start W room known)
 
       By : Answer → Type 0
-      By s = ((r : Refusal) → s.said ≡ Refused r → S) → ((n : ℕ) → s.said ≡ Sent n → unknownForm (headerOf f) (length f) ≡ false → S) → S
+      By s = ((r : Refusal) → s.said ≡ Refused r → S) → ((n : ℕ) → s.said ≡ Sent n → unknown_form (header_of f) (length f) ≡ false → S) → S
 
   -- each call
-  pub no-third-call : (c : Call) → (Serves d a x c → ⊥) → LeavesOpen d a x c ⊎ (Taken d c × EndsOpen d a x c)
-  no-third-call (frame f start W room known) n = answer-sorted f start W room known n
-  no-third-call (next b y start W room) n = inl (call.next-other b y start W room n)
-  no-third-call (event e) n = event-sorted e
+  pub no_third_call : (c : Call) → (Serves d a x c → ⊥) → LeavesOpen d a x c ⊎ (Taken d c × EndsOpen d a x c)
+  no_third_call (frame f start W room known) n = answer_sorted f start W room known n
+  no_third_call (next b y start W room) n = inl (call.next_other b y start W room n)
+  no_third_call (event e) n = event_sorted e

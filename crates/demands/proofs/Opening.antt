@@ -10,135 +10,135 @@ use lib.Seq.{get_or-set_same}
 use borrow.Author.Tests.{eqb-true, eq-eqb, not-false}
 use Rattle.tables.specs.declared.Found.{Found}
 use Rattle.tables.specs.declared.Found.TheVariants.{Nothing}
-use Rattle.tables.proofs.Searches.{found_below, found-passes}
-use Rattle.wire.specs.Bytes.{num, fillCount}
+use Rattle.tables.proofs.Searches.{found_below, found_passes}
+use Rattle.wire.specs.Bytes.{num, fill_count}
 use Rattle.wire.specs.Layout.{AllBytes}
 use Rattle.frame.specs.declared.Header.{Header}
-use Rattle.frame.specs.Head.{headerOf, headerBytes}
+use Rattle.frame.specs.Head.{header_of, header_bytes}
 use Rattle.state.specs.declared.Exchange.{Exchange}
 use Rattle.state.specs.declared.Login.{Login}
 use Rattle.state.specs.declared.Port.{Port}
-use Rattle.state.proofs.Places.{found-has, stored_at}
+use Rattle.state.proofs.Places.{found_has, stored_at}
 use Rattle.state.specs.declared.Unit.{Unit}
-use Rattle.state.specs.Kinds.{kindBlocks, kindInquiry, kindInquiryOther, kindSenseNone, kindSenseReset, kindSenseCleared, kindSenseOther, isWrite}
+use Rattle.state.specs.Kinds.{kind_blocks, kind_inquiry, kind_inquiry_other, kind_sense_none, kind_sense_reset, kind_sense_cleared, kind_sense_other, is_write}
 use Rattle.state.specs.Standing.{Open}
-use Rattle.state.specs.Changes.{emptyExchange, emptyLogin, isClosed, hasAddress, own_of, loginAt, exchangeAt, withLogin, withAttention, withExchange}
-use Rattle.state.specs.Tables.{hasId, findLogin, findExchange, freeExchange, loginIn, loginOf, lookupOf}
-use Rattle.formed.specs.Formed.{fullFrame, wellFormed}
-use Rattle.reply.specs.Payload.{payloadOf}
+use Rattle.state.specs.Changes.{empty_exchange, empty_login, is_closed, has_address, own_of, login_at, exchange_at, with_login, with_attention, with_exchange}
+use Rattle.state.specs.Tables.{has_id, find_login, find_exchange, free_exchange, login_in, login_of, lookup_of}
+use Rattle.formed.specs.Formed.{full_frame, well_formed}
+use Rattle.reply.specs.Payload.{payload_of}
 use Rattle.reply.specs.Reply.{head_of, silent, filled, bytes_of}
 use Rattle.calls.specs.Turn.{Decided}
-use Rattle.calls.proofs.Decisions.{on-cond}
-use Rattle.calls.proofs.Standing.{stands-there}
-use Rattle.calls.proofs.Views.{sought-is}
+use Rattle.calls.proofs.Decisions.{on_cond}
+use Rattle.calls.proofs.Standing.{stands_there}
+use Rattle.calls.proofs.Views.{sought_is}
 use Rattle.command.specs.declared.Operation.TheVariants as op
-use Rattle.command.specs.Cmnd.{cmndOf}
-use Rattle.command.specs.Cdb.{range10, decodedOf}
-use Rattle.command.specs.Tests.{inquiryKind, senseKind}
-use Rattle.command.specs.Command.{reports, toldOf, commandOf}
-use Rattle.command.proofs.Moves.{operationOf}
-use Rattle.command.proofs.Silent.{wishOf, OpensAt, command-silent}
+use Rattle.command.specs.Cmnd.{cmnd_of}
+use Rattle.command.specs.Cdb.{range10, decoded_of}
+use Rattle.command.specs.Tests.{inquiry_kind, sense_kind}
+use Rattle.command.specs.Command.{reports, told_of, command_of}
+use Rattle.command.proofs.Moves.{operation_of}
+use Rattle.command.proofs.Silent.{wish_of, OpensAt, command_silent}
 use Rattle.refusal.specs.declared.Said.TheVariants.{Sent}
-use Rattle.arrival.specs.Arrival.{spared, unprovenLogin, form_of}
+use Rattle.arrival.specs.Arrival.{spared, unproven_login, form_of}
 use Rattle.arrival.proofs.Passes.{Passes}
 use Rattle.drive.specs.declared.Drive.{Drive}
 use Rattle.drive.specs.declared.Answer.{Answer}
-use Rattle.drive.specs.Entry.{answered, decidedIn, replyBytes, frameIn}
-use Rattle.drive.proofs.Keeping.{frame-kept}
-use Rattle.drive.proofs.Ways.{passed-in}
-use Rattle.serve.specs.Made.{madeBytes}
-use Rattle.serve.specs.Next.{exchangeOf, full_of}
-use Rattle.demands.specs.Reading.{Reads, CommandIn, read_of, Opens, read, write, inquiry, capacity, sense, Opened, Delivered, readFrom, Frees, Comes}
-use Rattle.demands.proofs.Decoding.{framed-long}
-use Rattle.demands.proofs.Refusals.{frame-answers}
-use Rattle.demands.proofs.Reading.{reads-read, reads_made, reads-come}
+use Rattle.drive.specs.Entry.{answered, decided_in, reply_bytes, frame_in}
+use Rattle.drive.proofs.Keeping.{frame_kept}
+use Rattle.drive.proofs.Ways.{passed_in}
+use Rattle.serve.specs.Made.{made_bytes}
+use Rattle.serve.specs.Next.{exchange_of, full_of}
+use Rattle.demands.specs.Reading.{Reads, CommandIn, read_of, Opens, read, write, inquiry, capacity, sense, Opened, Delivered, read_from, Frees, Comes}
+use Rattle.demands.proofs.Decoding.{framed_long}
+use Rattle.demands.proofs.Refusals.{frame_answers}
+use Rattle.demands.proofs.Reading.{reads_read, reads_made, reads_come}
 
 -- a reply of no bytes is none
-none-silent : (d : Drive) (h : Header) (r : Decided) → Sent (length (replyBytes d h r)) ≡ Sent 0 → silent r.reply ≡ true
-unfolding replyBytes bytes_of
-none-silent d h r e = by (silent r.reply) refl (cc)
+none_silent : (d : Drive) (h : Header) (r : Decided) → Sent (length (reply_bytes d h r)) ≡ Sent 0 → silent r.reply ≡ true
+unfolding reply_bytes bytes_of
+none_silent d h r e = by (silent r.reply) refl (cc)
   where
     P : List ℕ
-    P = payloadOf (own_of d.port) h r.reply []
+    P = payload_of (own_of d.port) h r.reply []
 
-    by : (b : Bool) → silent r.reply ≡ b → length (cond b [] (headerBytes (head_of h r.reply (fillCount (length P))) ++ filled P)) ≡ 0 → silent r.reply ≡ true
+    by : (b : Bool) → silent r.reply ≡ b → length (cond b [] (header_bytes (head_of h r.reply (fill_count (length P))) ++ filled P)) ≡ 0 → silent r.reply ≡ true
     by true s n = s
-    by false s n = let l = framed-long (head_of h r.reply (fillCount (length P))) P in absurd (omega arith)
+    by false s n = let l = framed_long (head_of h r.reply (fill_count (length P))) P in absurd (omega arith)
 
 -- what a command of each code asks of a login is what its frame's bytes say
-wish-is : {code : ℕ} {wish : List ℕ → Login → Exchange} → Opens code wish → (f : List ℕ) (m : Login) → get_or f 36 0 ≡ code → wishOf m (headerOf f).ox_id (cmndOf f) ≡ wish f m
-unfolding cmndOf decodedOf range10 headerOf
-wish-is read f m c = let is : operationOf (cmndOf f) ≡ op.Read record { start = num 4 f 38; blocks = num 2 f 43 } = rw c in rw is
-wish-is write f m c = let is : operationOf (cmndOf f) ≡ op.Write record { start = num 4 f 38; blocks = num 2 f 43 } = rw c in rw is
-wish-is inquiry f m c = let is : operationOf (cmndOf f) ≡ op.Inquiry (get_or f 40 0) = rw c in rw is
-wish-is capacity f m c = let is : operationOf (cmndOf f) ≡ op.ReadCapacity = rw c in rw is
-wish-is sense f m c = let is : operationOf (cmndOf f) ≡ op.RequestSense (get_or f 40 0) = rw c in rw is
+wish_is : {code : ℕ} {wish : List ℕ → Login → Exchange} → Opens code wish → (f : List ℕ) (m : Login) → get_or f 36 0 ≡ code → wish_of m (header_of f).ox_id (cmnd_of f) ≡ wish f m
+unfolding cmnd_of decoded_of range10 header_of
+wish_is read f m c = let is : operation_of (cmnd_of f) ≡ op.Read record { start = num 4 f 38; blocks = num 2 f 43 } = rw c in rw is
+wish_is write f m c = let is : operation_of (cmnd_of f) ≡ op.Write record { start = num 4 f 38; blocks = num 2 f 43 } = rw c in rw is
+wish_is inquiry f m c = let is : operation_of (cmnd_of f) ≡ op.Inquiry (get_or f 40 0) = rw c in rw is
+wish_is capacity f m c = let is : operation_of (cmnd_of f) ≡ op.ReadCapacity = rw c in rw is
+wish_is sense f m c = let is : operation_of (cmnd_of f) ≡ op.RequestSense (get_or f 40 0) = rw c in rw is
 
 -- its exchange is open, of the frame's OX_ID and FCP_DL, and nothing of it was sent
 record Anew (f : List ℕ) (e : Exchange) : Type 0 where
-  open_is : isClosed e ≡ false
+  open_is : is_closed e ≡ false
   id : e.ox_id ≡ num 2 f 16
   dl : e.expected ≡ num 4 f 52
   unsent : e.sent ≡ 0
 
 -- a kind of INQUIRY or REQUEST SENSE is not that of a free place, nor of a READ
 module _ (P : ℕ → Type 0) where
-  inquiry-kinds : P kindInquiry → P kindInquiryOther → (lun : ℕ) → P (inquiryKind lun)
-  unfolding inquiryKind
-  inquiry-kinds a b lun = on-cond P (eqb lun 0) a b
+  inquiry_kinds : P kind_inquiry → P kind_inquiry_other → (lun : ℕ) → P (inquiry_kind lun)
+  unfolding inquiry_kind
+  inquiry_kinds a b lun = on_cond P (eqb lun 0) a b
 
-  sense-kinds : P kindSenseOther → P kindSenseNone → P kindSenseReset → P kindSenseCleared → (lun attention : ℕ) → P (senseKind lun attention)
-  unfolding senseKind
-  sense-kinds a b c e lun attention = on-cond P (not (eqb lun 0)) a (on-cond P (eqb attention 0) b (on-cond P (eqb attention 0x29) c e))
+  sense_kinds : P kind_sense_other → P kind_sense_none → P kind_sense_reset → P kind_sense_cleared → (lun attention : ℕ) → P (sense_kind lun attention)
+  unfolding sense_kind
+  sense_kinds a b c e lun attention = on_cond P (not (eqb lun 0)) a (on_cond P (eqb attention 0) b (on_cond P (eqb attention 0x29) c e))
 
-wish-anew : {code : ℕ} {wish : List ℕ → Login → Exchange} → Opens code wish → (f : List ℕ) (m : Login) → Anew f (wish f m)
-wish-anew read f m = record { open_is = refl; id = refl; dl = refl; unsent = refl }
-wish-anew write f m = record { open_is = refl; id = refl; dl = refl; unsent = refl }
-wish-anew inquiry f m = record { open_is = inquiry-kinds (λ (k : ℕ). eqb k 0 ≡ false) refl refl (num 8 f 24); id = refl; dl = refl; unsent = refl }
-wish-anew capacity f m = record { open_is = refl; id = refl; dl = refl; unsent = refl }
-wish-anew sense f m = record { open_is = sense-kinds (λ (k : ℕ). eqb k 0 ≡ false) refl refl refl refl (num 8 f 24) m.attention; id = refl; dl = refl; unsent = refl }
+wish_anew : {code : ℕ} {wish : List ℕ → Login → Exchange} → Opens code wish → (f : List ℕ) (m : Login) → Anew f (wish f m)
+wish_anew read f m = record { open_is = refl; id = refl; dl = refl; unsent = refl }
+wish_anew write f m = record { open_is = refl; id = refl; dl = refl; unsent = refl }
+wish_anew inquiry f m = record { open_is = inquiry_kinds (λ (k : ℕ). eqb k 0 ≡ false) refl refl (num 8 f 24); id = refl; dl = refl; unsent = refl }
+wish_anew capacity f m = record { open_is = refl; id = refl; dl = refl; unsent = refl }
+wish_anew sense f m = record { open_is = sense_kinds (λ (k : ℕ). eqb k 0 ≡ false) refl refl refl refl (num 8 f 24) m.attention; id = refl; dl = refl; unsent = refl }
 
 -- and no made data are a READ's or a WRITE's
-wish-made : {code : ℕ} {wish : List ℕ → Login → Exchange} → Opens code wish → (code ≡ 0x28 → ⊥) → (code ≡ 0x2a → ⊥) → (f : List ℕ) (m : Login) → (wish f m).kind ≡ kindBlocks → ⊥
-wish-made read n k f m = absurd (n refl)
-wish-made write n k f m = absurd (k refl)
-wish-made inquiry n k f m = inquiry-kinds (λ (k : ℕ). k ≡ kindBlocks → ⊥) (λ e. omega arith) (λ e. omega arith) (num 8 f 24)
-wish-made capacity n k f m = λ e. omega arith
-wish-made sense n k f m = sense-kinds (λ (k : ℕ). k ≡ kindBlocks → ⊥) (λ e. omega arith) (λ e. omega arith) (λ e. omega arith) (λ e. omega arith) (num 8 f 24) m.attention
+wish_made : {code : ℕ} {wish : List ℕ → Login → Exchange} → Opens code wish → (code ≡ 0x28 → ⊥) → (code ≡ 0x2a → ⊥) → (f : List ℕ) (m : Login) → (wish f m).kind ≡ kind_blocks → ⊥
+wish_made read n k f m = absurd (n refl)
+wish_made write n k f m = absurd (k refl)
+wish_made inquiry n k f m = inquiry_kinds (λ (k : ℕ). k ≡ kind_blocks → ⊥) (λ e. omega arith) (λ e. omega arith) (num 8 f 24)
+wish_made capacity n k f m = λ e. omega arith
+wish_made sense n k f m = sense_kinds (λ (k : ℕ). k ≡ kind_blocks → ⊥) (λ e. omega arith) (λ e. omega arith) (λ e. omega arith) (λ e. omega arith) (num 8 f 24) m.attention
 
 -- only a WRITE's data come from the host
-wish-sends : {code : ℕ} {wish : List ℕ → Login → Exchange} → Opens code wish → (code ≡ 0x2a → ⊥) → (f : List ℕ) (m : Login) → isWrite (wish f m) ≡ false
-wish-sends read n f m = refl
-wish-sends write n f m = absurd (n refl)
-wish-sends inquiry n f m = refl
-wish-sends capacity n f m = refl
-wish-sends sense n f m = refl
+wish_sends : {code : ℕ} {wish : List ℕ → Login → Exchange} → Opens code wish → (code ≡ 0x2a → ⊥) → (f : List ℕ) (m : Login) → is_write (wish f m) ≡ false
+wish_sends read n f m = refl
+wish_sends write n f m = absurd (n refl)
+wish_sends inquiry n f m = refl
+wish_sends capacity n f m = refl
+wish_sends sense n f m = refl
 
 -- what is told leaves all of a login but its attention
-told_same : (m : Login) (kind : ℕ) → (P : Login → Type 0) → P m → P (withAttention m 0) → P (toldOf m kind)
-unfolding toldOf
-told_same m kind P a b = on-cond P (reports kind) b a
+told_same : (m : Login) (kind : ℕ) → (P : Login → Type 0) → P m → P (with_attention m 0) → P (told_of m kind)
+unfolding told_of
+told_same m kind P a b = on_cond P (reports kind) b a
 
 module _ {code : ℕ} {wish : List ℕ → Login → Exchange} (opens : Opens code wish) (d : Drive) (f : List ℕ) (start : ℕ) (W l : List ℕ) (known : AllBytes f) (r : CommandIn code d f start W l) where
   abbrev head : Header
-  head = headerOf f
+  head = header_of f
 
   abbrev decided : Decided
-  decided = commandOf d.unit d.port head f
+  decided = command_of d.unit d.port head f
 
   abbrev then : Drive
-  then = (frameIn d f start W (length l)).drive
+  then = (frame_in d f start W (length l)).drive
 
   passes : Passes d.unit d.port head f (length l)
-  passes = (passed-in d f start (length W) (length l) r.passed).arrived
+  passes = (passed_in d f start (length W) (length l) r.passed).arrived
 
   -- the answer is the command's
-  command-answered : frameIn d f start W (length l) ≡ answered d head decided
+  command_answered : frame_in d f start W (length l) ≡ answered d head decided
   unfolding form_of
-  command-answered = let is : decidedIn d f start (length W) ≡ decided = rw r.command in (frame-answers d f start W l r.passed).0 ∙ ap (answered d head) is
+  command_answered = let is : decided_in d f start (length W) ≡ decided = rw r.command in (frame_answers d f start W l r.passed).0 ∙ ap (answered d head) is
 
-  opens_at : OpensAt d.port head (cmndOf f) decided.port
-  opens_at = command-silent d.unit d.port head f (none-silent d head decided (sym (ap (λ (a : Answer). a.said) command-answered) ∙ r.silent))
+  opens_at : OpensAt d.port head (cmnd_of f) decided.port
+  opens_at = command_silent d.unit d.port head f (none_silent d head decided (sym (ap (λ (a : Answer). a.said) command_answered) ∙ r.silent))
 
   -- the places of its login and of itself, and the login
   abbrev seat : ℕ
@@ -148,166 +148,166 @@ module _ {code : ℕ} {wish : List ℕ → Login → Exchange} (opens : Opens co
   place = opens_at.opens.j
 
   abbrev its : Login
-  its = loginAt d.port seat
+  its = login_at d.port seat
 
   abbrev opened : Exchange
   opened = wish f its
 
   anew : Anew f opened
-  anew = wish-anew opens f its
+  anew = wish_anew opens f its
 
   -- the login had no exchange of its OX_ID
-  none_open : findExchange its head.ox_id ≡ Nothing
-  unfolding loginOf
+  none_open : find_exchange its head.ox_id ≡ Nothing
+  unfolding login_of
   none_open =
-      let is = sought-is d.port head.s_id head.ox_id ∙ ap (λ (g : Found). findExchange (loginIn d.port g) head.ox_id) opens_at.seat in
+      let is = sought_is d.port head.s_id head.ox_id ∙ ap (λ (g : Found). find_exchange (login_in d.port g) head.ox_id) opens_at.seat in
       sym is ∙ opens_at.opens.none
 
-  has-own : hasId head.ox_id opened ≡ true
-  unfolding hasId headerOf
-  has-own = rw (anew.open_is, anew.id) (eq-eqb (num 2 f 16) (num 2 f 16) refl)
+  has_own : has_id head.ox_id opened ≡ true
+  unfolding has_id header_of
+  has_own = rw (anew.open_is, anew.id) (eq-eqb (num 2 f 16) (num 2 f 16) refl)
 
   abbrev told : Login
-  told = toldOf its opened.kind
+  told = told_of its opened.kind
 
   abbrev later : Port
-  later = withLogin d.port seat (withExchange told place opened)
+  later = with_login d.port seat (with_exchange told place opened)
 
-  port-later : decided.port ≡ later
-  port-later =
-      opens_at.is ∙ ap (withLogin d.port seat) (opens_at.opens.is ∙ ap (λ (e : Exchange). withExchange (toldOf its e.kind) place e) (wish-is opens f its r.code))
+  port_later : decided.port ≡ later
+  port_later =
+      opens_at.is ∙ ap (with_login d.port seat) (opens_at.opens.is ∙ ap (λ (e : Exchange). with_exchange (told_of its e.kind) place e) (wish_is opens f its r.code))
 
-  drive-later : then ≡ record { unit = d.unit; port = later }
-  drive-later = ap (λ (a : Answer). a.drive) command-answered ∙ ap (λ (q : Port). record { unit = d.unit; port = q }) port-later
+  drive_later : then ≡ record { unit = d.unit; port = later }
+  drive_later = ap (λ (a : Answer). a.drive) command_answered ∙ ap (λ (q : Port). record { unit = d.unit; port = q }) port_later
 
   -- its login stands where it stood, and the exchange at its place
-  login-later : loginAt later seat ≡ withExchange told place opened
-  unfolding findLogin
-  login-later = stored_at d.port seat (withExchange told place opened) (found_below emptyLogin (hasAddress head.s_id) d.port.logins opens_at.seat)
+  login_later : login_at later seat ≡ with_exchange told place opened
+  unfolding find_login
+  login_later = stored_at d.port seat (with_exchange told place opened) (found_below empty_login (has_address head.s_id) d.port.logins opens_at.seat)
 
   place_inside : place < length told.places
-  unfolding freeExchange
+  unfolding free_exchange
   place_inside = told_same its opened.kind (λ (m : Login). place < length m.places) within within
     where
       within : place < length its.places
-      within = found_below emptyExchange isClosed its.places opens_at.opens.free
+      within = found_below empty_exchange is_closed its.places opens_at.opens.free
 
-  place-later : exchangeAt (withExchange told place opened) place ≡ opened
-  unfolding exchangeAt withExchange
-  place-later = get_or-set_same told.places place opened emptyExchange place_inside
+  place_later : exchange_at (with_exchange told place opened) place ≡ opened
+  unfolding exchange_at with_exchange
+  place_later = get_or-set_same told.places place opened empty_exchange place_inside
 
-  is_later : exchangeOf then.port seat place ≡ opened
-  is_later = ap (λ (e : Drive). exchangeOf e.port seat place) drive-later ∙ ap (λ (m : Login). exchangeAt m place) login-later ∙ place-later
+  is_later : exchange_of then.port seat place ≡ opened
+  is_later = ap (λ (e : Drive). exchange_of e.port seat place) drive_later ∙ ap (λ (m : Login). exchange_at m place) login_later ∙ place_later
 
-  has-later : hasAddress head.s_id (loginAt later seat) ≡ true
-  unfolding withExchange hasAddress
-  has-later =
-      let has = found-has d.port head.s_id seat opens_at.seat in
-      ap (hasAddress head.s_id) login-later ∙ told_same its opened.kind (λ (m : Login). hasAddress head.s_id m ≡ true) has has
+  has_later : has_address head.s_id (login_at later seat) ≡ true
+  unfolding with_exchange has_address
+  has_later =
+      let has = found_has d.port head.s_id seat opens_at.seat in
+      ap (has_address head.s_id) login_later ∙ told_same its opened.kind (λ (m : Login). has_address head.s_id m ≡ true) has has
 
-  full-later : full_of later seat ≡ full_of d.port seat
-  unfolding withExchange
-  full-later = ap (λ (m : Login). fullFrame m.size) login-later ∙ told_same its opened.kind (λ (m : Login). fullFrame m.size ≡ fullFrame its.size) refl refl
+  full_later : full_of later seat ≡ full_of d.port seat
+  unfolding with_exchange
+  full_later = ap (λ (m : Login). full_frame m.size) login_later ∙ told_same its opened.kind (λ (m : Login). full_frame m.size ≡ full_frame its.size) refl refl
 
-  formed-later : wellFormed then.unit then.port ≡ true
-  formed-later = frame-kept d f start W (length l) known passes.fine
+  formed_later : well_formed then.unit then.port ≡ true
+  formed_later = frame_kept d f start W (length l) known passes.fine
 
-  stands-later : lookupOf then.port head.s_id head.ox_id ≡ Open seat place
-  stands-later =
-      let has = ap (λ (e : Drive). hasAddress head.s_id (loginAt e.port seat)) drive-later ∙ has-later in
-      stands-there then.unit then.port formed-later head.s_id head.ox_id seat place has (ap (hasId head.ox_id) is_later ∙ has-own)
+  stands_later : lookup_of then.port head.s_id head.ox_id ≡ Open seat place
+  stands_later =
+      let has = ap (λ (e : Drive). has_address head.s_id (login_at e.port seat)) drive_later ∙ has_later in
+      stands_there then.unit then.port formed_later head.s_id head.ox_id seat place has (ap (has_id head.ox_id) is_later ∙ has_own)
 
-  place-free : isClosed (exchangeOf d.port seat place) ≡ true
-  unfolding freeExchange exchangeAt
-  place-free = found-passes emptyExchange isClosed its.places opens_at.opens.free
+  place_free : is_closed (exchange_of d.port seat place) ≡ true
+  unfolding free_exchange exchange_at
+  place_free = found_passes empty_exchange is_closed its.places opens_at.opens.free
 
-  ox-small : head.ox_id < 65536
-  unfolding headerOf
-  ox-small = let a = known 16 in let b = known 17 in omega arith
+  ox_small : head.ox_id < 65536
+  unfolding header_of
+  ox_small = let a = known 16 in let b = known 17 in omega arith
 
-  dl-small : num 4 f 52 < 4294967296
-  dl-small = let a = known 52 in let b = known 53 in let c = known 54 in let e = known 55 in omega arith
+  dl_small : num 4 f 52 < 4294967296
+  dl_small = let a = known 52 in let b = known 53 in let c = known 54 in let e = known 55 in omega arith
 
-  pub opens-command : Opened d f (wish f) then
-  opens-command =
+  pub opens_command : Opened d f (wish f) then
+  opens_command =
       record {
         i = seat;
         j = place;
         seat = opens_at.seat;
-        free = place-free;
+        free = place_free;
         fresh = record {
-          stands = stands-later;
+          stands = stands_later;
           fresh = ap (λ (e : Exchange). e.sent) is_later ∙ anew.unsent;
-          ox = ox-small;
-          expected = subst (λ (n : ℕ). n < 4294967296) (sym (ap (λ (e : Exchange). e.expected) is_later ∙ anew.dl)) dl-small;
+          ox = ox_small;
+          expected = subst (λ (n : ℕ). n < 4294967296) (sym (ap (λ (e : Exchange). e.expected) is_later ∙ anew.dl)) dl_small;
         };
         is = is_later;
-        drive = drive-later;
+        drive = drive_later;
       }
 
-  unit-later : then.unit ≡ d.unit
-  unit-later = ap (λ (s : Drive). s.unit) drive-later
+  unit_later : then.unit ≡ d.unit
+  unit_later = ap (λ (s : Drive). s.unit) drive_later
 
-  unit-long : (unit : List ℕ) → length unit ≡ 512 * d.unit.capacity → length unit ≡ 512 * then.unit.capacity
-  unit-long unit long = long ∙ ap (λ (u : Unit). 512 * u.capacity) (sym unit-later)
+  unit_long : (unit : List ℕ) → length unit ≡ 512 * d.unit.capacity → length unit ≡ 512 * then.unit.capacity
+  unit_long unit long = long ∙ ap (λ (u : Unit). 512 * u.capacity) (sym unit_later)
 
   -- what is delivered of the exchange as it stands is delivered of the one that the frame asked for
-  delivered-later : (from : List ℕ) (frames : List (List ℕ)) (last : List ℕ)
-      → Delivered from then.port.address head.s_id (full_of then.port seat) (exchangeOf then.port seat place) frames last
+  delivered_later : (from : List ℕ) (frames : List (List ℕ)) (last : List ℕ)
+      → Delivered from then.port.address head.s_id (full_of then.port seat) (exchange_of then.port seat place) frames last
       → Delivered from d.port.address head.s_id (full_of d.port seat) opened frames last
-  unfolding withLogin
-  delivered-later from frames last t =
-      let own : then.port.address ≡ d.port.address = ap (λ (s : Drive). s.port.address) drive-later in
-      let full : full_of then.port seat ≡ full_of d.port seat = ap (λ (s : Drive). full_of s.port seat) drive-later ∙ full-later in
+  unfolding with_login
+  delivered_later from frames last t =
+      let own : then.port.address ≡ d.port.address = ap (λ (s : Drive). s.port.address) drive_later in
+      let full : full_of then.port seat ≡ full_of d.port seat = ap (λ (s : Drive). full_of s.port seat) drive_later ∙ full_later in
       rw (own, full, is_later) at t
 
   -- 7 did not apply, so the login is proven
-  login-proven : its.proven ≡ 1
-  unfolding spared unprovenLogin
-  login-proven =
+  login_proven : its.proven ≡ 1
+  unfolding spared unproven_login
+  login_proven =
       let fails : not (eqb its.proven 1) ≡ false = rw (r.command, opens_at.seat) at passes.proven in
       eqb-true its.proven 1 (not-false (eqb its.proven 1) fails)
 
-  proven-later : (loginAt then.port seat).proven ≡ 1
-  unfolding withExchange
-  proven-later =
-      ap (λ (s : Drive). (loginAt s.port seat).proven) drive-later ∙ ap (λ (m : Login). m.proven) login-later
-      ∙ told_same its opened.kind (λ (m : Login). m.proven ≡ its.proven) refl refl ∙ login-proven
+  proven_later : (login_at then.port seat).proven ≡ 1
+  unfolding with_exchange
+  proven_later =
+      ap (λ (s : Drive). (login_at s.port seat).proven) drive_later ∙ ap (λ (m : Login). m.proven) login_later
+      ∙ told_same its opened.kind (λ (m : Login). m.proven ≡ its.proven) refl refl ∙ login_proven
 
   -- and such frames there are
-  pub comes-in : (code ≡ 0x2a → ⊥) → (unit : List ℕ) → length unit ≡ 512 * d.unit.capacity → Comes unit head.s_id head.ox_id then
-  comes-in n unit long =
-      reads-come then unit head.s_id head.ox_id seat place formed-later (unit-long unit long) stands-later proven-later (ap (λ (e : Exchange). isWrite e) is_later ∙ wish-sends opens n f its)
+  pub comes_in : (code ≡ 0x2a → ⊥) → (unit : List ℕ) → length unit ≡ 512 * d.unit.capacity → Comes unit head.s_id head.ox_id then
+  comes_in n unit long =
+      reads_come then unit head.s_id head.ox_id seat place formed_later (unit_long unit long) stands_later proven_later (ap (λ (e : Exchange). is_write e) is_later ∙ wish_sends opens n f its)
 
 -- the frames that follow carry what the frame asked for: a READ's the unit's bytes
 module _ (d : Drive) (f : List ℕ) (start : ℕ) (W l : List ℕ) (known : AllBytes f) (r : CommandIn 0x28 d f start W l) (e : Drive) (unit : List ℕ) (frames : List (List ℕ)) (last : List ℕ) where
-  pub read-in : length unit ≡ 512 * d.unit.capacity → (reads : Reads unit (headerOf f).s_id (headerOf f).ox_id (frameIn d f start W (length l)).drive frames last e)
-      → let o = opens-command read d f start W l known r in
-      Delivered (readFrom unit (read_of f)) d.port.address (headerOf f).s_id (full_of d.port o.i) (read_of f) frames last × Frees o.i o.j reads
-  unfolding opens-command
-  read-in long reads =
-      let o = opens-command read d f start W l known r in
-      let then = (frameIn d f start W (length l)).drive in
+  pub read_in : length unit ≡ 512 * d.unit.capacity → (reads : Reads unit (header_of f).s_id (header_of f).ox_id (frame_in d f start W (length l)).drive frames last e)
+      → let o = opens_command read d f start W l known r in
+      Delivered (read_from unit (read_of f)) d.port.address (header_of f).s_id (full_of d.port o.i) (read_of f) frames last × Frees o.i o.j reads
+  unfolding opens_command
+  read_in long reads =
+      let o = opens_command read d f start W l known r in
+      let then = (frame_in d f start W (length l)).drive in
       let is = o.is in
-      let t = reads-read then e unit (headerOf f).s_id (headerOf f).ox_id o.i o.j frames last (formed-later read d f start W l known r) (unit-long read d f start W l known r unit long) o.fresh (ap (λ (s : Exchange). s.kind) is) (ap (λ (s : Exchange). isWrite s) is) reads in
-      let from : readFrom unit (exchangeOf then.port o.i o.j) ≡ readFrom unit (read_of f) = ap (readFrom unit) is in
-      (delivered-later read d f start W l known r (readFrom unit (read_of f)) frames last (rw from at t.0), t.1)
+      let t = reads_read then e unit (header_of f).s_id (header_of f).ox_id o.i o.j frames last (formed_later read d f start W l known r) (unit_long read d f start W l known r unit long) o.fresh (ap (λ (s : Exchange). s.kind) is) (ap (λ (s : Exchange). is_write s) is) reads in
+      let from : read_from unit (exchange_of then.port o.i o.j) ≡ read_from unit (read_of f) = ap (read_from unit) is in
+      (delivered_later read d f start W l known r (read_from unit (read_of f)) frames last (rw from at t.0), t.1)
 
 -- and of the others the made data
 module _ {code : ℕ} {wish : List ℕ → Login → Exchange} (opens : Opens code wish) (made : code ≡ 0x28 → ⊥) (unwritten : code ≡ 0x2a → ⊥) (d : Drive) (f : List ℕ) (start : ℕ) (W l : List ℕ) (known : AllBytes f) (r : CommandIn code d f start W l) (e : Drive) (unit : List ℕ)
     (frames : List (List ℕ)) (last : List ℕ) where
-  pub made_in : length d.unit.identity ≡ 28 → (reads : Reads unit (headerOf f).s_id (headerOf f).ox_id (frameIn d f start W (length l)).drive frames last e)
-      → let o = opens-command opens d f start W l known r in
-      let x = wish f (loginAt d.port o.i) in
-      Delivered (madeBytes d.unit x.kind) d.port.address (headerOf f).s_id (full_of d.port o.i) x frames last × Frees o.i o.j reads
-  unfolding opens-command
+  pub made_in : length d.unit.identity ≡ 28 → (reads : Reads unit (header_of f).s_id (header_of f).ox_id (frame_in d f start W (length l)).drive frames last e)
+      → let o = opens_command opens d f start W l known r in
+      let x = wish f (login_at d.port o.i) in
+      Delivered (made_bytes d.unit x.kind) d.port.address (header_of f).s_id (full_of d.port o.i) x frames last × Frees o.i o.j reads
+  unfolding opens_command
   made_in words reads =
-      let o = opens-command opens d f start W l known r in
-      let then = (frameIn d f start W (length l)).drive in
-      let x = wish f (loginAt d.port o.i) in
+      let o = opens_command opens d f start W l known r in
+      let then = (frame_in d f start W (length l)).drive in
+      let x = wish f (login_at d.port o.i) in
       let is = o.is in
-      let same = unit-later opens d f start W l known r in
-      let other : (exchangeOf then.port o.i o.j).kind ≡ kindBlocks → ⊥ = λ k. wish-made opens made unwritten f (loginAt d.port o.i) (sym (ap (λ (s : Exchange). s.kind) is) ∙ k) in
-      let t = reads_made then e unit (headerOf f).s_id (headerOf f).ox_id o.i o.j frames last (formed-later opens d f start W l known r) (ap (λ (u : Unit). length u.identity) same ∙ words) o.fresh other reads in
-      let from : madeBytes then.unit (exchangeOf then.port o.i o.j).kind ≡ madeBytes d.unit x.kind = λ n. madeBytes (same n) (is n).kind in
-      (delivered-later opens d f start W l known r (madeBytes d.unit x.kind) frames last (rw from at t.0), t.1)
+      let same = unit_later opens d f start W l known r in
+      let other : (exchange_of then.port o.i o.j).kind ≡ kind_blocks → ⊥ = λ k. wish_made opens made unwritten f (login_at d.port o.i) (sym (ap (λ (s : Exchange). s.kind) is) ∙ k) in
+      let t = reads_made then e unit (header_of f).s_id (header_of f).ox_id o.i o.j frames last (formed_later opens d f start W l known r) (ap (λ (u : Unit). length u.identity) same ∙ words) o.fresh other reads in
+      let from : made_bytes then.unit (exchange_of then.port o.i o.j).kind ≡ made_bytes d.unit x.kind = λ n. made_bytes (same n) (is n).kind in
+      (delivered_later opens d f start W l known r (made_bytes d.unit x.kind) frames last (rw from at t.0), t.1)

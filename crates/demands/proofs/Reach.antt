@@ -2,12 +2,12 @@
 use mathlib.Core.Path.{◌≡◌}
 use mathlib.Core.Bool.{true}
 use Rattle.drive.specs.declared.Drive.{Drive}
-use Rattle.drive.proofs.Made.{made-formed}
-use Rattle.drive.proofs.Keeping.{fine, frame-kept, next-frame-kept, event-fine}
+use Rattle.drive.proofs.Made.{made_formed}
+use Rattle.drive.proofs.Keeping.{fine, frame_kept, next_frame_kept, event_fine}
 use Rattle.demands.specs.Driven.{Driven, made, frame, next, event}
 
-pub driven-fine : {d : Drive} → Driven d → fine d ≡ true
-driven-fine (made s e) = made-formed s e
-driven-fine (frame {d} f start W room known r) = frame-kept d f start W room known (driven-fine r)
-driven-fine (next {d} a x start W room r) = next-frame-kept d a x start W room (driven-fine r)
-driven-fine (event {d} e r) = event-fine d e (driven-fine r)
+pub driven_fine : {d : Drive} → Driven d → fine d ≡ true
+driven_fine (made s e) = made_formed s e
+driven_fine (frame {d} f start W room known r) = frame_kept d f start W room known (driven_fine r)
+driven_fine (next {d} a x start W room r) = next_frame_kept d a x start W room (driven_fine r)
+driven_fine (event {d} e r) = event_fine d e (driven_fine r)

@@ -10,37 +10,37 @@ use lib.Seq.{take-append_seam, drop_at}
 use borrow.Author.Tests.{eqb-true, eq-eqb, le-ltb, not-true}
 use Rattle.tables.specs.declared.Found.TheVariants.{At}
 use Rattle.tables.proofs.Bools.{and_left, and_right}
-use Rattle.tables.proofs.Keeping.{all-at}
-use Rattle.wire.specs.Bytes.{bytes, fillCount}
+use Rattle.tables.proofs.Keeping.{all_at}
+use Rattle.wire.specs.Bytes.{bytes, fill_count}
 use Rattle.wire.specs.Layout.{AllBytes}
 use Rattle.frame.specs.declared.Header.{Header}
-use Rattle.frame.specs.Head.{headerOf, headerBytes}
-use Rattle.frame.proofs.Trips.{length-header, read-write}
-use Rattle.address.specs.Address.{validAddress}
-use Rattle.params.specs.Words.{params_of, setupPasses}
-use Rattle.cover.specs.Cover.{position_of, cut, lentPlace}
-use Rattle.cover.proofs.Cuts.{cut-covers}
+use Rattle.frame.specs.Head.{header_of, header_bytes}
+use Rattle.frame.proofs.Trips.{length_header, read_write}
+use Rattle.address.specs.Address.{valid_address}
+use Rattle.params.specs.Words.{params_of, setup_passes}
+use Rattle.cover.specs.Cover.{position_of, cut, lent_place}
+use Rattle.cover.proofs.Cuts.{cut_covers}
 use Rattle.state.specs.declared.Exchange.{Exchange}
 use Rattle.state.specs.declared.Login.{Login}
 use Rattle.state.specs.declared.Port.{Port}
 use Rattle.state.specs.declared.Unit.{Unit}
 use Rattle.state.specs.Standing.{Open}
-use Rattle.state.specs.Changes.{emptyLogin, isUsed, hasAddress, own_of, loginAt}
-use Rattle.state.specs.Kinds.{isWrite}
-use Rattle.state.specs.Tables.{loginOf, lookupOf}
-use Rattle.state.proofs.Places.{open-place, open-exchange, open-used, found-has, login-inside}
-use Rattle.formed.specs.Formed.{setupRules, setupOf, addressFine, loginFine, wellFormed}
-use Rattle.formed.proofs.Parts.{fine-used, formed-parts}
-use Rattle.serve.specs.Next.{exchangeOf}
+use Rattle.state.specs.Changes.{empty_login, is_used, has_address, own_of, login_at}
+use Rattle.state.specs.Kinds.{is_write}
+use Rattle.state.specs.Tables.{login_of, lookup_of}
+use Rattle.state.proofs.Places.{open_place, open_exchange, open_used, found_has, login_inside}
+use Rattle.formed.specs.Formed.{setup_rules, setup_of, address_fine, login_fine, well_formed}
+use Rattle.formed.proofs.Parts.{fine_used, formed_parts}
+use Rattle.serve.specs.Next.{exchange_of}
 use Rattle.taking.specs.declared.Step.TheVariants.{Take}
-use Rattle.taking.specs.Taking.{isData, dataSize, burstEnd, step_of, noWrite, uncovered}
-use Rattle.arrival.specs.Arrival.{badSize, badSource, knownPair, badSequence, unknownForm, spared, unprovenLogin}
+use Rattle.taking.specs.Taking.{is_data, data_size, burst_end, step_of, no_write, uncovered}
+use Rattle.arrival.specs.Arrival.{bad_size, bad_source, known_pair, bad_sequence, unknown_form, spared, unproven_login}
 use Rattle.drive.specs.declared.Drive.{Drive}
-use Rattle.drive.specs.Entry.{dataStep}
+use Rattle.drive.specs.Entry.{data_step}
 use Rattle.drive.proofs.Ways.{PassesIn}
-use Rattle.demands.specs.Reading.{payloadIn, framed}
-use Rattle.demands.proofs.Judges.{small-address}
-use Rattle.demands.proofs.Storing.{step-take, Stores, stores-taken}
+use Rattle.demands.specs.Reading.{payload_in, framed}
+use Rattle.demands.proofs.Judges.{small_address}
+use Rattle.demands.proofs.Storing.{step_take, Stores, stores_taken}
 
 -- lists of bytes
 all_none : AllBytes []
@@ -54,13 +54,13 @@ all_append : (s t : List ℕ) → AllBytes s → AllBytes t → AllBytes (s ++ t
 all_append [] t h k = k
 all_append (n ∷ s) t h k = all_cons n (s ++ t) (h 0) (all_append s t (λ j. h (suc j)) k)
 
-all-zeros : (n : ℕ) → AllBytes (replicate n 0)
-all-zeros zero = all_none
-all-zeros (suc n) = all_cons 0 (replicate n 0) (omega arith) (all-zeros n)
+all_zeros : (n : ℕ) → AllBytes (replicate n 0)
+all_zeros zero = all_none
+all_zeros (suc n) = all_cons 0 (replicate n 0) (omega arith) (all_zeros n)
 
-all-bytes : (k n : ℕ) → AllBytes (bytes k n)
-all-bytes zero n = all_none
-all-bytes (suc k) n = all_append (bytes k (n / 256)) (n % 256 ∷ []) (all-bytes k (n / 256)) (all_cons (n % 256) [] (omega arith) all_none)
+all_bytes : (k n : ℕ) → AllBytes (bytes k n)
+all_bytes zero n = all_none
+all_bytes (suc k) n = all_append (bytes k (n / 256)) (n % 256 ∷ []) (all_bytes k (n / 256)) (all_cons (n % 256) [] (omega arith) all_none)
 
 pub all_take : (m : ℕ) (s : List ℕ) → AllBytes s → AllBytes (take m s)
 all_take zero s h = all_none
@@ -73,8 +73,8 @@ all_drop (suc m) [] h = all_none
 all_drop (suc m) (n ∷ s) h = all_drop m s (λ j. h (suc j))
 
 -- "FCP_DATA frames" of the host: 01 08, to us, of this OX_ID and OFFSET, the fill count in the low two bits of F_CTL
-abbrev pub hostHeader : (own a x at fill : ℕ) → Header
-hostHeader own a x at fill =
+abbrev pub host_header : (own a x at fill : ℕ) → Header
+host_header own a x at fill =
     record {
       r_ctl = 0x01;
       d_id = own;
@@ -91,93 +91,93 @@ hostHeader own a x at fill =
     }
 
 module _ (own a x at : ℕ) (P : List ℕ) where
-  pub hostFrame : List ℕ
-  hostFrame = framed (hostHeader own a x at) P
+  pub host_frame : List ℕ
+  host_frame = framed (host_header own a x at) P
 
   abbrev fill : ℕ
-  fill = fillCount (length P)
+  fill = fill_count (length P)
 
   abbrev filling : List ℕ
   filling = P ++ replicate fill 0
 
-  few-fill : fill < 4
-  few-fill = omega arith
+  few_fill : fill < 4
+  few_fill = omega arith
 
-  filled-long : length filling ≡ length P + fill
-  filled-long = let l = length-append P (replicate fill 0) in let z = length-replicate {A = ℕ} fill 0 in omega arith
+  filled_long : length filling ≡ length P + fill
+  filled_long = let l = length-append P (replicate fill 0) in let z = length-replicate {A = ℕ} fill 0 in omega arith
 
-  pub host-long : length hostFrame ≡ 24 + length P + fill
-  unfolding hostFrame
-  host-long = let l = length-append (headerBytes (hostHeader own a x at fill)) filling in let h = length-header (hostHeader own a x at fill) in let z = filled-long in omega arith
+  pub host_long : length host_frame ≡ 24 + length P + fill
+  unfolding host_frame
+  host_long = let l = length-append (header_bytes (host_header own a x at fill)) filling in let h = length_header (host_header own a x at fill) in let z = filled_long in omega arith
 
-  pub host-known : AllBytes P → AllBytes hostFrame
-  unfolding hostFrame headerBytes
-  host-known h =
-      let d = all_append (bytes 3 own) (0 ∷ bytes 3 a) (all-bytes 3 own) (all_cons 0 (bytes 3 a) (omega arith) (all-bytes 3 a)) in
-      let f = all_append (bytes 3 own ++ (0 ∷ bytes 3 a)) (8 ∷ bytes 3 fill) d (all_cons 8 (bytes 3 fill) (omega arith) (all-bytes 3 fill)) in
-      let n = all_append (0 ∷ 0 ∷ bytes 2 0) (bytes 2 x) (all_cons 0 (0 ∷ bytes 2 0) (omega arith) (all_cons 0 (bytes 2 0) (omega arith) (all-bytes 2 0))) (all-bytes 2 x) in
-      let r = all_append (bytes 2 0xffff) (bytes 4 at) (all-bytes 2 0xffff) (all-bytes 4 at) in
+  pub host_known : AllBytes P → AllBytes host_frame
+  unfolding host_frame header_bytes
+  host_known h =
+      let d = all_append (bytes 3 own) (0 ∷ bytes 3 a) (all_bytes 3 own) (all_cons 0 (bytes 3 a) (omega arith) (all_bytes 3 a)) in
+      let f = all_append (bytes 3 own ++ (0 ∷ bytes 3 a)) (8 ∷ bytes 3 fill) d (all_cons 8 (bytes 3 fill) (omega arith) (all_bytes 3 fill)) in
+      let n = all_append (0 ∷ 0 ∷ bytes 2 0) (bytes 2 x) (all_cons 0 (0 ∷ bytes 2 0) (omega arith) (all_cons 0 (bytes 2 0) (omega arith) (all_bytes 2 0))) (all_bytes 2 x) in
+      let r = all_append (bytes 2 0xffff) (bytes 4 at) (all_bytes 2 0xffff) (all_bytes 4 at) in
       let front = bytes 3 own ++ (0 ∷ bytes 3 a) ++ (8 ∷ bytes 3 fill) in
       let back = (0 ∷ 0 ∷ bytes 2 0) ++ bytes 2 x ++ (bytes 2 0xffff ++ bytes 4 at) in
       let all = all_append front back f (all_append ((0 ∷ 0 ∷ bytes 2 0) ++ bytes 2 x) (bytes 2 0xffff ++ bytes 4 at) n r) in
-      all_append (headerBytes (hostHeader own a x at fill)) filling (all_cons 1 (front ++ back) (omega arith) all) (all_append P (replicate fill 0) h (all-zeros fill))
+      all_append (header_bytes (host_header own a x at fill)) filling (all_cons 1 (front ++ back) (omega arith) all) (all_append P (replicate fill 0) h (all_zeros fill))
 
-  module _ (own-small : own < 256) (sender-small : a < 256) (id-small : x < 65536) (at_small : at < 4294967296) where
-    pub host-header : headerOf hostFrame ≡ hostHeader own a x at fill
-    unfolding hostFrame
-    host-header = let f = few-fill in read-write (hostHeader own a x at fill) filling record { d = omega arith; s = omega arith; f = omega arith; n = omega arith; o = omega arith; r = omega arith; p = omega arith }
+  module _ (own_small : own < 256) (sender_small : a < 256) (id_small : x < 65536) (at_small : at < 4294967296) where
+    pub host_header_lem : header_of host_frame ≡ host_header own a x at fill
+    unfolding host_frame
+    host_header_lem = let f = few_fill in read_write (host_header own a x at fill) filling record { d = omega arith; s = omega arith; f = omega arith; n = omega arith; o = omega arith; r = omega arith; p = omega arith }
 
-    pub host-size : dataSize (headerOf hostFrame) (length hostFrame) ≡ length P
-    host-size = let l = host-long in let f = few-fill in ap (λ (h : Header). dataSize h (length hostFrame)) host-header ∙ (omega arith)
+    pub host_size : data_size (header_of host_frame) (length host_frame) ≡ length P
+    host_size = let l = host_long in let f = few_fill in ap (λ (h : Header). data_size h (length host_frame)) host_header_lem ∙ (omega arith)
 
-    pub host-payload : payloadIn hostFrame ≡ P
-    unfolding hostFrame
-    host-payload =
-        ap (λ (n : ℕ). take n (drop 24 hostFrame)) host-size ∙ ap (take (length P)) (drop_at (headerBytes (hostHeader own a x at fill)) filling 24 (length-header (hostHeader own a x at fill)))
+    pub host_payload : payload_in host_frame ≡ P
+    unfolding host_frame
+    host_payload =
+        ap (λ (n : ℕ). take n (drop 24 host_frame)) host_size ∙ ap (take (length P)) (drop_at (header_bytes (host_header own a x at fill)) filling 24 (length_header (host_header own a x at fill)))
         ∙ take-append_seam P (replicate fill 0)
 
 -- what a well-formed port tells of the addresses of an open exchange: ours and the login's
-module _ (u : Unit) (p : Port) (a x i j : ℕ) (w : wellFormed u p ≡ true) (o : lookupOf p a x ≡ Open i j) where
-  own-valid : validAddress p.address ≡ true
-  unfolding setupRules setupOf own_of
-  own-valid =
+module _ (u : Unit) (p : Port) (a x i j : ℕ) (w : well_formed u p ≡ true) (o : lookup_of p a x ≡ Open i j) where
+  own_valid : valid_address p.address ≡ true
+  unfolding setup_rules setup_of own_of
+  own_valid =
       let c = leb 1 u.capacity in
       let d = leb u.capacity 4294967295 in
-      let v = validAddress p.address in
-      let s = setupPasses (params_of p.accept 0) in
-      and_right (c && d) v (and_left (c && d && v) s (and_left (c && d && v && s) (leb u.writable 1) (formed-parts w).setup))
+      let v = valid_address p.address in
+      let s = setup_passes (params_of p.accept 0) in
+      and_right (c && d) v (and_left (c && d && v) s (and_left (c && d && v && s) (leb u.writable 1) (formed_parts w).setup))
 
-  login-fine : addressFine p.address (loginAt p i) ≡ true
-  unfolding loginAt
-  login-fine = (fine-used (open-used p a x i j o) (all-at (loginFine u p.address) emptyLogin p.logins i (login-inside p a x i j o) (formed-parts w).logins)).address
+  login_fine_lem : address_fine p.address (login_at p i) ≡ true
+  unfolding login_at
+  login_fine_lem = (fine_used (open_used p a x i j o) (all_at (login_fine u p.address) empty_login p.logins i (login_inside p a x i j o) (formed_parts w).logins)).address
 
-  login-address : (loginAt p i).address ≡ a
-  unfolding hasAddress
-  login-address = eqb-true (loginAt p i).address a (and_right (isUsed (loginAt p i)) (eqb (loginAt p i).address a) (found-has p a i (open-place p a x i j o)))
+  login_address : (login_at p i).address ≡ a
+  unfolding has_address
+  login_address = eqb-true (login_at p i).address a (and_right (is_used (login_at p i)) (eqb (login_at p i).address a) (found_has p a i (open_place p a x i j o)))
 
-  sender-valid : validAddress a ≡ true
-  unfolding addressFine
-  sender-valid = let l = loginAt p i in ap validAddress (sym login-address) ∙ and_left (validAddress l.address) (not (eqb l.address p.address)) login-fine
+  sender_valid : valid_address a ≡ true
+  unfolding address_fine
+  sender_valid = let l = login_at p i in ap valid_address (sym login_address) ∙ and_left (valid_address l.address) (not (eqb l.address p.address)) login_fine_lem
 
-  sender-other : eqb a p.address ≡ false
-  unfolding addressFine
-  sender-other = let l = loginAt p i in ap (λ (n : ℕ). eqb n p.address) (sym login-address) ∙ not-true (eqb l.address p.address) (and_right (validAddress l.address) (not (eqb l.address p.address)) login-fine)
+  sender_other : eqb a p.address ≡ false
+  unfolding address_fine
+  sender_other = let l = login_at p i in ap (λ (n : ℕ). eqb n p.address) (sym login_address) ∙ not-true (eqb l.address p.address) (and_right (valid_address l.address) (not (eqb l.address p.address)) login_fine_lem)
 
-  sender-fine : badSource p.address a ≡ false
-  unfolding badSource
-  sender-fine = rw (sender-valid, sender-other)
+  sender_fine : bad_source p.address a ≡ false
+  unfolding bad_source
+  sender_fine = rw (sender_valid, sender_other)
 
 -- bytes P of the WRITE that stands open at places i and j, which may be sent at once: at a proven login, no more than a frame holds, and within the burst
 pub record Sendable (d : Drive) (unit : List ℕ) (a x i j : ℕ) (P : List ℕ) : Type 0 where
-  pub formed : wellFormed d.unit d.port ≡ true
-  pub stands : lookupOf d.port a x ≡ Open i j
-  pub proven : (loginAt d.port i).proven ≡ 1
-  pub write : isWrite (exchangeOf d.port i j) ≡ true
-  pub id-small : x < 65536
+  pub formed : well_formed d.unit d.port ≡ true
+  pub stands : lookup_of d.port a x ≡ Open i j
+  pub proven : (login_at d.port i).proven ≡ 1
+  pub write : is_write (exchange_of d.port i j) ≡ true
+  pub id_small : x < 65536
   pub few : length P ≤ 2048
-  pub within : (exchangeOf d.port i j).sent + length P ≤ burstEnd (exchangeOf d.port i j)
-  pub at_small : (exchangeOf d.port i j).sent < 4294967296
-  pub inside : position_of (exchangeOf d.port i j).start (exchangeOf d.port i j).sent + length P ≤ length unit
+  pub within : (exchange_of d.port i j).sent + length P ≤ burst_end (exchange_of d.port i j)
+  pub at_small : (exchange_of d.port i j).sent < 4294967296
+  pub inside : position_of (exchange_of d.port i j).start (exchange_of d.port i j).sent + length P ≤ length unit
 
 -- they are sent in one frame, with a window of the blocks that they are in
 module _ {d : Drive} {unit : List ℕ} {a x i j : ℕ} {P : List ℕ} (may : Sendable d unit a x i j P) where
@@ -185,110 +185,110 @@ module _ {d : Drive} {unit : List ℕ} {a x i j : ℕ} {P : List ℕ} (may : Sen
   p = d.port
 
   abbrev e : Exchange
-  e = exchangeOf p i j
+  e = exchange_of p i j
 
-  pub sentFrame : List ℕ
-  sentFrame = hostFrame p.address a x e.sent P
+  pub sent_frame : List ℕ
+  sent_frame = host_frame p.address a x e.sent P
 
-  pub sentStart : ℕ
-  sentStart = e.start + e.sent / 512
+  pub sent_start : ℕ
+  sent_start = e.start + e.sent / 512
 
-  pub sentLen : ℕ
-  sentLen = length P + 512
+  pub sent_len : ℕ
+  sent_len = length P + 512
 
   abbrev W : List ℕ
-  W = cut unit sentStart sentLen
+  W = cut unit sent_start sent_len
 
   abbrev head : Header
-  head = hostHeader p.address a x e.sent (fillCount (length P))
+  head = host_header p.address a x e.sent (fill_count (length P))
 
-  own-small : p.address < 256
-  own-small = small-address p.address (own-valid d.unit p a x i j may.formed may.stands)
+  own_small : p.address < 256
+  own_small = small_address p.address (own_valid d.unit p a x i j may.formed may.stands)
 
-  sender-small : a < 256
-  sender-small = small-address a (sender-valid d.unit p a x i j may.formed may.stands)
+  sender_small : a < 256
+  sender_small = small_address a (sender_valid d.unit p a x i j may.formed may.stands)
 
-  header_is : headerOf sentFrame ≡ head
-  unfolding sentFrame
-  header_is = host-header p.address a x e.sent P own-small sender-small may.id-small may.at_small
+  header_is : header_of sent_frame ≡ head
+  unfolding sent_frame
+  header_is = host_header_lem p.address a x e.sent P own_small sender_small may.id_small may.at_small
 
-  size_is : dataSize (headerOf sentFrame) (length sentFrame) ≡ length P
-  unfolding sentFrame
-  size_is = host-size p.address a x e.sent P own-small sender-small may.id-small may.at_small
+  size_is : data_size (header_of sent_frame) (length sent_frame) ≡ length P
+  unfolding sent_frame
+  size_is = host_size p.address a x e.sent P own_small sender_small may.id_small may.at_small
 
-  pub payload-is : payloadIn sentFrame ≡ P
-  unfolding sentFrame
-  payload-is = host-payload p.address a x e.sent P own-small sender-small may.id-small may.at_small
+  pub payload_is : payload_in sent_frame ≡ P
+  unfolding sent_frame
+  payload_is = host_payload p.address a x e.sent P own_small sender_small may.id_small may.at_small
 
-  pub sent-known : AllBytes P → AllBytes sentFrame
-  unfolding sentFrame
-  sent-known h = host-known p.address a x e.sent P h
+  pub sent_known : AllBytes P → AllBytes sent_frame
+  unfolding sent_frame
+  sent_known h = host_known p.address a x e.sent P h
 
-  pub sent-from : (headerOf sentFrame).s_id ≡ a
-  sent-from = ap (λ (h : Header). h.s_id) header_is
+  pub sent_from : (header_of sent_frame).s_id ≡ a
+  sent_from = ap (λ (h : Header). h.s_id) header_is
 
-  pub sent-form : (headerOf sentFrame).r_ctl ≡ 0x01
-  sent-form = ap (λ (h : Header). h.r_ctl) header_is
+  pub sent_form : (header_of sent_frame).r_ctl ≡ 0x01
+  sent_form = ap (λ (h : Header). h.r_ctl) header_is
 
-  pub sent-id : (headerOf sentFrame).ox_id ≡ x
-  sent-id = ap (λ (h : Header). h.ox_id) header_is
+  pub sent_id : (header_of sent_frame).ox_id ≡ x
+  sent_id = ap (λ (h : Header). h.ox_id) header_is
 
-  pub sent-stands : lookupOf p (headerOf sentFrame).s_id (headerOf sentFrame).ox_id ≡ Open i j
-  sent-stands = (λ n. lookupOf p (sent-from n) (sent-id n)) ∙ may.stands
+  pub sent_stands : lookup_of p (header_of sent_frame).s_id (header_of sent_frame).ox_id ≡ Open i j
+  sent_stands = (λ n. lookup_of p (sent_from n) (sent_id n)) ∙ may.stands
 
-  lent-short : length W ≤ 65536
-  unfolding sentLen
-  lent-short = let l = length-take sentLen (drop (512 * sentStart) unit) in let few = may.few in omega arith
+  lent_short : length W ≤ 65536
+  unfolding sent_len
+  lent_short = let l = length-take sent_len (drop (512 * sent_start) unit) in let few = may.few in omega arith
 
-  place_is : lentPlace (position_of e.start e.sent) (length P) sentStart (length W) ≡ At (e.sent % 512)
-  unfolding lentPlace sentStart sentLen
-  place_is = rw (le-ltb 65536 (length W) lent-short) (cut-covers unit e.start e.sent (length P) (length P + 512) (omega arith) may.inside)
+  place_is : lent_place (position_of e.start e.sent) (length P) sent_start (length W) ≡ At (e.sent % 512)
+  unfolding lent_place sent_start sent_len
+  place_is = rw (le-ltb 65536 (length W) lent_short) (cut_covers unit e.start e.sent (length P) (length P + 512) (omega arith) may.inside)
 
-  login-is : loginOf p a ≡ loginAt p i
-  unfolding loginOf
-  login-is = rw (open-place p a x i j may.stands)
+  login_is : login_of p a ≡ login_at p i
+  unfolding login_of
+  login_is = rw (open_place p a x i j may.stands)
 
-  step_is : dataStep d sentFrame sentStart (length W) ≡ Take j (e.sent % 512)
+  step_is : data_step d sent_frame sent_start (length W) ≡ Take j (e.sent % 512)
   step_is =
-      (λ n. step_of (loginOf p (header_is n).s_id) (header_is n).ox_id (header_is n).offset (size_is n) sentStart (length W))
-      ∙ ap (λ (m : Login). step_of m x e.sent (length P) sentStart (length W)) login-is
-      ∙ step-take (loginAt p i) x e.sent (length P) sentStart (length W) j (e.sent % 512) (open-exchange p a x i j may.stands) may.write refl may.within place_is
+      (λ n. step_of (login_of p (header_is n).s_id) (header_is n).ox_id (header_is n).offset (size_is n) sent_start (length W))
+      ∙ ap (λ (m : Login). step_of m x e.sent (length P) sent_start (length W)) login_is
+      ∙ step_take (login_at p i) x e.sent (length P) sent_start (length W) j (e.sent % 512) (open_exchange p a x i j may.stands) may.write refl may.within place_is
 
-  sized : badSize (length sentFrame) ≡ false
-  unfolding badSize sentFrame
+  sized : bad_size (length sent_frame) ≡ false
+  unfolding bad_size sent_frame
   sized =
-      let n = length sentFrame in
-      let l = host-long p.address a x e.sent P in
+      let n = length sent_frame in
+      let l = host_long p.address a x e.sent P in
       let few = may.few in
       rw (le-ltb n 24 (omega arith), le-ltb 2136 n (omega arith), eq-eqb (n % 4) 0 (omega arith))
 
-  known-form : unknownForm head (length sentFrame) ≡ false
-  unfolding unknownForm knownPair badSequence sentFrame
-  known-form =
-      let n = length sentFrame in
-      let l = host-long p.address a x e.sent P in
-      rw (le-ltb (n - 24) (fillCount (length P) % 4) (omega arith))
+  known_form : unknown_form head (length sent_frame) ≡ false
+  unfolding unknown_form known_pair bad_sequence sent_frame
+  known_form =
+      let n = length sent_frame in
+      let l = host_long p.address a x e.sent P in
+      rw (le-ltb (n - 24) (fill_count (length P) % 4) (omega arith))
 
-  proven-login : unprovenLogin p a ≡ false
-  unfolding unprovenLogin
-  proven-login = rw (open-place p a x i j may.stands, may.proven)
+  proven_login : unproven_login p a ≡ false
+  unfolding unproven_login
+  proven_login = rw (open_place p a x i j may.stands, may.proven)
 
-  sent-passes : PassesIn d sentFrame sentStart (length W) 2136
+  sent_passes : PassesIn d sent_frame sent_start (length W) 2136
   unfolding spared
-  sent-passes =
+  sent_passes =
       record {
         arrived = record {
           long = refl;
           fine = may.formed;
           sized = sized;
           here = ap (λ (h : Header). eqb h.d_id p.address) header_is ∙ eq-eqb p.address p.address refl;
-          from = ap (λ (h : Header). badSource p.address h.s_id) header_is ∙ sender-fine d.unit p a x i j may.formed may.stands;
-          known = ap (λ (h : Header). unknownForm h (length sentFrame)) header_is ∙ known-form;
-          proven = ap (λ (h : Header). not (spared h.r_ctl (get_or sentFrame 24 0)) && unprovenLogin p h.s_id) header_is ∙ proven-login;
+          from = ap (λ (h : Header). bad_source p.address h.s_id) header_is ∙ sender_fine d.unit p a x i j may.formed may.stands;
+          known = ap (λ (h : Header). unknown_form h (length sent_frame)) header_is ∙ known_form;
+          proven = ap (λ (h : Header). not (spared h.r_ctl (get_or sent_frame 24 0)) && unproven_login p h.s_id) header_is ∙ proven_login;
         };
-        open-write = λ n. isData (header_is n) && noWrite (step_is n);
-        covers = λ n. isData (header_is n) && uncovered (step_is n);
+        open_write = λ n. is_data (header_is n) && no_write (step_is n);
+        covers = λ n. is_data (header_is n) && uncovered (step_is n);
       }
 
-  pub sent-stores : Stores d sentFrame sentStart W 2136 i j
-  sent-stores = stores-taken d sentFrame sentStart W 2136 sent-form sent-passes i j sent-stands j (e.sent % 512) step_is
+  pub sent_stores : Stores d sent_frame sent_start W 2136 i j
+  sent_stores = stores_taken d sent_frame sent_start W 2136 sent_form sent_passes i j sent_stands j (e.sent % 512) step_is

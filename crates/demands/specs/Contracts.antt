@@ -13,7 +13,7 @@ use Rattle.drive.specs.declared.Drive.{Drive}
 use Rattle.drive.specs.declared.Answer.{Answer}
 use Rattle.drive.specs.declared.Event.{Event}
 use Rattle.drive.specs.contracts.Drive.new as new
-use Rattle.drive.specs.contracts.Drive.frame_in as frame-in
+use Rattle.drive.specs.contracts.Drive.frame_in as frame_in_lem
 use Rattle.drive.specs.contracts.Drive.event as event
 use Rattle.window.specs.contracts.next_frame as next-frame
 use Rattle.boundary.specs.contracts.jhartupal_make as jhartupal-make
@@ -46,19 +46,19 @@ pub record OneReply {M : Type 1} {𝓤 : Ura M} (𝓛 : Logic 𝓤) (mem : Memor
   -- by value: making a drive, a frame in, a next frame out, an event
   pub making : (s : Setup) → One 𝓤 (λ (r : Answer). (new.clauses 𝓛 mem run tt (s, tt)).ensures tt r (s, tt))
   pub frame : (κs : Lfts 3) (d : Drive) (f : Bor (List ℕ)) (start : ℕ) (W l : Bor (List ℕ))
-      → One 𝓤 (λ (o : Answer × List ℕ × List ℕ). (frame-in.clauses 𝓛 mem run κs (d, (f, (start, (W, (l, tt)))))).ensures tt o.0 (d, (f, (start, (with W o.1, (with l o.2, tt))))))
+      → One 𝓤 (λ (o : Answer × List ℕ × List ℕ). (frame_in_lem.clauses 𝓛 mem run κs (d, (f, (start, (W, (l, tt)))))).ensures tt o.0 (d, (f, (start, (with W o.1, (with l o.2, tt))))))
   pub next : (κs : Lfts 2) (d : Drive) (a x start : ℕ) (W l : Bor (List ℕ))
       → One 𝓤 (λ (o : Answer × List ℕ). (next-frame.clauses 𝓛 mem run κs (d, (a, (x, (start, (W, (l, tt))))))).ensures tt o.0 (d, (a, (x, (start, (W, (with l o.1, tt)))))))
   pub happens : (d : Drive) (e : Event) → One 𝓤 (λ (r : Answer). (event.clauses 𝓛 mem run tt (d, (e, tt))).ensures tt r (d, (e, tt)))
   -- from C, in place
-  pub c-make : (κs : Lfts 2) (d : Bor Drive) (s : Bor Setup) → One 𝓤 (λ (o : ℕ × Drive). (jhartupal-make.clauses 𝓛 mem run κs (d, (s, tt))).ensures tt o.0 (with d o.1, (s, tt)))
+  pub c_make : (κs : Lfts 2) (d : Bor Drive) (s : Bor Setup) → One 𝓤 (λ (o : ℕ × Drive). (jhartupal-make.clauses 𝓛 mem run κs (d, (s, tt))).ensures tt o.0 (with d o.1, (s, tt)))
   pub c_frame : (κs : Lfts 4) (d : Bor Drive) (f : Bor (List ℕ)) (start : ℕ) (W l : Bor (List ℕ))
       → One 𝓤 (λ (o : ℕ × Drive × List ℕ × List ℕ). (jhartupal-frame.clauses 𝓛 mem run κs (d, (f, (start, (W, (l, tt)))))).ensures tt o.0 (with d o.1, (f, (start, (with W o.2, (with l o.3, tt))))))
-  pub c-next : (κs : Lfts 3) (d : Bor Drive) (a x start : ℕ) (W l : Bor (List ℕ))
+  pub c_next : (κs : Lfts 3) (d : Bor Drive) (a x start : ℕ) (W l : Bor (List ℕ))
       → One 𝓤 (λ (o : ℕ × (Drive × List ℕ)). (jhartupal-next.clauses 𝓛 mem run κs (d, (a, (x, (start, (W, (l, tt))))))).ensures tt o.0 (with d o.1.0, (a, (x, (start, (W, (with l o.1.1, tt)))))))
-  pub c-loop-reset : (κs : Lfts 1) (d : Bor Drive) → One 𝓤 (λ (o : ℕ × Drive). (jhartupal-loop-reset.clauses 𝓛 mem run κs (d, tt)).ensures tt o.0 (with d o.1, tt))
-  pub c-time-over : (κs : Lfts 1) (d : Bor Drive) → One 𝓤 (λ (o : ℕ × Drive). (jhartupal-time-over.clauses 𝓛 mem run κs (d, tt)).ensures tt o.0 (with d o.1, tt))
-  pub c-power-on : (κs : Lfts 1) (d : Bor Drive) → One 𝓤 (λ (o : ℕ × Drive). (jhartupal-power-on.clauses 𝓛 mem run κs (d, tt)).ensures tt o.0 (with d o.1, tt))
+  pub c_loop_reset : (κs : Lfts 1) (d : Bor Drive) → One 𝓤 (λ (o : ℕ × Drive). (jhartupal-loop-reset.clauses 𝓛 mem run κs (d, tt)).ensures tt o.0 (with d o.1, tt))
+  pub c_time_over : (κs : Lfts 1) (d : Bor Drive) → One 𝓤 (λ (o : ℕ × Drive). (jhartupal-time-over.clauses 𝓛 mem run κs (d, tt)).ensures tt o.0 (with d o.1, tt))
+  pub c_power_on : (κs : Lfts 1) (d : Bor Drive) → One 𝓤 (λ (o : ℕ × Drive). (jhartupal-power-on.clauses 𝓛 mem run κs (d, tt)).ensures tt o.0 (with d o.1, tt))
   -- the programs: a judgement and its line, the answer to a record, and what is said at the end
   pub judges : (κs : Lfts 1) (login : Bor (List ℕ)) → One 𝓤 (λ (r : Judgement). (judge.clauses 𝓛 mem run κs (login, tt)).ensures tt r (login, tt))
   pub lines : (number : ℕ) (j : Judgement) → One 𝓤 (λ (r : Line). (line-for.clauses 𝓛 mem run tt (number, (j, tt))).ensures tt r (number, (j, tt)))

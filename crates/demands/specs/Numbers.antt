@@ -1,13 +1,13 @@
 -- Document 01's known numbers that are marked P, at the entries, as one table; and the frames and drives that it takes (document 01, "Known numbers and slips").
 use Rattle.std.specs.Prelude.{ℕ, ◌*◌, ◌≡◌, List, [], ◌∷◌, ◌++◌, length, take, drop, get_or, replicate}
 use Rattle.wire.specs.Bytes.{bytes}
-use Rattle.frame.specs.Head.{headerBytes}
+use Rattle.frame.specs.Head.{header_bytes}
 use Rattle.refusal.specs.declared.Refusal.TheVariants.{BadSize, BadWindow}
 use Rattle.drive.specs.declared.Drive.{Drive}
 use Rattle.refusal.specs.declared.Said.{Said}
 use Rattle.refusal.specs.declared.Said.TheVariants.{Sent, Refused}
-use Rattle.drive.specs.Drive.{madeFrom}
-use Rattle.drive.specs.Entry.{frameIn, frameInBuffer, nextFrame, nextFrameBuffer}
+use Rattle.drive.specs.Drive.{made_from}
+use Rattle.drive.specs.Entry.{frame_in, frame_in_buffer, next_frame, next_frame_buffer}
 use Rattle.demands.specs.Reading.{Reads, Comes}
 
 -- words 1 to 28 of the port of this address with this W18 size; its port name ends with the address, so that it is its own
@@ -17,12 +17,12 @@ words from size =
 
 -- a read-only drive of address EFh and this capacity, as it is made
 abbrev pub made : ℕ → Drive
-made capacity = madeFrom record { capacity = capacity; address = 0xef; identity = replicate 28 0x20; accept = words 0xef 2048; writable = 0 }
+made capacity = made_from record { capacity = capacity; address = 0xef; identity = replicate 28 0x20; accept = words 0xef 2048; writable = 0 }
 
 -- a frame to it
 abbrev pub frame : ℕ → ℕ → ℕ → ℕ → List ℕ → List ℕ
 frame rctl protocol from ox payload =
-    headerBytes record {
+    header_bytes record {
       r_ctl = rctl;
       d_id = 0xef;
       reserved = 0;
@@ -60,15 +60,15 @@ read from ox address count expected = command from ox ((0x28 ∷ 0x00 ∷ bytes 
 -- the drive after these frames, each with a buffer of 2,136 bytes and no window
 abbrev pub after : Drive → List (List ℕ) → Drive
 after d [] = d
-after d (f ∷ fs) = after (frameIn d f 0 [] 2136).drive fs
+after d (f ∷ fs) = after (frame_in d f 0 [] 2136).drive fs
 
 -- what is said of a frame
 abbrev pub said : Drive → List ℕ → Said
-said d f = (frameIn d f 0 [] 2136).said
+said d f = (frame_in d f 0 [] 2136).said
 
 -- so many of the buffer's bytes from a place on, after a frame; before it each is 5Ah
 abbrev pub sent : Drive → List ℕ → ℕ → ℕ → List ℕ
-sent d f from count = take count (drop from (frameInBuffer d f 0 [] (replicate 2136 0x5a)))
+sent d f from count = take count (drop from (frame_in_buffer d f 0 [] (replicate 2136 0x5a)))
 
 -- the drive after a login with this size, a pairing, and a command that takes the attention
 abbrev pub paired : ℕ → ℕ → Drive
@@ -79,16 +79,16 @@ abbrev pub lent : ℕ → List ℕ
 lent len = replicate len 0xa5
 
 -- what is said of the next frame out of exchange 0004h to address 01h, with these bytes lent from a block on
-abbrev pub nextSaid : Drive → ℕ → List ℕ → Said
-nextSaid d start window = (nextFrame d 0x01 0x0004 start window 2136).said
+abbrev pub next_said : Drive → ℕ → List ℕ → Said
+next_said d start window = (next_frame d 0x01 0x0004 start window 2136).said
 
 -- so many of the buffer's bytes from a place on, after that call
-abbrev pub nextSent : Drive → ℕ → List ℕ → ℕ → ℕ → List ℕ
-nextSent d start window from count = take count (drop from (nextFrameBuffer d 0x01 0x0004 start window (replicate 2136 0x5a)))
+abbrev pub next_sent : Drive → ℕ → List ℕ → ℕ → ℕ → List ℕ
+next_sent d start window from count = take count (drop from (next_frame_buffer d 0x01 0x0004 start window (replicate 2136 0x5a)))
 
 -- the drive after that call
-abbrev pub nextAfter : Drive → ℕ → List ℕ → Drive
-nextAfter d start window = (nextFrame d 0x01 0x0004 start window 2136).drive
+abbrev pub next_after : Drive → ℕ → List ℕ → Drive
+next_after d start window = (next_frame d 0x01 0x0004 start window 2136).drive
 
 -- eight logins, at the first eight addresses
 abbrev pub eight : Drive
@@ -109,37 +109,37 @@ far address = after (paired 8388609 2048) (read 0x01 0x0004 address 1 512 ∷ []
 -- "the cases marked P together, as a table"
 pub record KnownNumbers : Type 0 where
   -- "frame 20, 24, 2,136, 2,140 bytes: 3, read, read, 3"
-  pub frame-20 : said (made 100) (take 20 (frame 0x23 0x01 0x01 1 [])) ≡ Refused BadSize
-  pub frame-24 : said (made 100) (frame 0x23 0x01 0x01 1 []) ≡ Sent 0
-  pub frame-2136 : said (made 100) (frame 0x23 0x01 0x01 1 (replicate 2112 0)) ≡ Sent 0
-  pub frame-2140 : said (made 100) (frame 0x23 0x01 0x01 1 (replicate 2116 0)) ≡ Refused BadSize
+  pub frame_20 : said (made 100) (take 20 (frame 0x23 0x01 0x01 1 [])) ≡ Refused BadSize
+  pub frame_24 : said (made 100) (frame 0x23 0x01 0x01 1 []) ≡ Sent 0
+  pub frame_2136 : said (made 100) (frame 0x23 0x01 0x01 1 (replicate 2112 0)) ≡ Sent 0
+  pub frame_2140 : said (made 100) (frame 0x23 0x01 0x01 1 (replicate 2116 0)) ≡ Refused BadSize
   -- "W18 size 252, 256, 258, 2,112, 2,116: reject, accept, reject, accept, reject"
-  pub size-252 : sent (made 100) (plogi 0x01 252) 24 8 ≡ 0x01 ∷ 0x00 ∷ 0x00 ∷ 0x00 ∷ 0x00 ∷ 0x03 ∷ 0x07 ∷ 0x00 ∷ []
-  pub size-256 : sent (made 100) (plogi 0x01 256) 24 4 ≡ 0x02 ∷ 0x00 ∷ 0x00 ∷ 0x00 ∷ []
-  pub size-258 : sent (made 100) (plogi 0x01 258) 24 8 ≡ 0x01 ∷ 0x00 ∷ 0x00 ∷ 0x00 ∷ 0x00 ∷ 0x03 ∷ 0x07 ∷ 0x00 ∷ []
-  pub size-2112 : sent (made 100) (plogi 0x01 2112) 24 4 ≡ 0x02 ∷ 0x00 ∷ 0x00 ∷ 0x00 ∷ []
-  pub size-2116 : sent (made 100) (plogi 0x01 2116) 24 8 ≡ 0x01 ∷ 0x00 ∷ 0x00 ∷ 0x00 ∷ 0x00 ∷ 0x03 ∷ 0x07 ∷ 0x00 ∷ []
+  pub size_252 : sent (made 100) (plogi 0x01 252) 24 8 ≡ 0x01 ∷ 0x00 ∷ 0x00 ∷ 0x00 ∷ 0x00 ∷ 0x03 ∷ 0x07 ∷ 0x00 ∷ []
+  pub size_256 : sent (made 100) (plogi 0x01 256) 24 4 ≡ 0x02 ∷ 0x00 ∷ 0x00 ∷ 0x00 ∷ []
+  pub size_258 : sent (made 100) (plogi 0x01 258) 24 8 ≡ 0x01 ∷ 0x00 ∷ 0x00 ∷ 0x00 ∷ 0x00 ∷ 0x03 ∷ 0x07 ∷ 0x00 ∷ []
+  pub size_2112 : sent (made 100) (plogi 0x01 2112) 24 4 ≡ 0x02 ∷ 0x00 ∷ 0x00 ∷ 0x00 ∷ []
+  pub size_2116 : sent (made 100) (plogi 0x01 2116) 24 8 ≡ 0x01 ∷ 0x00 ∷ 0x00 ∷ 0x00 ∷ 0x00 ∷ 0x03 ∷ 0x07 ∷ 0x00 ∷ []
   -- "ninth login 09,29"
   pub ninth : sent eight (plogi 0x1b 256) 24 8 ≡ 0x01 ∷ 0x00 ∷ 0x00 ∷ 0x00 ∷ 0x00 ∷ 0x09 ∷ 0x29 ∷ 0x00 ∷ []
   -- "capacity 100, address 99 count 1 read; 99 count 2, 100 count 0 refused": the one opens silently and is served, the others get 05/21/00
-  pub read-99-1 : said (paired 100 2048) (read 0x01 0x0004 99 1 512) ≡ Sent 0
-  pub served-99-1 : nextSaid (after (paired 100 2048) (read 0x01 0x0004 99 1 512 ∷ [])) 99 (lent 512) ≡ Sent 536
-  pub read-99-2 : sent (paired 100 2048) (read 0x01 0x0004 99 2 1024) 48 14 ≡ 0x70 ∷ 0x00 ∷ 0x05 ∷ 0x00 ∷ 0x00 ∷ 0x00 ∷ 0x00 ∷ 0x0a ∷ 0x00 ∷ 0x00 ∷ 0x00 ∷ 0x00 ∷ 0x21 ∷ 0x00 ∷ []
-  pub read-100-0 : sent (paired 100 2048) (read 0x01 0x0004 100 0 0) 48 14 ≡ 0x70 ∷ 0x00 ∷ 0x05 ∷ 0x00 ∷ 0x00 ∷ 0x00 ∷ 0x00 ∷ 0x0a ∷ 0x00 ∷ 0x00 ∷ 0x00 ∷ 0x00 ∷ 0x21 ∷ 0x00 ∷ []
+  pub read_99_1 : said (paired 100 2048) (read 0x01 0x0004 99 1 512) ≡ Sent 0
+  pub served_99_1 : next_said (after (paired 100 2048) (read 0x01 0x0004 99 1 512 ∷ [])) 99 (lent 512) ≡ Sent 536
+  pub read_99_2 : sent (paired 100 2048) (read 0x01 0x0004 99 2 1024) 48 14 ≡ 0x70 ∷ 0x00 ∷ 0x05 ∷ 0x00 ∷ 0x00 ∷ 0x00 ∷ 0x00 ∷ 0x0a ∷ 0x00 ∷ 0x00 ∷ 0x00 ∷ 0x00 ∷ 0x21 ∷ 0x00 ∷ []
+  pub read_100_0 : sent (paired 100 2048) (read 0x01 0x0004 100 0 0) 48 14 ≡ 0x70 ∷ 0x00 ∷ 0x05 ∷ 0x00 ∷ 0x00 ∷ 0x00 ∷ 0x00 ∷ 0x0a ∷ 0x00 ∷ 0x00 ∷ 0x00 ∷ 0x00 ∷ 0x21 ∷ 0x00 ∷ []
   -- "wanted 1,024 with FCP_DL 1,000, 2,048: flag 04h by 24, 08h by 1,024": flags, status and FCP_RESID of the FCP_RSP after the data
-  pub over : nextSent (nextAfter (after (paired 100 2048) (read 0x01 0x0004 0 2 1000 ∷ [])) 0 (lent 1024)) 0 [] 34 6 ≡ 0x04 ∷ 0x00 ∷ 0x00 ∷ 0x00 ∷ 0x00 ∷ 0x18 ∷ []
-  pub under : nextSent (nextAfter (after (paired 100 2048) (read 0x01 0x0004 0 2 2048 ∷ [])) 0 (lent 1024)) 0 [] 34 6 ≡ 0x08 ∷ 0x00 ∷ 0x00 ∷ 0x00 ∷ 0x04 ∷ 0x00 ∷ []
+  pub over : next_sent (next_after (after (paired 100 2048) (read 0x01 0x0004 0 2 1000 ∷ [])) 0 (lent 1024)) 0 [] 34 6 ≡ 0x04 ∷ 0x00 ∷ 0x00 ∷ 0x00 ∷ 0x00 ∷ 0x18 ∷ []
+  pub under : next_sent (next_after (after (paired 100 2048) (read 0x01 0x0004 0 2 2048 ∷ [])) 0 (lent 1024)) 0 [] 34 6 ≡ 0x08 ∷ 0x00 ∷ 0x00 ∷ 0x00 ∷ 0x04 ∷ 0x00 ∷ []
   -- "block 8,388,608 is byte 4,294,967,296": of a window of the block before it (A5h) and of itself (C3h) its own bytes are delivered, at OFFSET 0;
   -- a window of block 0 does not cover it, and a READ of block 0 is delivered the bytes of block 0
   pub byte : ◌≡◌ {A = ℕ} (512 * 8388608) 4294967296
-  pub block : nextSaid (far 8388608) 8388608 (lent 512) ≡ Sent 536
-  pub bytes-there : nextSent (far 8388608) 8388607 (lent 512 ++ replicate 512 0xc3) 20 516 ≡ bytes 4 0 ++ replicate 512 0xc3
-  pub not-zero : nextSaid (far 8388608) 0 (lent 512) ≡ Refused BadWindow
-  pub bytes-zero : nextSent (far 0) 0 (lent 512 ++ replicate 512 0xc3) 20 516 ≡ bytes 4 0 ++ replicate 512 0xa5
+  pub block : next_said (far 8388608) 8388608 (lent 512) ≡ Sent 536
+  pub bytes_there : next_sent (far 8388608) 8388607 (lent 512 ++ replicate 512 0xc3) 20 516 ≡ bytes 4 0 ++ replicate 512 0xc3
+  pub not_zero : next_said (far 8388608) 0 (lent 512) ≡ Refused BadWindow
+  pub bytes_zero : next_sent (far 0) 0 (lent 512 ++ replicate 512 0xc3) 20 516 ≡ bytes 4 0 ++ replicate 512 0xa5
   -- "size 256, frame 65,537 has SEQ_CNT 0": over all next frames of a READ, from its FCP_CMND on, frame 65,536 has FFFFh and OFFSET 65,535 × 256, and the one after it 0 and 65,536 × 256;
   -- whatever windows are lent, and whatever comes between that leaves it open; and such frames there are
-  pub frame-65536 : (unit : List ℕ) (frames : List (List ℕ)) (last : List ℕ) (e : Drive) → length unit ≡ 512 * 65535 → Reads unit 0x01 0x0004 long frames last e
+  pub frame_65536 : (unit : List ℕ) (frames : List (List ℕ)) (last : List ℕ) (e : Drive) → length unit ≡ 512 * 65535 → Reads unit 0x01 0x0004 long frames last e
       → counted frames 65535 ≡ 0x01 ∷ 0x00 ∷ 0xff ∷ 0xff ∷ 0x00 ∷ 0x04 ∷ 0xff ∷ 0xff ∷ 0x00 ∷ 0xff ∷ 0xff ∷ 0x00 ∷ []
-  pub frame-65537 : (unit : List ℕ) (frames : List (List ℕ)) (last : List ℕ) (e : Drive) → length unit ≡ 512 * 65535 → Reads unit 0x01 0x0004 long frames last e
+  pub frame_65537 : (unit : List ℕ) (frames : List (List ℕ)) (last : List ℕ) (e : Drive) → length unit ≡ 512 * 65535 → Reads unit 0x01 0x0004 long frames last e
       → counted frames 65536 ≡ 0x01 ∷ 0x00 ∷ 0x00 ∷ 0x00 ∷ 0x00 ∷ 0x04 ∷ 0xff ∷ 0xff ∷ 0x01 ∷ 0x00 ∷ 0x00 ∷ 0x00 ∷ []
-  pub frames-come : (unit : List ℕ) → length unit ≡ 512 * 65535 → Comes unit 0x01 0x0004 long
+  pub frames_come : (unit : List ℕ) → length unit ≡ 512 * 65535 → Comes unit 0x01 0x0004 long

@@ -1,8 +1,8 @@
 // The drive: made from a setup, handed frames, asked for the next ones, told of events. Every entry answers what it said beside the drive, which a refusal leaves as it was.
 ghost use Rattle.std.specs.Prelude.{◌≡◌, length};
-ghost use Rattle.drive.specs.Drive.{refused, madeFrom, noDrive, newAnswer, changeOf, eventAnswer};
-ghost use Rattle.drive.specs.Entry.{frameIn, frameInBuffer, frameInWindow};
-ghost use Rattle.drive.specs.Turn.{unprovenAt, arrivedIn, refusalOf, decisionOf, passedTurn, passedBuffer, arrivedTurn, arrivedBuffer, arrivedWindow, nextOutTurn, nextOutBuffer, answerTo};
+ghost use Rattle.drive.specs.Drive.{refused, made_from, no_drive, new_answer, change_of, event_answer};
+ghost use Rattle.drive.specs.Entry.{frame_in, frame_in_buffer, frame_in_window};
+ghost use Rattle.drive.specs.Turn.{unproven_at, arrived_in, refusal_of, decision_of, passed_turn, passed_buffer, arrived_turn, arrived_buffer, arrived_window, next_out_turn, next_out_buffer, answer_to};
 
 use arrival::{Form, Judged, form_of, judge};
 use calls::{
@@ -43,7 +43,7 @@ pub enum Event {
 impl Drive {
     // A drive with no logins, or refusal 8 and the drive that is all zeros.
     pub fn new(setup: Setup) -> Answer
-        ensures { result ≡ newAnswer setup }
+        ensures { result ≡ new_answer setup }
     {
         if setup_rules(setup) {
             Answer {
@@ -58,9 +58,9 @@ impl Drive {
     // A frame in, with a window of the unit's bytes that starts at a block: refused by the first of 1 to 7, 11, 10 that fits it, or its reply at the front of the buffer,
     // the bytes of a data frame that is taken in the window, and the drive after it.
     pub fn frame_in(self, frame: &[u8], start: u64, window: &mut [u8], reply: &mut [u8]) -> Answer
-        ensures value { result ≡ frameIn self frame.now start window.old (length reply.old) }
-        ensures reply_after { reply.new ≡ frameInBuffer self frame.now start window.old reply.old }
-        ensures window_after { window.new ≡ frameInWindow self frame.now start window.old (length reply.old) }
+        ensures value { result ≡ frame_in self frame.now start window.old (length reply.old) }
+        ensures reply_after { reply.new ≡ frame_in_buffer self frame.now start window.old reply.old }
+        ensures window_after { window.new ≡ frame_in_window self frame.now start window.old (length reply.old) }
     {
         if reply.len() < Header::MOST_FRAME {
             return self.refuse(Refusal::ShortBuffer);
@@ -78,7 +78,7 @@ impl Drive {
 
     // The drive after an event, or refusal 2 and the drive as it was.
     pub fn event(self, e: Event) -> Answer
-        ensures { result ≡ eventAnswer self e }
+        ensures { result ≡ event_answer self e }
     {
         let u = self.unit;
         let p = self.port;
@@ -97,7 +97,7 @@ impl Drive {
 
     // The answer of a turn: what was said, and the drive with its port after it.
     pub fn after(self, t: Turn) -> Answer
-        ensures { result ≡ answerTo self t }
+        ensures { result ≡ answer_to self t }
     {
         let u = self.unit;
         let p = self.port;
@@ -123,7 +123,7 @@ impl Drive {
 // The number of the refusal, 2 to 7, of a frame in with header h to a drive of this address, or 0 where it arrived well.
 // Whether the state is well formed and whether the sender's login is unproven is the caller's to tell.
 pub fn refusal_number(fine: bool, unproven: bool, own: u32, h: Header, frame: &[u8]) -> u64
-    ensures { result ≡ refusalOf fine unproven own h frame.now }
+    ensures { result ≡ refusal_of fine unproven own h frame.now }
 {
     let j = judge(fine, unproven, own, h, frame);
     match j {
@@ -134,8 +134,8 @@ pub fn refusal_number(fine: bool, unproven: bool, own: u32, h: Header, frame: &[
 
 // What a frame in that arrived well comes to, seen by its sender, if it is no data frame. A buffer under 2,136 bytes is left alone.
 pub fn passed_turn(v: View, h: Header, frame: &[u8], reply: &mut [u8]) -> Turn
-    ensures value { result ≡ passedTurn v h frame.now (length reply.old) }
-    ensures reply_after { reply.new ≡ passedBuffer v h frame.now reply.old }
+    ensures value { result ≡ passed_turn v h frame.now (length reply.old) }
+    ensures reply_after { reply.new ≡ passed_buffer v h frame.now reply.old }
 {
     let o = v.own;
     let d = decide(v, h, frame);
@@ -147,7 +147,7 @@ pub fn passed_turn(v: View, h: Header, frame: &[u8], reply: &mut [u8]) -> Turn
 
 // Whether a login stands at a seat, and its flag says that it is unproven.
 pub fn unproven_at(seat: Found, proven: u8) -> bool
-    ensures { result ≡ unprovenAt seat proven }
+    ensures { result ≡ unproven_at seat proven }
 {
     let Found::At(_) = seat else {
         return false;
@@ -164,8 +164,8 @@ pub fn next_turn(
     window: &[u8],
     reply: &mut [u8],
 ) -> Turn
-    ensures value { result ≡ nextOutTurn v address ox_id start window.now (length reply.old) }
-    ensures reply_after { reply.new ≡ nextOutBuffer v address ox_id start window.now reply.old }
+    ensures value { result ≡ next_out_turn v address ox_id start window.now (length reply.old) }
+    ensures reply_after { reply.new ≡ next_out_buffer v address ox_id start window.now reply.old }
 {
     if v.fine {
         next(v, address, ox_id, start, window, reply)
@@ -176,7 +176,7 @@ pub fn next_turn(
 
 // The change of every login that an event is.
 pub fn change_of(e: Event) -> Change
-    ensures { result ≡ changeOf e }
+    ensures { result ≡ change_of e }
 {
     match e {
         Event::LoopReset => Change::Unprove,
@@ -187,7 +187,7 @@ pub fn change_of(e: Event) -> Change
 
 // The drive that is all zeros, which stands beside a refused setup; it is not well formed.
 pub fn no_drive() -> Drive
-    ensures { result ≡ noDrive }
+    ensures { result ≡ no_drive }
 {
     let s = Setup {
         capacity: 0,
@@ -201,7 +201,7 @@ pub fn no_drive() -> Drive
 
 // A frame in, refused by the first of 2 to 7 that fits it, or passed.
 fn arrived(v: View, h: Header, frame: &[u8]) -> Judged
-    ensures { result ≡ arrivedIn v h frame.now }
+    ensures { result ≡ arrived_in v h frame.now }
 {
     let o = v.own;
     let l = v.login;
@@ -219,9 +219,9 @@ fn arrived_turn(
     window: &mut [u8],
     reply: &mut [u8],
 ) -> Turn
-    ensures value { result ≡ arrivedTurn v h frame.now start (length window.old) (length reply.old) }
-    ensures reply_after { reply.new ≡ arrivedBuffer v h frame.now start (length window.old) reply.old }
-    ensures window_after { window.new ≡ arrivedWindow v h frame.now start window.old }
+    ensures value { result ≡ arrived_turn v h frame.now start (length window.old) (length reply.old) }
+    ensures reply_after { reply.new ≡ arrived_buffer v h frame.now start (length window.old) reply.old }
+    ensures window_after { window.new ≡ arrived_window v h frame.now start window.old }
 {
     if h.r_ctl == 0x01 {
         data_turn(v, h, frame, start, window, reply)
@@ -232,7 +232,7 @@ fn arrived_turn(
 
 // What a frame that arrived well is answered, and what changes; a data frame has a turn of its own.
 fn decide(v: View, h: Header, frame: &[u8]) -> Decision
-    ensures { result ≡ decisionOf v h frame.now }
+    ensures { result ≡ decision_of v h frame.now }
 {
     let k = form_of(h.r_ctl);
     match k {
@@ -245,7 +245,7 @@ fn decide(v: View, h: Header, frame: &[u8]) -> Decision
 }
 
 fn made_from(s: Setup) -> Drive
-    ensures { result ≡ madeFrom s }
+    ensures { result ≡ made_from s }
 {
     let identity = s.identity;
     let accept = s.accept;

@@ -12,33 +12,33 @@ use borrow.Author.Tests.{le-leb, lt-leb, leb-true, eqb-true, eq-eqb, ne_eqb}
 use Rattle.tables.proofs.Bools.{and_left, and_right, or_short}
 use Rattle.state.specs.declared.Exchange.{Exchange}
 use Rattle.state.specs.declared.Unit.{Unit}
-use Rattle.state.specs.Changes.{advanced, isClosed}
-use Rattle.state.specs.Kinds.{kindBlocks, kindInquiryOther, kindCapacity, kindSenseOther, toHost, isWrite}
-use Rattle.formed.specs.Formed.{total, nextBytes, framesOf, blocksFit, madeWants, madeFits, wantedFits, directionFits, openable, sentFits, movedFits, exchangeFine}
+use Rattle.state.specs.Changes.{advanced, is_closed}
+use Rattle.state.specs.Kinds.{kind_blocks, kind_inquiry_other, kind_capacity, kind_sense_other, to_host, is_write}
+use Rattle.formed.specs.Formed.{total, next_bytes, frames_of, blocks_fit, made_wants, made_fits, wanted_fits, direction_fits, openable, sent_fits, moved_fits, exchange_fine}
 
 -- a whole number of full frames, and then one more of n bytes
-frames-at : (q full : ℕ) → 0 < full → framesOf (q * full) full ≡ q
-frames-at q full h = digits_div q {m = full} {r = full - 1} (omega arith)
+frames_at : (q full : ℕ) → 0 < full → frames_of (q * full) full ≡ q
+frames_at q full h = digits_div q {m = full} {r = full - 1} (omega arith)
 
 -- nothing takes no frame
-pub no_frames : (full : ℕ) → 0 < full → framesOf 0 full ≡ 0
-no_frames full h = let z : 0 ≡ 0 * full = omega arith in ap (λ (s : ℕ). framesOf s full) z ∙ frames-at 0 full h
+pub no_frames : (full : ℕ) → 0 < full → frames_of 0 full ≡ 0
+no_frames full h = let z : 0 ≡ 0 * full = omega arith in ap (λ (s : ℕ). frames_of s full) z ∙ frames_at 0 full h
 
 one_more : (q full : ℕ) → (q + 1) * full ≡ q * full + full
 one_more q full = add-mul q 1 full ∙ rw one-mul
 
-frames-more : (q full n : ℕ) → 0 < n → n ≤ full → framesOf (q * full + n) full ≡ q + 1
-frames-more q full n h l =
+frames_more : (q full n : ℕ) → 0 < n → n ≤ full → frames_of (q * full + n) full ≡ q + 1
+frames_more q full n h l =
     let e : q * full + n + (full - 1) ≡ (q + 1) * full + (n - 1) = let d = one_more q full in omega arith in
     ap (λ (m : ℕ). m / full) e ∙ digits_div (q + 1) {m = full} {r = n - 1} (omega arith)
 
 -- what fits, tested with one quotient, all being the bytes to send: where full frames make up what was sent, and where bytes are left past them
 module _ (full : ℕ) (e : Exchange) {all : ℕ} (t : all ≡ total e) (pos : 0 < full) (within : e.sent ≤ all) where
-  pub sent-whole : e.sent / full * full ≡ e.sent → sentFits full e ≡ eqb e.count (e.sent / full % 65536)
-  unfolding sentFits
-  sent-whole w =
+  pub sent_whole : e.sent / full * full ≡ e.sent → sent_fits full e ≡ eqb e.count (e.sent / full % 65536)
+  unfolding sent_fits
+  sent_whole w =
       let m : e.sent % full ≡ 0 = let d = div-add-mod' e.sent full in omega arith in
-      let f : framesOf e.sent full ≡ e.sent / full = ap (λ (s : ℕ). framesOf s full) (sym w) ∙ frames-at (e.sent / full) full pos in
+      let f : frames_of e.sent full ≡ e.sent / full = ap (λ (s : ℕ). frames_of s full) (sym w) ∙ frames_at (e.sent / full) full pos in
       rw (sym t, le-leb e.sent all within, eq-eqb (e.sent % full) 0 m, or-true (leb all e.sent), f)
 
   module _ (part : e.sent / full * full ≡ e.sent → ⊥) where
@@ -49,52 +49,52 @@ module _ (full : ℕ) (e : Exchange) {all : ℕ} (t : all ≡ total e) (pos : 0 
     ]
 
     -- the frames, with the one that is not full, are no more than the bytes
-    pub frames-few : e.sent / full + 1 ≤ e.sent
-    frames-few =
+    pub frames_few : e.sent / full + 1 ≤ e.sent
+    frames_few =
         let d = div-add-mod' e.sent full in
         let q = le-mul_of_pos_right (e.sent / full) pos in
         let l = left_over in
         omega arith
 
     -- short of the total no bytes are left past full frames
-    pub sent-short : e.sent < all → sentFits full e ≡ false
-    unfolding sentFits
-    sent-short s = rw (sym t, le-leb e.sent all within, lt-leb all e.sent s, ne_eqb (e.sent % full) 0 (λ h. let l = left_over in omega arith))
+    pub sent_short : e.sent < all → sent_fits full e ≡ false
+    unfolding sent_fits
+    sent_short s = rw (sym t, le-leb e.sent all within, lt-leb all e.sent s, ne_eqb (e.sent % full) 0 (λ h. let l = left_over in omega arith))
 
     -- all was sent, in one frame more
-    pub sent-all : all ≤ e.sent → sentFits full e ≡ eqb e.count ((e.sent / full + 1) % 65536)
-    unfolding sentFits
-    sent-all s =
-        let f : framesOf e.sent full ≡ e.sent / full + 1 =
-        ap (λ (n : ℕ). framesOf n full) (sym (div-add-mod' e.sent full))
-        ∙ frames-more (e.sent / full) full (e.sent % full) left_over (let l = mod-lt e.sent pos in omega arith) in
+    pub sent_all : all ≤ e.sent → sent_fits full e ≡ eqb e.count ((e.sent / full + 1) % 65536)
+    unfolding sent_fits
+    sent_all s =
+        let f : frames_of e.sent full ≡ e.sent / full + 1 =
+        ap (λ (n : ℕ). frames_of n full) (sym (div-add-mod' e.sent full))
+        ∙ frames_more (e.sent / full) full (e.sent % full) left_over (let l = mod-lt e.sent pos in omega arith) in
         rw (sym t, le-leb e.sent all within, le-leb all e.sent s, f)
 
-module _ (full : ℕ) (e : Exchange) (fits : sentFits full e ≡ true) where
+module _ (full : ℕ) (e : Exchange) (fits : sent_fits full e ≡ true) where
   -- the count is the number of the data frames sent, modulo 65,536
-  pub sent-counted : e.count ≡ framesOf e.sent full % 65536
-  unfolding sentFits
-  sent-counted =
-      eqb-true e.count (framesOf e.sent full % 65536)
-      (and_right (leb e.sent (total e) && (leb (total e) e.sent || eqb (e.sent % full) 0)) (eqb e.count (framesOf e.sent full % 65536)) fits)
+  pub sent_counted : e.count ≡ frames_of e.sent full % 65536
+  unfolding sent_fits
+  sent_counted =
+      eqb-true e.count (frames_of e.sent full % 65536)
+      (and_right (leb e.sent (total e) && (leb (total e) e.sent || eqb (e.sent % full) 0)) (eqb e.count (frames_of e.sent full % 65536)) fits)
 
   -- no more was sent than there is to send
-  pub sent-within : e.sent ≤ total e
-  unfolding sentFits
-  sent-within =
+  pub sent_within : e.sent ≤ total e
+  unfolding sent_fits
+  sent_within =
       leb-true e.sent (total e)
       (and_left (leb e.sent (total e)) (leb (total e) e.sent || eqb (e.sent % full) 0)
-      (and_left (leb e.sent (total e) && (leb (total e) e.sent || eqb (e.sent % full) 0)) (eqb e.count (framesOf e.sent full % 65536)) fits))
+      (and_left (leb e.sent (total e) && (leb (total e) e.sent || eqb (e.sent % full) 0)) (eqb e.count (frames_of e.sent full % 65536)) fits))
 
-module _ (full : ℕ) (e : Exchange) (pos : 0 < full) (fits : sentFits full e ≡ true) (short : e.sent < total e) (small : total e < 4294967296) where
+module _ (full : ℕ) (e : Exchange) (pos : 0 < full) (fits : sent_fits full e ≡ true) (short : e.sent < total e) (small : total e < 4294967296) where
   -- what was sent is a whole number of full frames
   whole : e.sent % full ≡ 0
-  unfolding sentFits
+  unfolding sent_fits
   whole =
       eqb-true (e.sent % full) 0
       (or_short (leb (total e) e.sent) (eqb (e.sent % full) 0)
       (and_right (leb e.sent (total e)) (leb (total e) e.sent || eqb (e.sent % full) 0)
-      (and_left (leb e.sent (total e) && (leb (total e) e.sent || eqb (e.sent % full) 0)) (eqb e.count (framesOf e.sent full % 65536)) fits))
+      (and_left (leb e.sent (total e) && (leb (total e) e.sent || eqb (e.sent % full) 0)) (eqb e.count (frames_of e.sent full % 65536)) fits))
       (lt-leb (total e) e.sent short))
 
   -- the number of frames sent so far
@@ -106,17 +106,17 @@ module _ (full : ℕ) (e : Exchange) (pos : 0 < full) (fits : sentFits full e �
   sent_is = let d = div-add-mod' e.sent full in let w = whole in omega arith
 
   abbrev next : ℕ
-  next = nextBytes full e
+  next = next_bytes full e
 
   -- what is sent then, which does not wrap
-  pub then-sent : (e.sent + nextBytes full e) % 4294967296 ≡ e.sent + nextBytes full e
-  then-sent = mod-eq_of_lt (omega arith)
+  pub then_sent : (e.sent + next_bytes full e) % 4294967296 ≡ e.sent + next_bytes full e
+  then_sent = mod-eq_of_lt (omega arith)
 
-  then-within : leb (e.sent + next) (total e) ≡ true
-  then-within = le-leb (e.sent + next) (total e) (omega arith)
+  then_within : leb (e.sent + next) (total e) ≡ true
+  then_within = le-leb (e.sent + next) (total e) (omega arith)
 
-  then-whole : (leb (total e) (e.sent + next) || eqb ((e.sent + next) % full) 0) ≡ true
-  then-whole =
+  then_whole : (leb (total e) (e.sent + next) || eqb ((e.sent + next) % full) 0) ≡ true
+  then_whole =
       elim (dec_le (total e) (e.sent + next)) [
         | yes l ↦ rw (le-leb (total e) (e.sent + next) l)
         | no l ↦ (let f : next ≡ full = omega arith in
@@ -124,25 +124,25 @@ module _ (full : ℕ) (e : Exchange) (pos : 0 < full) (fits : sentFits full e �
             rw (lt-leb (total e) (e.sent + next) (omega arith), s, digits_mod (number + 1) {m = full} {r = 0} pos))
       ]
 
-  frames-sent : framesOf e.sent full ≡ number
-  frames-sent = ap (λ (s : ℕ). framesOf s full) sent_is ∙ frames-at number full pos
+  frames_sent : frames_of e.sent full ≡ number
+  frames_sent = ap (λ (s : ℕ). frames_of s full) sent_is ∙ frames_at number full pos
 
   -- the next data frame is one frame more
-  pub frames-then : framesOf (e.sent + nextBytes full e) full ≡ framesOf e.sent full + 1
-  frames-then =
-      ap (λ (s : ℕ). framesOf (s + next) full) sent_is ∙ frames-more number full next (omega arith) (omega arith) ∙ sym (ap (λ (n : ℕ). n + 1) frames-sent)
+  pub frames_then : frames_of (e.sent + next_bytes full e) full ≡ frames_of e.sent full + 1
+  frames_then =
+      ap (λ (s : ℕ). frames_of (s + next) full) sent_is ∙ frames_more number full next (omega arith) (omega arith) ∙ sym (ap (λ (n : ℕ). n + 1) frames_sent)
 
   -- the count goes on with the frames' number
-  pub then-counted : (e.count + 1) % 65536 ≡ framesOf (e.sent + nextBytes full e) full % 65536
-  then-counted = ap (λ (n : ℕ). (n + 1) % 65536) (sent-counted full e fits) ∙ round (framesOf e.sent full) ∙ sym (ap (λ (n : ℕ). n % 65536) frames-then)
+  pub then_counted : (e.count + 1) % 65536 ≡ frames_of (e.sent + next_bytes full e) full % 65536
+  then_counted = ap (λ (n : ℕ). (n + 1) % 65536) (sent_counted full e fits) ∙ round (frames_of e.sent full) ∙ sym (ap (λ (n : ℕ). n % 65536) frames_then)
     where
       round : (n : ℕ) → (n % 65536 + 1) % 65536 ≡ (n + 1) % 65536
       round n = omega arith
 
   -- the exchange after its next data frame fits
-  pub advance-fits : sentFits full (advanced e (nextBytes full e)) ≡ true
-  unfolding sentFits
-  advance-fits = rw (then-sent, then-within, then-whole, eq-eqb _ _ then-counted)
+  pub advance_fits : sent_fits full (advanced e (next_bytes full e)) ≡ true
+  unfolding sent_fits
+  advance_fits = rw (then_sent, then_within, then_whole, eq-eqb _ _ then_counted)
 
 -- what a command of any kind wants fits 32 bits
 cond_small : (b : Bool) (x y : Bool) (n : ℕ) → (x ≡ true → n < 4294967296) → (y ≡ true → n < 4294967296) → cond b x y ≡ true → n < 4294967296
@@ -155,9 +155,9 @@ pub record Reads (u : Unit) (e : Exchange) : Type 0 where
   pub wanted : e.wanted ≡ 512 * e.blocks
   pub inside : e.start + e.blocks ≤ u.capacity
 
-pub read-parts : (u : Unit) (e : Exchange) → blocksFit u e ≡ true → Reads u e
-unfolding blocksFit
-read-parts u e h =
+pub read_parts : (u : Unit) (e : Exchange) → blocks_fit u e ≡ true → Reads u e
+unfolding blocks_fit
+read_parts u e h =
     let a = leb 1 e.blocks in
     let b = leb e.blocks 65535 in
     let c = eqb e.wanted (512 * e.blocks) in
@@ -170,86 +170,86 @@ read-parts u e h =
       inside = leb-true (e.start + e.blocks) u.capacity (and_right (a && b && c && d) f h);
     }
 
-pub is_read : (u : Unit) (e : Exchange) → e.kind ≡ kindBlocks → wantedFits u e ≡ true → Reads u e
-unfolding wantedFits
-is_read u e k h = read-parts u e (rw (eq-eqb e.kind kindBlocks k) at h)
+pub is_read : (u : Unit) (e : Exchange) → e.kind ≡ kind_blocks → wanted_fits u e ≡ true → Reads u e
+unfolding wanted_fits
+is_read u e k h = read_parts u e (rw (eq-eqb e.kind kind_blocks k) at h)
 
-read_small : (u : Unit) (e : Exchange) → blocksFit u e ≡ true → e.wanted < 4294967296
-read_small u e h = let r = read-parts u e h in omega arith
+read_small : (u : Unit) (e : Exchange) → blocks_fit u e ≡ true → e.wanted < 4294967296
+read_small u e h = let r = read_parts u e h in omega arith
 
-made-wants : (e : Exchange) → madeFits e ≡ true → madeWants e ≡ true
-unfolding madeFits
-made-wants e h = and_right (eqb e.start 0 && eqb e.blocks 0) (madeWants e) h
+made_wants_lem : (e : Exchange) → made_fits e ≡ true → made_wants e ≡ true
+unfolding made_fits
+made_wants_lem e h = and_right (eqb e.start 0 && eqb e.blocks 0) (made_wants e) h
 
 -- what is wanted of made data
-pub is_made : (u : Unit) (e : Exchange) → eqb e.kind kindBlocks ≡ false → wantedFits u e ≡ true → madeWants e ≡ true
-unfolding wantedFits
-is_made u e k h = made-wants e (rw k at h)
+pub is_made : (u : Unit) (e : Exchange) → eqb e.kind kind_blocks ≡ false → wanted_fits u e ≡ true → made_wants e ≡ true
+unfolding wanted_fits
+is_made u e k h = made_wants_lem e (rw k at h)
 
-pub wanted-small : (u : Unit) (e : Exchange) → wantedFits u e ≡ true → e.wanted < 4294967296
-unfolding wantedFits
-wanted-small u e =
-    cond_small (eqb e.kind kindBlocks) _ _ e.wanted (read_small u e) (λ h. made (made-wants e h))
+pub wanted_small : (u : Unit) (e : Exchange) → wanted_fits u e ≡ true → e.wanted < 4294967296
+unfolding wanted_fits
+wanted_small u e =
+    cond_small (eqb e.kind kind_blocks) _ _ e.wanted (read_small u e) (λ h. made (made_wants_lem e h))
   where
     most : (n : ℕ) → leb e.wanted n ≡ true → n < 4294967296 → e.wanted < 4294967296
     most n h l = let i : e.wanted ≤ n = leb-true e.wanted n h in omega arith
 
-    made : madeWants e ≡ true → e.wanted < 4294967296
+    made : made_wants e ≡ true → e.wanted < 4294967296
     made =
-        cond_small (leb e.kind kindInquiryOther) _ _ e.wanted (λ h. most 36 (and_right (leb 1 e.wanted) (leb e.wanted 36) h) (omega arith))
-        (cond_small (eqb e.kind kindCapacity) _ _ e.wanted (λ h. let i : e.wanted ≡ 8 = eqb-true e.wanted 8 h in omega arith)
-        (λ h. most 18 (and_right (leb e.kind kindSenseOther && leb 1 e.wanted) (leb e.wanted 18) h) (omega arith)))
+        cond_small (leb e.kind kind_inquiry_other) _ _ e.wanted (λ h. most 36 (and_right (leb 1 e.wanted) (leb e.wanted 36) h) (omega arith))
+        (cond_small (eqb e.kind kind_capacity) _ _ e.wanted (λ h. let i : e.wanted ≡ 8 = eqb-true e.wanted 8 h in omega arith)
+        (λ h. most 18 (and_right (leb e.kind kind_sense_other && leb 1 e.wanted) (leb e.wanted 18) h) (omega arith)))
 
 -- what is asked of an open exchange
 pub record Running (u : Unit) (full paired : ℕ) (e : Exchange) : Type 0 where
   pub pair : eqb paired 1 ≡ true
   pub could : openable u e ≡ true
   pub some : leb 1 e.expected ≡ true
-  pub wanted : wantedFits u e ≡ true
-  pub direction : directionFits u e ≡ true
-  pub moved : movedFits full e ≡ true
+  pub wanted : wanted_fits u e ≡ true
+  pub direction : direction_fits u e ≡ true
+  pub moved : moved_fits full e ≡ true
 
-pub running : (u : Unit) (full paired : ℕ) (e : Exchange) → isClosed e ≡ false → exchangeFine u full paired e ≡ true → Running u full paired e
-unfolding exchangeFine
+pub running : (u : Unit) (full paired : ℕ) (e : Exchange) → is_closed e ≡ false → exchange_fine u full paired e ≡ true → Running u full paired e
+unfolding exchange_fine
 running u full paired e op fine =
-    let f = or_short (isClosed e) (eqb paired 1 && openable u e && movedFits full e) fine op in
-    let g = and_left (eqb paired 1 && openable u e) (movedFits full e) f in
+    let f = or_short (is_closed e) (eqb paired 1 && openable u e && moved_fits full e) fine op in
+    let g = and_left (eqb paired 1 && openable u e) (moved_fits full e) f in
     let o = and_right (eqb paired 1) (openable u e) g in
-    let w = and_left (leb 1 e.expected && wantedFits u e) (directionFits u e) o in
+    let w = and_left (leb 1 e.expected && wanted_fits u e) (direction_fits u e) o in
     record {
       pair = and_left (eqb paired 1) (openable u e) g;
       could = o;
-      some = and_left (leb 1 e.expected) (wantedFits u e) w;
-      wanted = and_right (leb 1 e.expected) (wantedFits u e) w;
-      direction = and_right (leb 1 e.expected && wantedFits u e) (directionFits u e) o;
-      moved = and_right (eqb paired 1 && openable u e) (movedFits full e) f;
+      some = and_left (leb 1 e.expected) (wanted_fits u e) w;
+      wanted = and_right (leb 1 e.expected) (wanted_fits u e) w;
+      direction = and_right (leb 1 e.expected && wanted_fits u e) (direction_fits u e) o;
+      moved = and_right (eqb paired 1 && openable u e) (moved_fits full e) f;
     }
 
 -- what is asked of one whose data go to the host
 pub record Sending (full : ℕ) (e : Exchange) : Type 0 where
-  pub to-host : e.direction ≡ toHost
+  pub to_host_lem : e.direction ≡ to_host
   pub unasked : e.awaited ≡ 0
-  pub fits : sentFits full e ≡ true
+  pub fits : sent_fits full e ≡ true
 
-pub sending : {u : Unit} {full paired : ℕ} {e : Exchange} → Running u full paired e → isWrite e ≡ false → Sending full e
-unfolding directionFits movedFits
+pub sending : {u : Unit} {full paired : ℕ} {e : Exchange} → Running u full paired e → is_write e ≡ false → Sending full e
+unfolding direction_fits moved_fits
 sending {full = full} {e = e} r to =
     let d = r.direction in
     let m = r.moved in
-    let n : (eqb e.awaited 0 && sentFits full e) ≡ true = rw to at m in
+    let n : (eqb e.awaited 0 && sent_fits full e) ≡ true = rw to at m in
     record {
-      to-host = eqb-true e.direction toHost (sym (or-false (eqb e.direction toHost)) ∙ (rw to at d));
-      unasked = eqb-true e.awaited 0 (and_left (eqb e.awaited 0) (sentFits full e) n);
-      fits = and_right (eqb e.awaited 0) (sentFits full e) n;
+      to_host_lem = eqb-true e.direction to_host (sym (or-false (eqb e.direction to_host)) ∙ (rw to at d));
+      unasked = eqb-true e.awaited 0 (and_left (eqb e.awaited 0) (sent_fits full e) n);
+      fits = and_right (eqb e.awaited 0) (sent_fits full e) n;
     }
 
 -- an open exchange that is fine and goes to the host is fine after its next data frame
-pub advance-fine : (u : Unit) (full paired : ℕ) (e : Exchange) → 0 < full → isClosed e ≡ false → isWrite e ≡ false → e.sent < total e → exchangeFine u full paired e ≡ true
-    → exchangeFine u full paired (advanced e (nextBytes full e)) ≡ true
-unfolding exchangeFine wantedFits blocksFit madeFits directionFits movedFits
-advance-fine u full paired e pos op to short fine =
+pub advance_fine : (u : Unit) (full paired : ℕ) (e : Exchange) → 0 < full → is_closed e ≡ false → is_write e ≡ false → e.sent < total e → exchange_fine u full paired e ≡ true
+    → exchange_fine u full paired (advanced e (next_bytes full e)) ≡ true
+unfolding exchange_fine wanted_fits blocks_fit made_fits direction_fits moved_fits
+advance_fine u full paired e pos op to short fine =
     let r = running u full paired e op fine in
     let g = sending r to in
-    let w = wanted-small u e r.wanted in
-    let s = advance-fits full e pos g.fits short (omega arith) in
+    let w = wanted_small u e r.wanted in
+    let s = advance_fits full e pos g.fits short (omega arith) in
     rw (op, r.pair, r.could, to, s, g.unasked)

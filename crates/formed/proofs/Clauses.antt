@@ -6,22 +6,22 @@ use mathlib.Core.Bool.{Bool, true, false}
 use mathlib.Core.List.{List, [], ◌∷◌, ◌++◌}
 use lib.ListN.{replicate}
 use Rattle.wire.specs.Bytes.{name_of}
-use Rattle.address.specs.Address.{validAddress}
-use Rattle.params.specs.Words.{params_of, sizeFails, zeroName, verdictOf, setupPasses}
+use Rattle.address.specs.Address.{valid_address}
+use Rattle.params.specs.Words.{params_of, size_fails, zero_name, verdict_of, setup_passes}
 use Rattle.state.specs.declared.Exchange.{Exchange}
 use Rattle.state.specs.declared.Login.{Login}
 use Rattle.state.specs.declared.Port.{Port}
 use Rattle.state.specs.declared.Unit.{Unit}
-use Rattle.state.specs.Changes.{emptyExchange, emptyLogin, own_of}
-use Rattle.formed.specs.Formed.{setupRules, setupOf, blocksFit, madeFits, wantedFits, directionFits, sentFits, takenFits, movedFits, exchangeFine, apartId, paramsFine, flagsFine, addressFine, usedFine, loginFine, apartLogin, wellFormed}
+use Rattle.state.specs.Changes.{empty_exchange, empty_login, own_of}
+use Rattle.formed.specs.Formed.{setup_rules, setup_of, blocks_fit, made_fits, wanted_fits, direction_fits, sent_fits, taken_fits, moved_fits, exchange_fine, apart_id, params_fine, flags_fine, address_fine, used_fine, login_fine, apart_login, well_formed}
 
 -- a unit of this capacity, and whether it may be written
-abbrev pub unitWith : (capacity writable : ℕ) → Unit
-unitWith capacity writable = record { capacity = capacity; identity = replicate 28 0x20; writable = writable }
+abbrev pub unit_with : (capacity writable : ℕ) → Unit
+unit_with capacity writable = record { capacity = capacity; identity = replicate 28 0x20; writable = writable }
 
 -- one that may not
 abbrev pub unit_of : ℕ → Unit
-unit_of capacity = unitWith capacity 0
+unit_of capacity = unit_with capacity 0
 
 abbrev pub name : List ℕ
 name = replicate 8 0x20
@@ -40,8 +40,8 @@ words concurrent sequences =
     ++ (0x80 ∷ 0 ∷ 0 ∷ 0 ∷ 0 ∷ 0 ∷ 0x08 ∷ 0 ∷ 0 ∷ concurrent ∷ 0 ∷ 0 ∷ 0 ∷ sequences ∷ replicate 34 0)
 
 -- a port of this address and accept, with these logins at its first places and none at the others
-abbrev pub portOf : (own : ℕ) (accept : List ℕ) (l m : Login) → Port
-portOf own accept l m = record { address = own; accept = accept; logins = l ∷ m ∷ replicate 6 emptyLogin }
+abbrev pub port_of : (own : ℕ) (accept : List ℕ) (l m : Login) → Port
+port_of own accept l m = record { address = own; accept = accept; logins = l ∷ m ∷ replicate 6 empty_login }
 
 abbrev pub login : (used proven paired attention address : ℕ) (port node : List ℕ) (size concurrent sequences : ℕ) (places : List Exchange) → Login
 login used proven paired attention address port node size concurrent sequences places =
@@ -96,7 +96,7 @@ placed kind start blocks wanted = exchange kind 0x1235 start blocks wanted 36 0 
 
 -- two exchanges at the first places of a login, and none at the others
 abbrev pub two : Exchange → Exchange → List Exchange
-two e f = e ∷ f ∷ replicate 6 emptyExchange
+two e f = e ∷ f ∷ replicate 6 empty_exchange
 
 -- a READ of four blocks from block 10 on, of which two frames of 256 bytes were sent
 abbrev pub halfway : Exchange
@@ -110,7 +110,7 @@ abbrev pub busy : List Exchange
 busy = two halfway asked
 
 abbrev pub idle : List Exchange
-idle = replicate 8 emptyExchange
+idle = replicate 8 empty_exchange
 
 -- the login of address 01h with these flags, attention and exchanges
 abbrev pub flagged : (used proven paired attention : ℕ) → List Exchange → Login
@@ -134,11 +134,11 @@ stale = login 0 2 2 1 0xef zeros zeros 252 0 0 (replicate 8 (exchange 0 0x1234 2
 
 -- whether a unit of 100 blocks and a port of address EFh are well formed with these two logins
 abbrev pub both : Login → Login → Bool
-both l m = wellFormed (unit_of 100) (portOf 0xef (words 1 1) l m)
+both l m = well_formed (unit_of 100) (port_of 0xef (words 1 1) l m)
 
 -- with one login
 abbrev pub one : Login → Bool
-one l = both l emptyLogin
+one l = both l empty_login
 
 -- with one login that has these two exchanges
 abbrev pub opened : Exchange → Exchange → Bool
@@ -146,7 +146,7 @@ opened e f = one (flagged 1 1 1 0 (two e f))
 
 -- with one login that has these exchanges, and another capacity, own address, W19/B1 and W20/B1 of the accept
 abbrev pub setup : (capacity own concurrent sequences : ℕ) → List Exchange → Bool
-setup capacity own concurrent sequences es = wellFormed (unit_of capacity) (portOf own (words concurrent sequences) (flagged 1 1 1 0 es) emptyLogin)
+setup capacity own concurrent sequences es = well_formed (unit_of capacity) (port_of own (words concurrent sequences) (flagged 1 1 1 0 es) empty_login)
 
 -- a large unit, with a READ of these
 abbrev pub large : (blocks wanted sent count : ℕ) → Bool
@@ -154,14 +154,14 @@ large blocks wanted sent count = setup 4294967295 0xef 1 1 (two (reading 0 block
 
 -- a unit of 1,000 blocks that may be written or not, with this exchange
 abbrev pub onto : (writable : ℕ) → Exchange → Bool
-onto writable e = wellFormed (unitWith 1000 writable) (portOf 0xef (words 1 1) (flagged 1 1 1 0 (two e asked)) emptyLogin)
+onto writable e = well_formed (unit_with 1000 writable) (port_of 0xef (words 1 1) (flagged 1 1 1 0 (two e asked)) empty_login)
 
 -- one that may
 abbrev pub written : Exchange → Bool
 written e = onto 1 e
 
 -- "setup rules hold"
-pub setup-clauses :
+pub setup_clauses :
     (setup 100 0xef 1 1 busy ≡ true)  -- the well-formed state
     × (setup 0 0xef 1 1 idle ≡ false)  -- "Capacity 1 to 4,294,967,295 blocks": 0; idle, as no READ fits then
     × (setup 1 0xef 1 1 idle ≡ true)  -- the least
@@ -177,11 +177,11 @@ pub setup-clauses :
     × (onto 0 halfway ≡ true)  -- "units whose setup allows it" (02, 2): it does not
     × (onto 1 halfway ≡ true)  -- it does
     × (onto 2 halfway ≡ false)  -- there is no third
-unfolding wellFormed setupRules setupOf own_of validAddress setupPasses params_of verdictOf sizeFails zeroName loginFine usedFine flagsFine addressFine paramsFine exchangeFine wantedFits blocksFit madeFits directionFits sentFits takenFits movedFits apartId apartLogin name_of
-setup-clauses = (refl, refl, refl, refl, refl, refl, refl, refl, refl, refl, refl, refl, refl, refl, refl)
+unfolding well_formed setup_rules setup_of own_of valid_address setup_passes params_of verdict_of size_fails zero_name login_fine used_fine flags_fine address_fine params_fine exchange_fine wanted_fits blocks_fit made_fits direction_fits sent_fits taken_fits moved_fits apart_id apart_login name_of
+setup_clauses = (refl, refl, refl, refl, refl, refl, refl, refl, refl, refl, refl, refl, refl, refl, refl)
 
 -- the flags and the attention of a login, and its address
-pub login-clauses :
+pub login_clauses :
     (one (flagged 1 1 1 0 idle) ≡ true)  -- the same login with no exchanges
     × (one (flagged 0 1 1 0 idle) ≡ true)  -- a free place
     × (one (flagged 2 1 1 0 idle) ≡ false)  -- flags are 0 or 1: used is 2
@@ -206,11 +206,11 @@ pub login-clauses :
     × (both stale stale ≡ true)  -- of free places nothing is asked
     × (both stale (at 0x01 0x01) ≡ true)  -- nor of them beside a login
     × (one (flagged 0 1 1 0 busy) ≡ false)  -- but that they hold no open exchange
-unfolding wellFormed setupRules setupOf own_of validAddress setupPasses params_of verdictOf sizeFails zeroName loginFine usedFine flagsFine addressFine paramsFine exchangeFine wantedFits blocksFit madeFits directionFits sentFits takenFits movedFits apartId apartLogin name_of
-login-clauses = (refl, refl, refl, refl, refl, refl, refl, refl, refl, refl, refl, refl, refl, refl, refl, refl, refl, refl, refl, refl, refl, refl, refl, refl)
+unfolding well_formed setup_rules setup_of own_of valid_address setup_passes params_of verdict_of size_fails zero_name login_fine used_fine flags_fine address_fine params_fine exchange_fine wanted_fits blocks_fit made_fits direction_fits sent_fits taken_fits moved_fits apart_id apart_login name_of
+login_clauses = (refl, refl, refl, refl, refl, refl, refl, refl, refl, refl, refl, refl, refl, refl, refl, refl, refl, refl, refl, refl, refl, refl, refl, refl)
 
 -- "stored parameters pass the PLOGI rules"; idle where another size would break what is asked of the bytes sent
-pub parameter-clauses :
+pub parameter_clauses :
     (one (stored name name 256 1 1 busy) ≡ true)  -- the well-formed state
     × (one (stored zeros name 256 1 1 busy) ≡ false)  -- "port name W5-6 not zero"
     × (one (stored name zeros 256 1 1 busy) ≡ false)  -- "node name W7-8 not zero"
@@ -224,11 +224,11 @@ pub parameter-clauses :
     × (one (stored name name 256 0 1 busy) ≡ false)  -- "W19/B1 not 0"
     × (one (stored name name 256 1 0 busy) ≡ false)  -- "W20/B1 not 0"
     × (one (stored name name 256 255 255 busy) ≡ true)  -- W20/B1 = 01h is asked of the setup alone
-unfolding wellFormed setupRules setupOf own_of validAddress setupPasses params_of verdictOf sizeFails zeroName loginFine usedFine flagsFine addressFine paramsFine exchangeFine wantedFits blocksFit madeFits directionFits sentFits takenFits movedFits apartId apartLogin name_of
-parameter-clauses = (refl, refl, refl, refl, refl, refl, refl, refl, refl, refl, refl, refl, refl)
+unfolding well_formed setup_rules setup_of own_of valid_address setup_passes params_of verdict_of size_fails zero_name login_fine used_fine flags_fine address_fine params_fine exchange_fine wanted_fits blocks_fit made_fits direction_fits sent_fits taken_fits moved_fits apart_id apart_login name_of
+parameter_clauses = (refl, refl, refl, refl, refl, refl, refl, refl, refl, refl, refl, refl, refl)
 
 -- where exchanges stand, and "each exchange is one an accepted command could open"
-pub exchange-clauses :
+pub exchange_clauses :
     (opened halfway asked ≡ true)  -- the well-formed state
     × (one (flagged 1 1 0 0 busy) ≡ false)  -- "exchanges only at paired logins"
     × (opened halfway (exchange 2 0x1234 0 0 36 36 0 0) ≡ false)  -- "OX_IDs distinct within a login"
@@ -261,11 +261,11 @@ pub exchange-clauses :
     × (opened halfway (other 8 1 36 0 0) ≡ true)  -- with 05/25/00, the least
     × (opened halfway (other 8 19 36 0 0) ≡ false)  -- with 05/25/00, one more than 18
     × (opened halfway (other 8 0 36 0 0) ≡ false)  -- and not nothing
-unfolding wellFormed setupRules setupOf own_of validAddress setupPasses params_of verdictOf sizeFails zeroName loginFine usedFine flagsFine addressFine paramsFine exchangeFine wantedFits blocksFit madeFits directionFits sentFits takenFits movedFits apartId apartLogin name_of
-exchange-clauses = (refl, refl, refl, refl, refl, refl, refl, refl, refl, refl, refl, refl, refl, refl, refl, refl, refl, refl, refl, refl, refl, refl, refl, refl, refl, refl, refl, refl, refl, refl, refl, refl)
+unfolding well_formed setup_rules setup_of own_of valid_address setup_passes params_of verdict_of size_fails zero_name login_fine used_fine flags_fine address_fine params_fine exchange_fine wanted_fits blocks_fit made_fits direction_fits sent_fits taken_fits moved_fits apart_id apart_login name_of
+exchange_clauses = (refl, refl, refl, refl, refl, refl, refl, refl, refl, refl, refl, refl, refl, refl, refl, refl, refl, refl, refl, refl, refl, refl, refl, refl, refl, refl, refl, refl, refl, refl, refl, refl)
 
 -- "each exchange is one an accepted command could open": only READ(10) and WRITE(10) name blocks, and every other kind has start and blocks 0
-pub made-clauses :
+pub made_clauses :
     (opened halfway (placed 2 0 0 36) ≡ true)  -- INQUIRY
     × (opened halfway (placed 2 1 0 36) ≡ false)  -- a start
     × (opened halfway (placed 2 0 1 36) ≡ false)  -- a block
@@ -287,11 +287,11 @@ pub made-clauses :
     × (opened halfway (placed 8 0 0 18) ≡ true)  -- with 05/25/00
     × (opened halfway (placed 8 1 0 18) ≡ false)  -- a start
     × (opened halfway (placed 8 0 1 18) ≡ false)  -- a block
-unfolding wellFormed setupRules setupOf own_of validAddress setupPasses params_of verdictOf sizeFails zeroName loginFine usedFine flagsFine addressFine paramsFine exchangeFine wantedFits blocksFit madeFits directionFits sentFits takenFits movedFits apartId apartLogin name_of
-made-clauses = (refl, refl, refl, refl, refl, refl, refl, refl, refl, refl, refl, refl, refl, refl, refl, refl, refl, refl, refl, refl, refl)
+unfolding well_formed setup_rules setup_of own_of valid_address setup_passes params_of verdict_of size_fails zero_name login_fine used_fine flags_fine address_fine params_fine exchange_fine wanted_fits blocks_fit made_fits direction_fits sent_fits taken_fits moved_fits apart_id apart_login name_of
+made_clauses = (refl, refl, refl, refl, refl, refl, refl, refl, refl, refl, refl, refl, refl, refl, refl, refl, refl, refl, refl, refl, refl)
 
 -- "with bytes sent at most its total and, short of it, a whole number of full frames", and the count of the data frames sent
-pub sent-clauses :
+pub sent_clauses :
     (opened (reading 10 4 2048 2048 2048 8) asked ≡ true)  -- all sent
     × (opened (reading 10 4 2048 2048 2304 9) asked ≡ false)  -- "bytes sent at most its total"
     × (opened (reading 10 4 2048 1000 1000 4) asked ≡ true)  -- all that FCP_DL lets be sent
@@ -306,11 +306,11 @@ pub sent-clauses :
     × (large 65535 33553920 16777216 0 ≡ true)  -- "going round at 65,536": 65,536 frames sent
     × (large 65535 33553920 33553920 65534 ≡ true)  -- and 131,070
     × (large 65535 33553920 33553920 65535 ≡ false)  -- one more
-unfolding wellFormed setupRules setupOf own_of validAddress setupPasses params_of verdictOf sizeFails zeroName loginFine usedFine flagsFine addressFine paramsFine exchangeFine wantedFits blocksFit madeFits directionFits sentFits takenFits movedFits apartId apartLogin name_of
-sent-clauses = (refl, refl, refl, refl, refl, refl, refl, refl, refl, refl, refl, refl, refl, refl)
+unfolding well_formed setup_rules setup_of own_of valid_address setup_passes params_of verdict_of size_fails zero_name login_fine used_fine flags_fine address_fine params_fine exchange_fine wanted_fits blocks_fit made_fits direction_fits sent_fits taken_fits moved_fits apart_id apart_login name_of
+sent_clauses = (refl, refl, refl, refl, refl, refl, refl, refl, refl, refl, refl, refl, refl, refl)
 
 -- "The exchange record gains a direction" (02, 2): what came of a WRITE, and where one may stand
-pub write-clauses :
+pub write_clauses :
     (written (writing 0 131072 0 0) ≡ true)  -- a WRITE for which nothing was done yet
     × (written (writing 1 131072 0 0) ≡ true)  -- its data are awaited
     × (written (writing 1 131072 1000 0) ≡ true)  -- "the full-frame rule binds reads only": short of the total any number of bytes came
@@ -336,5 +336,5 @@ pub write-clauses :
     × (written (directed 0 0 1 0x1234 10 4 2048 2048 512 2) ≡ true)  -- a READ
     × (written (directed 0 1 1 0x1234 10 4 2048 2048 512 2) ≡ false)  -- no data are awaited of it
     × (written (directed 0 1 2 0x1234 0 0 36 36 0 0) ≡ false)  -- nor of INQUIRY
-unfolding wellFormed setupRules setupOf own_of validAddress setupPasses params_of verdictOf sizeFails zeroName loginFine usedFine flagsFine addressFine paramsFine exchangeFine wantedFits blocksFit madeFits directionFits sentFits takenFits movedFits apartId apartLogin name_of
-write-clauses = (refl, refl, refl, refl, refl, refl, refl, refl, refl, refl, refl, refl, refl, refl, refl, refl, refl, refl, refl, refl, refl, refl, refl, refl, refl)
+unfolding well_formed setup_rules setup_of own_of valid_address setup_passes params_of verdict_of size_fails zero_name login_fine used_fine flags_fine address_fine params_fine exchange_fine wanted_fits blocks_fit made_fits direction_fits sent_fits taken_fits moved_fits apart_id apart_login name_of
+write_clauses = (refl, refl, refl, refl, refl, refl, refl, refl, refl, refl, refl, refl, refl, refl, refl, refl, refl, refl, refl, refl, refl, refl, refl, refl, refl)

@@ -7,10 +7,10 @@ use Rattle.state.specs.declared.Login.{Login}
 use Rattle.state.specs.declared.Own.{Own}
 use Rattle.state.specs.declared.Port.{Port}
 use Rattle.state.specs.declared.Unit.{Unit}
-use Rattle.state.specs.Changes.{isClosed}
-use Rattle.state.specs.Tables.{isFree}
+use Rattle.state.specs.Changes.{is_closed}
+use Rattle.state.specs.Tables.{is_free}
 use Rattle.formed.specs.declared.Key.{Key}
-use Rattle.formed.specs.Formed.{setupRules, setupOf, exchangeFine, loginFine}
+use Rattle.formed.specs.Formed.{setup_rules, setup_of, exchange_fine, login_fine}
 
 -- the number of a place: 0 where it is not fine, 1 where it is free, and from 2 on the number that it is known by
 abbrev pub number_of : Bool → Bool → ℕ → ℕ
@@ -21,48 +21,48 @@ unfoldable pub key_of : Bool → Bool → ℕ → ℕ → Key
 key_of fine free n name = record { id = number_of fine free n; name = cond fine (cond free 0 name) 0 }
 
 -- by what a place is known it is fine, and free or apart from those that stand behind it
-abbrev pub placeFine : {K : Type 0} → (K → ℕ) → (K → K → Bool) → K → List K → Bool
-placeFine number apart k rest = not (eqb (number k) 0) && (eqb (number k) 1 || all (apart k) rest)
+abbrev pub place_fine : {K : Type 0} → (K → ℕ) → (K → K → Bool) → K → List K → Bool
+place_fine number apart k rest = not (eqb (number k) 0) && (eqb (number k) 1 || all (apart k) rest)
 
 -- a number is another than the number m
-abbrev pub apartNumber : ℕ → ℕ → Bool
-apartNumber n m = not (eqb n m)
+abbrev pub apart_number : ℕ → ℕ → Bool
+apart_number n m = not (eqb n m)
 
 -- a number of a place that is fine, and free or apart from those that stand behind it
-unfoldable pub numberFine : ℕ → List ℕ → Bool
-numberFine n rest = placeFine (λ m. m) apartNumber n rest
+unfoldable pub number_fine : ℕ → List ℕ → Bool
+number_fine n rest = place_fine (λ m. m) apart_number n rest
 
 -- each place of a table is fine by its number, and no two in use have the same
-abbrev pub numbersFine : List ℕ → Bool
-numbersFine ns = every numberFine ns
+abbrev pub numbers_fine : List ℕ → Bool
+numbers_fine ns = every number_fine ns
 
 -- a key has this name, and 0 is the number of none
-unfoldable pub keyNamed : ℕ → Key → Bool
-keyNamed n k = not (eqb n 0) && eqb k.name n
+unfoldable pub key_named : ℕ → Key → Bool
+key_named n k = not (eqb n 0) && eqb k.name n
 
 -- a key is another than the key n, with another name
-unfoldable pub apartKey : Key → Key → Bool
-apartKey k n = not (eqb k.id n.id) && not (eqb k.name n.name)
+unfoldable pub apart_key : Key → Key → Bool
+apart_key k n = not (eqb k.id n.id) && not (eqb k.name n.name)
 
 -- a key of a place that is fine, and free or apart from those that stand behind it
-unfoldable pub keyFine : Key → List Key → Bool
-keyFine k rest = placeFine (λ n. n.id) apartKey k rest
+unfoldable pub key_fine : Key → List Key → Bool
+key_fine k rest = place_fine (λ n. n.id) apart_key k rest
 
-abbrev pub keysFine : List Key → Bool
-keysFine ks = every keyFine ks
+abbrev pub keys_fine : List Key → Bool
+keys_fine ks = every key_fine ks
 
 -- an exchange is known by its OX_ID alone
-unfoldable pub exchangeNumber : Unit → ℕ → ℕ → Exchange → ℕ
-exchangeNumber u full paired e = number_of (exchangeFine u full paired e) (isClosed e) e.ox_id
+unfoldable pub exchange_number : Unit → ℕ → ℕ → Exchange → ℕ
+exchange_number u full paired e = number_of (exchange_fine u full paired e) (is_closed e) e.ox_id
 
 -- a login is known by its address and its port name
-unfoldable pub loginKey : Unit → ℕ → Login → Key
-loginKey u own l = key_of (loginFine u own l) (isFree l) l.address (name_of l.port_name)
+unfoldable pub login_key : Unit → ℕ → Login → Key
+login_key u own l = key_of (login_fine u own l) (is_free l) l.address (name_of l.port_name)
 
 -- the keys of a port's logins
 unfoldable pub keys_of : Unit → Port → List Key
-keys_of u p = map (loginKey u p.address) p.logins
+keys_of u p = map (login_key u p.address) p.logins
 
--- well formed, by the keys of the logins; that this is `wellFormed` is `fine-by`
-unfoldable pub fineBy : Unit → Own → List Key → Bool
-fineBy u o keys = setupRules (setupOf u o) && keysFine keys
+-- well formed, by the keys of the logins; that this is `well_formed` is `fine_by_lem`
+unfoldable pub fine_by : Unit → Own → List Key → Bool
+fine_by u o keys = setup_rules (setup_of u o) && keys_fine keys

@@ -1,7 +1,7 @@
 // Whether an exchange is one that an accepted command could open, with what is sent of it, and the numbers of a login's exchanges (document 01, "Well formed").
 ghost use Rattle.std.specs.Prelude.{◌≡◌, ◌≤◌, ◌<◌, ◌&&◌, map, leb};
-ghost use Rattle.formed.specs.Formed.{fullFrame, total, blocksFit, madeFits, directionFits, wantedFits, sentFits, takenFits, movedFits, exchangeFine};
-ghost use Rattle.formed.specs.Keys.{exchangeNumber};
+ghost use Rattle.formed.specs.Formed.{full_frame, total, blocks_fit, made_fits, direction_fits, wanted_fits, sent_fits, taken_fits, moved_fits, exchange_fine};
+ghost use Rattle.formed.specs.Keys.{exchange_number};
 
 use crate::numbers::number_of;
 use frame::Header;
@@ -9,7 +9,7 @@ use state::{Exchange, Login, Unit, is_closed};
 
 // The bytes of a full data frame to a login of this W18 size.
 pub fn full_frame(size: u16) -> u32
-    ensures { result ≡ fullFrame size }
+    ensures { result ≡ full_frame size }
 {
     if (size as usize) < Header::MOST_DATA {
         size as u32
@@ -30,7 +30,7 @@ pub fn total_of(e: Exchange) -> u32
 }
 
 fn blocks_fit(u: Unit, e: Exchange) -> bool
-    ensures { result ≡ blocksFit u e }
+    ensures { result ≡ blocks_fit u e }
 {
     let blocks = e.blocks as u64;
     if blocks < 1 {
@@ -51,7 +51,7 @@ fn blocks_fit(u: Unit, e: Exchange) -> bool
 
 // Data come from the host only of blocks, and where the unit may be written.
 fn direction_fits(u: Unit, e: Exchange) -> bool
-    ensures { result ≡ directionFits u e }
+    ensures { result ≡ direction_fits u e }
 {
     if e.direction == Exchange::TO_HOST {
         return true;
@@ -67,7 +67,7 @@ fn direction_fits(u: Unit, e: Exchange) -> bool
 }
 
 fn made_fits(e: Exchange) -> bool
-    ensures { result ≡ madeFits e }
+    ensures { result ≡ made_fits e }
 {
     if e.start != 0 {
         return false;
@@ -89,7 +89,7 @@ fn made_fits(e: Exchange) -> bool
 }
 
 fn wanted_fits(u: Unit, e: Exchange) -> bool
-    ensures { result ≡ wantedFits u e }
+    ensures { result ≡ wanted_fits u e }
 {
     if e.kind == Exchange::BLOCKS {
         blocks_fit(u, e)
@@ -107,7 +107,7 @@ fn within(n: u32, most: u32) -> bool
 // One quotient serves both: the frames that were full, and whether bytes are left past them.
 fn sent_fits(full: u32, e: Exchange) -> bool
     requires { (0 < full) × (full ≤ 2048) }
-    ensures { result ≡ sentFits full e }
+    ensures { result ≡ sent_fits full e }
 {
     let all = total_of(e);
     let sent = e.sent;
@@ -127,7 +127,7 @@ fn sent_fits(full: u32, e: Exchange) -> bool
 
 // Of a WRITE: what the host sent, and whether data are awaited.
 fn taken_fits(e: Exchange) -> bool
-    ensures { result ≡ takenFits e }
+    ensures { result ≡ taken_fits e }
 {
     let all = total_of(e);
     if all < e.sent {
@@ -152,7 +152,7 @@ fn taken_fits(e: Exchange) -> bool
 // What was sent so far, by the host of a WRITE, else by the drive.
 fn moved_fits(full: u32, e: Exchange) -> bool
     requires { (0 < full) × (full ≤ 2048) }
-    ensures { result ≡ movedFits full e }
+    ensures { result ≡ moved_fits full e }
 {
     if e.direction == Exchange::FROM_HOST {
         return taken_fits(e);
@@ -166,7 +166,7 @@ fn moved_fits(full: u32, e: Exchange) -> bool
 
 fn exchange_fine(u: Unit, full: u32, paired: u8, e: Exchange) -> bool
     requires { (0 < full) × (full ≤ 2048) }
-    ensures { result ≡ exchangeFine u full paired e }
+    ensures { result ≡ exchange_fine u full paired e }
 {
     if is_closed(e) {
         return true;
@@ -191,7 +191,7 @@ fn exchange_fine(u: Unit, full: u32, paired: u8, e: Exchange) -> bool
 // An exchange is known by its OX_ID alone, so that a number says all that a key would.
 fn exchange_number(u: Unit, full: u32, paired: u8, e: Exchange) -> u64
     requires { (0 < full) × (full ≤ 2048) }
-    ensures { result ≡ exchangeNumber u full paired e }
+    ensures { result ≡ exchange_number u full paired e }
 {
     let fine = exchange_fine(u, full, paired, e);
     let free = is_closed(e);
@@ -200,7 +200,7 @@ fn exchange_number(u: Unit, full: u32, paired: u8, e: Exchange) -> u64
 
 pub(crate) fn exchange_numbers(t: [Exchange; 8], u: Unit, full: u32, paired: u8) -> [u64; 8]
     requires { (0 < full) × (full ≤ 2048) }
-    ensures { result ≡ map (exchangeNumber u full paired) t }
+    ensures { result ≡ map (exchange_number u full paired) t }
 {
     let mut numbers = [0u64; 8];
     let mut i: usize = 0;

@@ -5,8 +5,8 @@ mod numbers;
 
 ghost use Rattle.std.specs.Prelude.{◌≡◌, List, ℕ, ◌<◌, drop};
 ghost use Rattle.tables.specs.Lists.{all};
-ghost use Rattle.formed.specs.Formed.{setupRules};
-ghost use Rattle.formed.specs.Keys.{key_of, keyNamed, apartKey, keyFine, keysFine, loginKey, keys_of, fineBy};
+ghost use Rattle.formed.specs.Formed.{setup_rules};
+ghost use Rattle.formed.specs.Keys.{key_of, key_named, apart_key, key_fine, keys_fine, login_key, keys_of, fine_by};
 
 use address::valid_address;
 pub use exchange::{full_frame, total_of};
@@ -26,7 +26,7 @@ pub struct Key {
 
 // Whether a setup keeps its rules.
 pub fn setup_rules(s: Setup) -> bool
-    ensures { result ≡ setupRules s }
+    ensures { result ≡ setup_rules s }
 {
     let accept = s.accept;
     rules_keep(s.capacity, s.writable, s.address, &accept)
@@ -34,7 +34,7 @@ pub fn setup_rules(s: Setup) -> bool
 
 // The rules of a setup, by the parts of it that they look at, so that none is made of a unit and a port for them.
 fn rules_keep(capacity: u64, writable: u8, address: u32, accept: &[u8; 112]) -> bool
-    ensures { (identity : List ℕ) → result ≡ setupRules (record { capacity = capacity; address = address; identity = identity; accept = accept.now; writable = writable }) }
+    ensures { (identity : List ℕ) → result ≡ setup_rules (record { capacity = capacity; address = address; identity = identity; accept = accept.now; writable = writable }) }
 {
     if capacity < Setup::LEAST_BLOCKS {
         return false;
@@ -54,7 +54,7 @@ fn rules_keep(capacity: u64, writable: u8, address: u32, accept: &[u8; 112]) -> 
 
 // Whether a unit and a port whose logins have these keys are well formed.
 pub fn all_fine(u: Unit, o: Own, keys: [Key; 8]) -> bool
-    ensures { result ≡ fineBy u o keys }
+    ensures { result ≡ fine_by u o keys }
 {
     let accept = o.accept;
     if rules_keep(u.capacity, u.writable, o.address, &accept) {
@@ -100,13 +100,13 @@ fn key_of(fine: bool, free: bool, id: u32, name: u64) -> Key
 
 // Whether a key has this name; 0 is the number of none.
 pub fn key_named(k: Key, name: u64) -> bool
-    ensures { result ≡ keyNamed name k }
+    ensures { result ≡ key_named name k }
 {
     if name == 0 { false } else { k.name == name }
 }
 
 fn apart_key(k: Key, n: Key) -> bool
-    ensures { result ≡ apartKey k n }
+    ensures { result ≡ apart_key k n }
 {
     if k.id == n.id {
         false
@@ -118,7 +118,7 @@ fn apart_key(k: Key, n: Key) -> bool
 // Whether a key is apart from those of the places from a place on.
 fn key_alone(t: [Key; 8], k: Key, from: usize) -> bool
     requires { from < 9 }
-    ensures { result ≡ all (apartKey k) (drop from t) }
+    ensures { result ≡ all (apart_key k) (drop from t) }
 {
     let mut i = from;
     while i < 8 {
@@ -135,7 +135,7 @@ fn key_alone(t: [Key; 8], k: Key, from: usize) -> bool
 // Whether a key is that of a place that is fine, and free or apart from those of the places from a place on.
 fn key_fine(t: [Key; 8], k: Key, from: usize) -> bool
     requires { from < 9 }
-    ensures { result ≡ keyFine k (drop from t) }
+    ensures { result ≡ key_fine k (drop from t) }
 {
     if k.id == 0 {
         return false;
@@ -149,7 +149,7 @@ fn key_fine(t: [Key; 8], k: Key, from: usize) -> bool
 
 // Whether these are the keys of a table's places that are all fine, and no two of them known by the same number or the same name.
 pub fn keys_fine(t: [Key; 8]) -> bool
-    ensures { result ≡ keysFine t }
+    ensures { result ≡ keys_fine t }
 {
     let mut i: usize = 0;
     while i < 8 {
@@ -166,7 +166,7 @@ pub fn keys_fine(t: [Key; 8]) -> bool
 
 // The key of a place for a login.
 pub fn login_key(u: Unit, own: u32, l: Login) -> Key
-    ensures { result ≡ loginKey u own l }
+    ensures { result ≡ login_key u own l }
 {
     if l.used == 1 {
         let port = l.port_name;

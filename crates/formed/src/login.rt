@@ -1,8 +1,8 @@
 // Whether a login keeps the rules: its flags, its address, its stored parameters and its exchanges (document 01, "Well formed").
 ghost use Rattle.std.specs.Prelude.{◌≡◌, ◌&&◌, eqb};
 ghost use Rattle.tables.specs.Lists.{all};
-ghost use Rattle.state.specs.Changes.{isClosed};
-ghost use Rattle.formed.specs.Formed.{paramsFine, flagsFine, addressFine, usedFine};
+ghost use Rattle.state.specs.Changes.{is_closed};
+ghost use Rattle.formed.specs.Formed.{params_fine, flags_fine, address_fine, used_fine};
 
 use crate::exchange::{exchange_numbers, full_frame};
 use crate::numbers::numbers_fine;
@@ -11,7 +11,7 @@ use params::{size_fails, zero_name};
 use state::{Login, Unit, all_closed};
 
 fn flags_fine(l: Login) -> bool
-    ensures { result ≡ flagsFine l }
+    ensures { result ≡ flags_fine l }
 {
     if 1 < l.proven {
         return false;
@@ -29,7 +29,7 @@ fn flags_fine(l: Login) -> bool
 }
 
 fn address_fine(own: u32, l: Login) -> bool
-    ensures { result ≡ addressFine own l }
+    ensures { result ≡ address_fine own l }
 {
     if valid_address(l.address) {
         l.address != own
@@ -39,7 +39,7 @@ fn address_fine(own: u32, l: Login) -> bool
 }
 
 fn params_fine(l: Login) -> bool
-    ensures { result ≡ paramsFine l }
+    ensures { result ≡ params_fine l }
 {
     let port = l.port_name;
     let node = l.node_name;
@@ -60,7 +60,7 @@ fn params_fine(l: Login) -> bool
 
 // Whether a login keeps the rules of a place that is in use.
 pub(crate) fn used_fine(u: Unit, own: u32, l: Login) -> bool
-    ensures { result ≡ usedFine u own l }
+    ensures { result ≡ used_fine u own l }
 {
     let t = l.places;
     let full = full_frame(l.size);
@@ -78,7 +78,7 @@ pub(crate) fn used_fine(u: Unit, own: u32, l: Login) -> bool
 
 // Whether a place that is not in use is free, with no open exchange.
 pub(crate) fn free_fine(l: Login) -> bool
-    ensures { result ≡ (eqb l.used 0 && all isClosed l.places) }
+    ensures { result ≡ (eqb l.used 0 && all is_closed l.places) }
 {
     let t = l.places;
     if l.used == 0 { all_closed(t) } else { false }

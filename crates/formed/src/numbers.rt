@@ -1,7 +1,7 @@
 // A table's test by a number for each place: 0 where the place is not fine, 1 where it is free, and from 2 on that of what stands there.
 ghost use Rattle.std.specs.Prelude.{◌≡◌, ◌<◌, drop};
 ghost use Rattle.tables.specs.Lists.{all};
-ghost use Rattle.formed.specs.Keys.{number_of, apartNumber, numberFine, numbersFine};
+ghost use Rattle.formed.specs.Keys.{number_of, apart_number, number_fine, numbers_fine};
 
 pub(crate) fn number_of(fine: bool, free: bool, id: u32) -> u64
     ensures { result ≡ number_of fine free id }
@@ -16,7 +16,7 @@ pub(crate) fn number_of(fine: bool, free: bool, id: u32) -> u64
 // Whether a number is none of those of the places from a place on.
 fn number_alone(t: [u64; 8], n: u64, from: usize) -> bool
     requires { from < 9 }
-    ensures { result ≡ all (apartNumber n) (drop from t) }
+    ensures { result ≡ all (apart_number n) (drop from t) }
 {
     let mut i = from;
     while i < 8 {
@@ -31,7 +31,7 @@ fn number_alone(t: [u64; 8], n: u64, from: usize) -> bool
 // Whether a number is that of a place that is fine, and free or apart from those of the places from a place on.
 fn number_fine(t: [u64; 8], n: u64, from: usize) -> bool
     requires { from < 9 }
-    ensures { result ≡ numberFine n (drop from t) }
+    ensures { result ≡ number_fine n (drop from t) }
 {
     if n == 0 {
         return false;
@@ -45,7 +45,7 @@ fn number_fine(t: [u64; 8], n: u64, from: usize) -> bool
 
 // Whether these are the numbers of a table's places that are all fine, and no two of them known by the same number.
 pub(crate) fn numbers_fine(t: [u64; 8]) -> bool
-    ensures { result ≡ numbersFine t }
+    ensures { result ≡ numbers_fine t }
 {
     let mut i: usize = 0;
     while i < 8 {

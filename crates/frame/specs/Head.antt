@@ -4,8 +4,8 @@ use Rattle.wire.specs.Bytes.{num, bytes}
 use Rattle.frame.specs.declared.Header.{Header}
 
 -- "24 bytes: R_CTL, D_ID(3), reserved, S_ID(3), TYPE, F_CTL(3), SEQ_ID, DF_CTL, SEQ_CNT(2), OX_ID(2), RX_ID(2), OFFSET(4). The reserved byte is kept on reading."
-unfoldable pub headerOf : List ℕ → Header
-headerOf f =
+unfoldable pub header_of : List ℕ → Header
+header_of f =
     record {
       r_ctl = get_or f 0 0;
       d_id = num 3 f 1;
@@ -22,8 +22,8 @@ headerOf f =
     }
 
 -- the same 24 bytes, written from the fields
-unfoldable pub headerBytes : Header → List ℕ
-headerBytes h =
+unfoldable pub header_bytes : Header → List ℕ
+header_bytes h =
     h.r_ctl ∷ bytes 3 h.d_id
     ++ (h.reserved ∷ bytes 3 h.s_id)
     ++ (h.protocol ∷ bytes 3 h.f_ctl)

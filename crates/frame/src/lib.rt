@@ -1,7 +1,7 @@
 // The frame header, read and written.
 ghost use Rattle.std.specs.Prelude.{◌≡◌};
 ghost use Rattle.wire.specs.Bytes.{onto};
-ghost use Rattle.frame.specs.Head.{headerOf, headerBytes};
+ghost use Rattle.frame.specs.Head.{header_of, header_bytes};
 
 use wire::{be16, be24, be32, byte_at, bytes2, bytes3, bytes4, put_front};
 
@@ -33,7 +33,7 @@ impl Header {
 
 // The header of any frame; a frame of fewer than 24 bytes reads as if zeros followed it.
 pub fn read_header(frame: &[u8]) -> Header
-    ensures { result ≡ headerOf frame.now }
+    ensures { result ≡ header_of frame.now }
 {
     Header {
         r_ctl: byte_at(frame, 0),
@@ -53,7 +53,7 @@ pub fn read_header(frame: &[u8]) -> Header
 
 // The 24 bytes of a header; of a 24-bit field the low three bytes.
 fn header_bytes(h: Header) -> [u8; 24]
-    ensures { result ≡ headerBytes h }
+    ensures { result ≡ header_bytes h }
 {
     let d = bytes3(h.d_id);
     let s = bytes3(h.s_id);
@@ -70,7 +70,7 @@ fn header_bytes(h: Header) -> [u8; 24]
 
 // The header at the front of the buffer, as much of it as fits.
 pub fn write_header(h: Header, out: &mut [u8])
-    ensures { out.new ≡ onto (headerBytes h) out.old }
+    ensures { out.new ≡ onto (header_bytes h) out.old }
 {
     let b = header_bytes(h);
     put_front(out, &b);

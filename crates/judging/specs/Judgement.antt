@@ -2,7 +2,7 @@
 use Rattle.std.specs.Prelude.{ℕ, cond, not, List, ◌++◌, eqb, ltb, length, get_or}
 use Rattle.params.specs.declared.Verdict.{Verdict}
 use Rattle.params.specs.declared.Verdict.TheVariants as verdict
-use Rattle.params.specs.Words.{params_of, verdictOf}
+use Rattle.params.specs.Words.{params_of, verdict_of}
 use Rattle.judging.specs.declared.Judgement.{Judgement}
 use Rattle.judging.specs.declared.Judgement.TheVariants.{Accept, Reject, NotPlogi, Short}
 use Rattle.saying.specs.Text.{decimal}
@@ -14,8 +14,8 @@ judged verdict.Accept = Accept
 judged (verdict.Reject f) = Reject f
 
 -- "reads 116-byte login records without header, each against an empty drive; a record not starting 03h prints its number and NOT PLOGI"; a cut end is SHORT
-unfoldable pub judgementOf : List ℕ → Judgement
-judgementOf s = cond (ltb (length s) 116) (Short (length s)) (cond (not (eqb (get_or s 0 0) 3)) NotPlogi (judged (verdictOf (params_of s 4))))
+unfoldable pub judgement_of : List ℕ → Judgement
+judgement_of s = cond (ltb (length s) 116) (Short (length s)) (cond (not (eqb (get_or s 0 0) 3)) NotPlogi (judged (verdict_of (params_of s 4))))
 
 -- the record's number, and what is said of it
 unfoldable pub line_of : ℕ → Judgement → List ℕ

@@ -1,10 +1,10 @@
 // What the program judges says of a login record: the judgement, and its line of text.
 ghost use Rattle.std.specs.Prelude.{◌≡◌, ◌≤◌, ◌<◌, length};
-ghost use Rattle.params.specs.Words.{reasonOf};
+ghost use Rattle.params.specs.Words.{reason_of};
 ghost use Rattle.wire.specs.Bytes.{Wrote};
 ghost use Rattle.saying.specs.Text.{LineIs};
-ghost use Rattle.judging.specs.Judgement.{judgementOf, line_of};
-ghost use Rattle.judging.specs.Text.{text_of, hexDigit, acceptText, rejectText, notPlogiText, shortText};
+ghost use Rattle.judging.specs.Judgement.{judgement_of, line_of};
+ghost use Rattle.judging.specs.Text.{text_of, hex_digit, accept_text, reject_text, not_plogi_text, short_text};
 
 use params::{Fault, Params, Verdict};
 use saying::{Line, put_decimal};
@@ -20,7 +20,7 @@ pub enum Judgement {
 
 // The judgement of a login record against an empty drive; of fewer than 116 bytes, how many there are.
 pub fn judge(login: &[u8]) -> Judgement
-    ensures { result ≡ judgementOf login.now }
+    ensures { result ≡ judgement_of login.now }
 {
     let n = login.len();
     if n < 116 {
@@ -63,21 +63,21 @@ fn put_text(j: Judgement, out: &mut [u8]) -> usize
 }
 
 fn put_accept(out: &mut [u8]) -> usize
-    ensures { Wrote acceptText out.old out.new result 28 }
+    ensures { Wrote accept_text out.old out.new result 28 }
 {
     put_front(out, b" ACC\n");
     5
 }
 
 fn put_not_plogi(out: &mut [u8]) -> usize
-    ensures { Wrote notPlogiText out.old out.new result 28 }
+    ensures { Wrote not_plogi_text out.old out.new result 28 }
 {
     put_front(out, b" NOT PLOGI\n");
     11
 }
 
 fn put_reject(f: Fault, out: &mut [u8]) -> usize
-    ensures { Wrote (rejectText (reasonOf f).reason (reasonOf f).explanation) out.old out.new result 28 }
+    ensures { Wrote (reject_text (reason_of f).reason (reason_of f).explanation) out.old out.new result 28 }
 {
     let w = f.why();
     let r = w.reason;
@@ -104,7 +104,7 @@ fn put_reject(f: Fault, out: &mut [u8]) -> usize
 
 fn put_short(n: usize, out: &mut [u8]) -> usize
     requires { 28 ≤ length out.old }
-    ensures { Wrote (shortText n) out.old out.new result 28 }
+    ensures { Wrote (short_text n) out.old out.new result 28 }
 {
     put_front(out, b" SHORT ");
     let k = put_decimal(n as u64, &mut out[7..]);
@@ -116,7 +116,7 @@ fn put_short(n: usize, out: &mut [u8]) -> usize
 // A digit below 16 in upper case.
 fn hex_digit(d: u8) -> u8
     requires { d < 16 }
-    ensures { result ≡ hexDigit d }
+    ensures { result ≡ hex_digit d }
 {
     if d < 10 { b'0' + d } else { b'A' - 10 + d }
 }

@@ -8,55 +8,55 @@ use lib.ListN.{length, get_or}
 use borrow.Author.Tests.{eqb-true, not-false}
 use Rattle.tables.specs.declared.Found.{Found}
 use Rattle.tables.specs.declared.Found.TheVariants.{At, Nothing}
-use Rattle.tables.specs.Lists.{all, onFound}
+use Rattle.tables.specs.Lists.{all, on_found}
 use Rattle.wire.specs.Bytes.{num, name_of}
 use Rattle.frame.specs.declared.Header.{Header}
 use Rattle.params.specs.declared.Params.{Params}
 use Rattle.params.specs.declared.Verdict.{Verdict}
 use Rattle.params.specs.declared.Verdict.TheVariants as verdict
-use Rattle.params.specs.Words.{params_of, verdictOf}
+use Rattle.params.specs.Words.{params_of, verdict_of}
 use Rattle.params.proofs.Exactly.{accepted}
 use Rattle.state.specs.declared.Login.{Login}
 use Rattle.state.specs.declared.Port.{Port}
 use Rattle.state.specs.declared.Unit.{Unit}
 use Rattle.state.specs.declared.Change.TheVariants.{Keep, EndHost}
-use Rattle.state.specs.Changes.{hasAddress, hasName, loginAt, withExchange, endedAt, changedAll}
-use Rattle.state.specs.Tables.{findLogin, findExchange, loginOf}
-use Rattle.state.proofs.Places.{found-has}
-use Rattle.formed.specs.Formed.{loginFine}
+use Rattle.state.specs.Changes.{has_address, has_name, login_at, with_exchange, ended_at, changed_all}
+use Rattle.state.specs.Tables.{find_login, find_exchange, login_of}
+use Rattle.state.proofs.Places.{found_has}
+use Rattle.formed.specs.Formed.{login_fine}
 use Rattle.calls.specs.declared.View.{View}
 use Rattle.calls.specs.declared.Decision.{Decision}
-use Rattle.calls.specs.View.{placeFor, view_of}
+use Rattle.calls.specs.View.{place_for, view_of}
 use Rattle.calls.specs.Others.{Another, Leaves, Elsewhere, LeavesLogin}
-use Rattle.calls.proofs.Views.{view-seat, view-login, view-place}
-use Rattle.calls.proofs.Decisions.{by_cond, on-cond, on-found}
-use Rattle.calls.proofs.Others.{other-has, seat-another, place-another}
+use Rattle.calls.proofs.Views.{view_seat, view_login, view_place}
+use Rattle.calls.proofs.Decisions.{by_cond, on_cond, on_found_lem}
+use Rattle.calls.proofs.Others.{other_has, seat_another, place_another}
 use Rattle.link.specs.declared.Outcome.{Outcome}
 use Rattle.link.specs.declared.Outcome.TheVariants.{Place, Rejected}
-use Rattle.link.specs.Link.{size_of, newLogin, outcomeAfter, endsFor}
+use Rattle.link.specs.Link.{size_of, new_login, outcome_after, ends_for}
 use Rattle.link.specs.Login.{named_in, Moves}
-use Rattle.link.specs.Turn.{outcomeIn, loginDecision, plogiTurn, logoTurn, linkTurn, abortedLogin, abtsTurn}
-use Rattle.link.proofs.Services.{new-has, service-other}
+use Rattle.link.specs.Turn.{outcome_in, login_decision, plogi_turn, logo_turn, link_turn, aborted_login, abts_turn}
+use Rattle.link.proofs.Services.{new_has, service_other}
 
 -- an exchange that ends leaves the address of its login
-aborted-has : (l : Login) (ox a : ℕ) → hasAddress a (abortedLogin l ox) ≡ hasAddress a l
-unfolding abortedLogin withExchange hasAddress
-aborted-has l ox a = by (findExchange l ox)
+aborted_has : (l : Login) (ox a : ℕ) → has_address a (aborted_login l ox) ≡ has_address a l
+unfolding aborted_login with_exchange has_address
+aborted_has l ox a = by (find_exchange l ox)
   where
-    by : (f : Found) → hasAddress a (onFound f (λ j. endedAt l j) l) ≡ hasAddress a l
+    by : (f : Found) → has_address a (on_found f (λ j. ended_at l j) l) ≡ has_address a l
     by (At j) = refl
     by Nothing = refl
 
 -- what a PLOGI by which the host of a has not moved has: where it is of right size and passes, another name than a's login
-pub unmoved : (p : Port) (h : Header) (a : ℕ) (f : List ℕ) → h.r_ctl ≡ 0x22 → (Moves p a h f → ⊥) → get_or f 24 0 ≡ 3 → length f ≡ 140 → verdictOf (params_of f 28) ≡ verdict.Accept
-    → hasName (named_in f) (loginOf p a) ≡ false
-unmoved p h a f link still c s e = by (hasName (named_in f) (loginOf p a)) refl
+pub unmoved : (p : Port) (h : Header) (a : ℕ) (f : List ℕ) → h.r_ctl ≡ 0x22 → (Moves p a h f → ⊥) → get_or f 24 0 ≡ 3 → length f ≡ 140 → verdict_of (params_of f 28) ≡ verdict.Accept
+    → has_name (named_in f) (login_of p a) ≡ false
+unmoved p h a f link still c s e = by (has_name (named_in f) (login_of p a)) refl
   where
-    by : (b : Bool) → hasName (named_in f) (loginOf p a) ≡ b → b ≡ false
+    by : (b : Bool) → has_name (named_in f) (login_of p a) ≡ b → b ≡ false
     by true g = absurd (still (record { link = link; plogi = c; size = s; tests = accepted (params_of f 28) e; name = g }))
     by false g = refl
 
-module _ (u : Unit) (p : Port) (fine : all (loginFine u p.address) p.logins ≡ true) (h : Header) (a : ℕ) (n : a ≡ h.s_id → ⊥) where
+module _ (u : Unit) (p : Port) (fine : all (login_fine u p.address) p.logins ≡ true) (h : Header) (a : ℕ) (n : a ≡ h.s_id → ⊥) where
   abbrev v : View
   v = view_of u p h.s_id
 
@@ -65,76 +65,76 @@ module _ (u : Unit) (p : Port) (fine : all (loginFine u p.address) p.logins ≡ 
 
   -- the login that is seen is not a's, and neither is the place where it stands
   module _ (i : ℕ) (e : v.seat ≡ At i) where
-    at : findLogin p h.s_id ≡ At i
-    at = sym (view-seat u p h.s_id fine) ∙ e
+    at : find_login p h.s_id ≡ At i
+    at = sym (view_seat u p h.s_id fine) ∙ e
 
-    login-other : hasAddress a v.login ≡ false
-    login-other = ap (hasAddress a) (view-login u p h.s_id fine i at) ∙ other-has a h.s_id (loginAt p i) n (found-has p h.s_id i at)
+    login_other : has_address a v.login ≡ false
+    login_other = ap (has_address a) (view_login u p h.s_id fine i at) ∙ other_has a h.s_id (login_at p i) n (found_has p h.s_id i at)
 
-    stores-other : (m : Login) → hasAddress a m ≡ false → Another (changedAll Keep p) a (At i) m
-    stores-other m k = (seat-another p a h.s_id i Keep n at, k)
+    stores_other : (m : Login) → has_address a m ≡ false → Another (changed_all Keep p) a (At i) m
+    stores_other m k = (seat_another p a h.s_id i Keep n at, k)
 
-  plogi-another : (q : Params) → Other (plogiTurn v.keys h.s_id q)
-  unfolding plogiTurn outcomeIn
-  plogi-another q = by (verdictOf q) (placeFor v.keys h.s_id name) refl
+  plogi_another : (q : Params) → Other (plogi_turn v.keys h.s_id q)
+  unfolding plogi_turn outcome_in
+  plogi_another q = by (verdict_of q) (place_for v.keys h.s_id name) refl
     where
       name : ℕ
       name = name_of q.port_name
 
-      by : (t : Verdict) (f : Found) → placeFor v.keys h.s_id name ≡ f → Other (loginDecision (outcomeAfter t f) (endsFor t h.s_id name) h.s_id q)
+      by : (t : Verdict) (f : Found) → place_for v.keys h.s_id name ≡ f → Other (login_decision (outcome_after t f) (ends_for t h.s_id name) h.s_id q)
       by verdict.Accept (At j) e =
-          (place-another (changedAll (EndHost h.s_id name) p) a j (sym (view-place u p h.s_id fine name) ∙ e), other-has a h.s_id (newLogin h.s_id q) n (new-has h.s_id q))
+          (place_another (changed_all (EndHost h.s_id name) p) a j (sym (view_place u p h.s_id fine name) ∙ e), other_has a h.s_id (new_login h.s_id q) n (new_has h.s_id q))
       by verdict.Accept Nothing e = tt
       by (verdict.Reject t) f e = tt
 
-  pub link-another : (f : List ℕ) → Other (linkTurn v h f)
-  unfolding linkTurn logoTurn
-  link-another f =
+  pub link_another : (f : List ℕ) → Other (link_turn v h f)
+  unfolding link_turn logo_turn
+  link_another f =
       let code = get_or f 24 0 in
-      on-cond Other (eqb (size_of code) 0) tt
-      (on-cond Other (not (eqb (length f) (24 + size_of code))) tt
-      (on-cond Other (eqb code 0x03) (plogi-another (params_of f 28))
-      (on-cond Other (eqb code 0x05) (on-cond Other (eqb (num 3 f 29) h.s_id) tt tt)
-      (on-found Other v.seat _ _ (λ i e. stores-other i e _ (service-other code v.login (findExchange v.login) h.s_id f a (login-other i e))) (λ _. tt)))))
+      on_cond Other (eqb (size_of code) 0) tt
+      (on_cond Other (not (eqb (length f) (24 + size_of code))) tt
+      (on_cond Other (eqb code 0x03) (plogi_another (params_of f 28))
+      (on_cond Other (eqb code 0x05) (on_cond Other (eqb (num 3 f 29) h.s_id) tt tt)
+      (on_found_lem Other v.seat _ _ (λ i e. stores_other i e _ (service_other code v.login (find_exchange v.login) h.s_id f a (login_other i e))) (λ _. tt)))))
 
-  pub abts-another : Other (abtsTurn v h)
-  unfolding abtsTurn
-  abts-another =
-      on-found Other v.seat _ _
-      (λ i e. on-cond Other (eqb h.rx_id 0xffff) (stores-other i e _ (aborted-has v.login h.ox_id a ∙ login-other i e)) tt) (λ _. tt)
+  pub abts_another : Other (abts_turn v h)
+  unfolding abts_turn
+  abts_another =
+      on_found_lem Other v.seat _ _
+      (λ i e. on_cond Other (eqb h.rx_id 0xffff) (stores_other i e _ (aborted_has v.login h.ox_id a ∙ login_other i e)) tt) (λ _. tt)
 
   -- a's record is left, where its host did not move
   abbrev Left : Decision → Type 0
   Left d = LeavesLogin p a d
 
-  plogi-leaves : (q : Params) → (verdictOf q ≡ verdict.Accept → hasName (name_of q.port_name) (loginOf p a) ≡ false) → Left (plogiTurn v.keys h.s_id q)
-  unfolding plogiTurn
-  plogi-leaves q k = by (verdictOf q) (outcomeIn (verdictOf q) v.keys h.s_id name) k
+  plogi_leaves : (q : Params) → (verdict_of q ≡ verdict.Accept → has_name (name_of q.port_name) (login_of p a) ≡ false) → Left (plogi_turn v.keys h.s_id q)
+  unfolding plogi_turn
+  plogi_leaves q k = by (verdict_of q) (outcome_in (verdict_of q) v.keys h.s_id name) k
     where
       name : ℕ
       name = name_of q.port_name
 
-      ends : (t : Verdict) → (t ≡ verdict.Accept → hasName name (loginOf p a) ≡ false) → Leaves a (loginOf p a) (endsFor t h.s_id name)
+      ends : (t : Verdict) → (t ≡ verdict.Accept → has_name name (login_of p a) ≡ false) → Leaves a (login_of p a) (ends_for t h.s_id name)
       ends verdict.Accept g = (n, g refl)
       ends (verdict.Reject t) g = n
 
-      by : (t : Verdict) (o : Outcome) → (t ≡ verdict.Accept → hasName name (loginOf p a) ≡ false) → Left (loginDecision o (endsFor t h.s_id name) h.s_id q)
+      by : (t : Verdict) (o : Outcome) → (t ≡ verdict.Accept → has_name name (login_of p a) ≡ false) → Left (login_decision o (ends_for t h.s_id name) h.s_id q)
       by t (Place j) g = ends t g
       by t (Rejected r e) g = ends t g
 
-  pub link-leaves : (f : List ℕ) → h.r_ctl ≡ 0x22 → (Moves p a h f → ⊥) → Left (linkTurn v h f)
-  unfolding linkTurn logoTurn size_of
-  link-leaves f link still =
+  pub link_leaves : (f : List ℕ) → h.r_ctl ≡ 0x22 → (Moves p a h f → ⊥) → Left (link_turn v h f)
+  unfolding link_turn logo_turn size_of
+  link_leaves f link still =
       let code = get_or f 24 0 in
       by_cond Left (eqb (size_of code) 0) (λ _. tt)
       (λ _. by_cond Left (not (eqb (length f) (24 + size_of code))) (λ _. tt)
-      (λ s. by_cond Left (eqb code 0x03) (λ c. plogi-leaves (params_of f 28) (unmoved p h a f link still (eqb-true code 3 c) (sized f (eqb-true code 3 c) s)))
-      (λ _. by_cond Left (eqb code 0x05) (λ _. on-cond Left (eqb (num 3 f 29) h.s_id) n tt)
-      (λ _. on-found Left v.seat _ _ (λ i e. tt) (λ _. tt)))))
+      (λ s. by_cond Left (eqb code 0x03) (λ c. plogi_leaves (params_of f 28) (unmoved p h a f link still (eqb-true code 3 c) (sized f (eqb-true code 3 c) s)))
+      (λ _. by_cond Left (eqb code 0x05) (λ _. on_cond Left (eqb (num 3 f 29) h.s_id) n tt)
+      (λ _. on_found_lem Left v.seat _ _ (λ i e. tt) (λ _. tt)))))
     where
       sized : (f : List ℕ) → get_or f 24 0 ≡ 3 → not (eqb (length f) (24 + size_of (get_or f 24 0))) ≡ false → length f ≡ 140
       sized f c s = eqb-true (length f) 140 (not-false (eqb (length f) 140) (rw c at s))
 
-  pub abts-leaves : Left (abtsTurn v h)
-  unfolding abtsTurn
-  abts-leaves = on-found Left v.seat _ _ (λ i e. on-cond Left (eqb h.rx_id 0xffff) tt tt) (λ _. tt)
+  pub abts_leaves : Left (abts_turn v h)
+  unfolding abts_turn
+  abts_leaves = on_found_lem Left v.seat _ _ (λ i e. on_cond Left (eqb h.rx_id 0xffff) tt tt) (λ _. tt)

@@ -9,36 +9,36 @@ use lib.ListN.{get_or}
 use borrow.Author.Tests.{eq-eqb}
 use Rattle.tables.specs.declared.Found.{Found}
 use Rattle.tables.specs.declared.Found.TheVariants.{At, Nothing}
-use Rattle.tables.specs.Lists.{onFound, pairs}
+use Rattle.tables.specs.Lists.{on_found, pairs}
 use Rattle.wire.specs.Bytes.{num, part, name_of}
 use Rattle.params.specs.declared.Params.{Params}
 use Rattle.params.specs.declared.Verdict.{Verdict}
 use Rattle.params.specs.declared.Verdict.TheVariants as verdict
-use Rattle.params.specs.Words.{params_of, verdictOf}
+use Rattle.params.specs.Words.{params_of, verdict_of}
 use Rattle.state.specs.declared.Login.{Login}
 use Rattle.state.specs.declared.Port.{Port}
 use Rattle.state.specs.declared.Change.TheVariants.{EndLogin}
-use Rattle.state.specs.Changes.{emptyLogin, hasAddress, loginAt, withLogin, withExchange, withoutExchanges, endedAt, changedAll}
-use Rattle.state.proofs.Places.{found-has}
-use Rattle.state.specs.Tables.{findLogin, freeLogin}
-use Rattle.formed.specs.Formed.{apartLogin}
+use Rattle.state.specs.Changes.{empty_login, has_address, login_at, with_login, with_exchange, without_exchanges, ended_at, changed_all}
+use Rattle.state.proofs.Places.{found_has}
+use Rattle.state.specs.Tables.{find_login, free_login}
+use Rattle.formed.specs.Formed.{apart_login}
 use Rattle.reply.specs.declared.Reply.{Reply}
 use Rattle.reply.specs.declared.Reply.TheVariants as reply
 use Rattle.reply.specs.declared.Accepted.{Accepted}
 use Rattle.reply.specs.declared.Accepted.TheVariants as accepted
 use Rattle.calls.specs.declared.Served.{Served}
-use Rattle.calls.specs.Turn.{decidedAs, servedAs, served_at}
-use Rattle.calls.proofs.Others.{empty-has}
+use Rattle.calls.specs.Turn.{decided_as, served_as, served_at}
+use Rattle.calls.proofs.Others.{empty_has}
 use Rattle.link.specs.declared.Outcome.{Outcome}
 use Rattle.link.specs.declared.Outcome.TheVariants.{Place, Rejected}
-use Rattle.link.specs.Link.{newLogin, outcomeAfter, endsFor, endsBy, outcomeOf, outcomeReply, outcomePort, plogiOf, namesDiffer, provenBy, pdiscOf, adiscOf, logoOf, pairFine, pageFine, prliOf, prloOf, rrqOf, serviceOf}
-use Rattle.link.specs.Record.{Record, out, held, keptFrom, recordAt, recordOf, proved, paired, unpaired}
-use Rattle.link.proofs.Records.{found-record, end-record, host-record, store-record, drop-record, place-record}
+use Rattle.link.specs.Link.{new_login, outcome_after, ends_for, ends_by, outcome_of, outcome_reply, outcome_port, plogi_of, names_differ, proven_by, pdisc_of, adisc_of, logo_of, pair_fine, page_fine, prli_of, prlo_of, rrq_of, service_of}
+use Rattle.link.specs.Record.{Record, out, held, kept_from, record_at, record_of, proved, paired, unpaired}
+use Rattle.link.proofs.Records.{found_record, end_record, host_record, store_record, drop_record, place_record}
 
 -- after PLOGI: ACC, and the record is unpaired, proven and of the parameters sent; LS_RJT, and it is `out`; there is no other reply
 abbrev pub AfterPlogi : Params → Reply → Record → Type 0
 AfterPlogi q reply.Nothing r = ⊥
-AfterPlogi q (reply.Accept a) r = r ≡ held false true (keptFrom q)
+AfterPlogi q (reply.Accept a) r = r ≡ held false true (kept_from q)
 AfterPlogi q (reply.Reject x y) r = r ≡ out
 AfterPlogi q reply.Logout r = ⊥
 AfterPlogi q reply.AbortAccept r = ⊥
@@ -84,63 +84,63 @@ AfterAbort o (reply.Data x) = ⊥
 AfterAbort o (reply.Ready x y) = ⊥
 
 -- PLOGI
-pub new-has : (a : ℕ) (q : Params) → hasAddress a (newLogin a q) ≡ true
-unfolding newLogin hasAddress
-new-has a q = eq-eqb a a refl
+pub new_has : (a : ℕ) (q : Params) → has_address a (new_login a q) ≡ true
+unfolding new_login has_address
+new_has a q = eq-eqb a a refl
 
-pub new-record : (a : ℕ) (q : Params) → recordAt (newLogin a q) ≡ held false true (keptFrom q)
-unfolding newLogin
-new-record a q = refl
+pub new_record : (a : ℕ) (q : Params) → record_at (new_login a q) ≡ held false true (kept_from q)
+unfolding new_login
+new_record a q = refl
 
-placed-free : (v : Verdict) (x : Found) (i : ℕ) → outcomeAfter v x ≡ Place i → x ≡ At i
-placed-free verdict.Accept (At j) i e = cc
-placed-free verdict.Accept Nothing i e = let z : ◌≡◌ {A = ℕ} 0 1 = cc in absurd (omega arith)
-placed-free (verdict.Reject t) x i e = let z : ◌≡◌ {A = ℕ} 0 1 = cc in absurd (omega arith)
+placed_free : (v : Verdict) (x : Found) (i : ℕ) → outcome_after v x ≡ Place i → x ≡ At i
+placed_free verdict.Accept (At j) i e = cc
+placed_free verdict.Accept Nothing i e = let z : ◌≡◌ {A = ℕ} 0 1 = cc in absurd (omega arith)
+placed_free (verdict.Reject t) x i e = let z : ◌≡◌ {A = ℕ} 0 1 = cc in absurd (omega arith)
 
-outcome-free : (p : Port) (q : Params) (i : ℕ) → outcomeOf p q ≡ Place i → freeLogin p ≡ At i
-unfolding outcomeOf
-outcome-free p q i e = placed-free (verdictOf q) (freeLogin p) i e
+outcome_free : (p : Port) (q : Params) (i : ℕ) → outcome_of p q ≡ Place i → free_login p ≡ At i
+unfolding outcome_of
+outcome_free p q i e = placed_free (verdict_of q) (free_login p) i e
 
-outcome-record : (p : Port) (a : ℕ) (q : Params) (o : Outcome) → outcomeOf p q ≡ o → recordOf p a ≡ out
-    → AfterPlogi q (outcomeReply o) (recordOf (outcomePort o p (newLogin a q)) a)
-outcome-record p a q (Place i) e n = place-record p a i (newLogin a q) (outcome-free p q i e) (new-has a q) n ∙ new-record a q
-outcome-record p a q (Rejected x y) e n = n
+outcome_record : (p : Port) (a : ℕ) (q : Params) (o : Outcome) → outcome_of p q ≡ o → record_of p a ≡ out
+    → AfterPlogi q (outcome_reply o) (record_of (outcome_port o p (new_login a q)) a)
+outcome_record p a q (Place i) e n = place_record p a i (new_login a q) (outcome_free p q i e) (new_has a q) n ∙ new_record a q
+outcome_record p a q (Rejected x y) e n = n
 
 -- a service on a login, as the record sees it
 data Does (g : Record → Record) (l : Login) : Served → Type 0 where
-  takes : (x : Accepted) (m : Login) → ((b : ℕ) → hasAddress b m ≡ hasAddress b l) → recordAt m ≡ g (recordAt l) → Does g l (servedAs (reply.Accept x) m)
-  rejects : (x y : ℕ) → Does g l (servedAs (reply.Reject x y) l)
-  ends : Does g l (servedAs reply.Logout emptyLogin)
+  takes : (x : Accepted) (m : Login) → ((b : ℕ) → has_address b m ≡ has_address b l) → record_at m ≡ g (record_at l) → Does g l (served_as (reply.Accept x) m)
+  rejects : (x y : ℕ) → Does g l (served_as (reply.Reject x y) l)
+  ends : Does g l (served_as reply.Logout empty_login)
 
-does-cond : {g : Record → Record} {l : Login} (b : Bool) {s t : Served} → Does g l s → Does g l t → Does g l (cond b s t)
-does-cond true x y = x
-does-cond false x y = y
+does_cond : {g : Record → Record} {l : Login} (b : Bool) {s t : Served} → Does g l s → Does g l t → Does g l (cond b s t)
+does_cond true x y = x
+does_cond false x y = y
 
-pdisc-does : (l : Login) (q : Params) → Does proved l (pdiscOf l q)
-unfolding pdiscOf hasAddress
-pdisc-does l q = does-cond (namesDiffer l q.port_name q.node_name) ends (by (verdictOf q))
+pdisc_does : (l : Login) (q : Params) → Does proved l (pdisc_of l q)
+unfolding pdisc_of has_address
+pdisc_does l q = does_cond (names_differ l q.port_name q.node_name) ends (by (verdict_of q))
   where
-    by : (v : Verdict) → Does proved l (provenBy v l)
+    by : (v : Verdict) → Does proved l (proven_by v l)
     by verdict.Accept = takes _ _ (λ b. refl) refl
     by (verdict.Reject t) = rejects _ _
 
-adisc-does : (l : Login) (from named : ℕ) (port node : List ℕ) → Does proved l (adiscOf l from named port node)
-unfolding adiscOf hasAddress
-adisc-does l from named port node = does-cond (namesDiffer l port node) ends (does-cond (eqb named from) (takes _ _ (λ b. refl) refl) ends)
+adisc_does : (l : Login) (from named : ℕ) (port node : List ℕ) → Does proved l (adisc_of l from named port node)
+unfolding adisc_of has_address
+adisc_does l from named port node = does_cond (names_differ l port node) ends (does_cond (eqb named from) (takes _ _ (λ b. refl) refl) ends)
 
-prli-does : (l : Login) (page protocol flags roles : ℕ) → Does paired l (prliOf l page protocol flags roles)
-unfolding prliOf hasAddress
-prli-does l page protocol flags roles = does-cond (pairFine page protocol flags roles) (takes _ _ (λ b. refl) refl) (rejects _ _)
+prli_does : (l : Login) (page protocol flags roles : ℕ) → Does paired l (prli_of l page protocol flags roles)
+unfolding prli_of has_address
+prli_does l page protocol flags roles = does_cond (pair_fine page protocol flags roles) (takes _ _ (λ b. refl) refl) (rejects _ _)
 
-prlo-does : (l : Login) (page protocol : ℕ) → Does unpaired l (prloOf l page protocol)
-unfolding prloOf withoutExchanges hasAddress
-prlo-does l page protocol = does-cond (pageFine page protocol) (takes _ _ (λ b. refl) refl) (rejects _ _)
+prlo_does : (l : Login) (page protocol : ℕ) → Does unpaired l (prlo_of l page protocol)
+unfolding prlo_of without_exchanges has_address
+prlo_does l page protocol = does_cond (page_fine page protocol) (takes _ _ (λ b. refl) refl) (rejects _ _)
 
-rrq-does : (l : Login) (from named : ℕ) (place : Found) → Does (λ r. r) l (rrqOf l from named place)
-unfolding rrqOf
-rrq-does l from named place = does-cond (eqb named from) (by place) (rejects _ _)
+rrq_does : (l : Login) (from named : ℕ) (place : Found) → Does (λ r. r) l (rrq_of l from named place)
+unfolding rrq_of
+rrq_does l from named place = does_cond (eqb named from) (by place) (rejects _ _)
   where
-    by : (x : Found) → Does (λ r. r) l (onFound x (λ j. servedAs (reply.Reject 0x03 0x17) l) (servedAs (reply.Accept accepted.Short) l))
+    by : (x : Found) → Does (λ r. r) l (on_found x (λ j. served_as (reply.Reject 0x03 0x17) l) (served_as (reply.Accept accepted.Short) l))
     by (At j) = rejects _ _
     by Nothing = takes _ _ (λ b. refl) refl
 
@@ -148,66 +148,66 @@ rrq-does l from named place = does-cond (eqb named from) (by place) (rejects _ _
 unfoldable pub effect_of : ℕ → Record → Record
 effect_of code = cond (eqb code 0x50) proved (cond (eqb code 0x52) proved (cond (eqb code 0x20) paired (cond (eqb code 0x21) unpaired (λ r. r))))
 
-does-code : {l : Login} (b : Bool) {g k : Record → Record} {s t : Served} → Does g l s → Does k l t → Does (cond b g k) l (cond b s t)
-does-code true x y = x
-does-code false x y = y
+does_code : {l : Login} (b : Bool) {g k : Record → Record} {s t : Served} → Does g l s → Does k l t → Does (cond b g k) l (cond b s t)
+does_code true x y = x
+does_code false x y = y
 
-service-does : (code : ℕ) (l : Login) (sought : ℕ → Found) (from : ℕ) (f : List ℕ) → Does (effect_of code) l (serviceOf code l sought from f)
-unfolding effect_of serviceOf
-service-does code l sought from f =
-    does-code (eqb code 0x50) (pdisc-does l (params_of f 28))
-    (does-code (eqb code 0x52) (adisc-does l from (num 3 f 49) (part 8 f 32) (part 8 f 40))
-    (does-code (eqb code 0x20) (prli-does l (num 3 f 25) (get_or f 28 0) (get_or f 30 0) (get_or f 43 0))
-    (does-code (eqb code 0x21) (prlo-does l (num 3 f 25) (get_or f 28 0)) (rrq-does l from (num 3 f 29) (sought (num 2 f 32))))))
+service_does : (code : ℕ) (l : Login) (sought : ℕ → Found) (from : ℕ) (f : List ℕ) → Does (effect_of code) l (service_of code l sought from f)
+unfolding effect_of service_of
+service_does code l sought from f =
+    does_code (eqb code 0x50) (pdisc_does l (params_of f 28))
+    (does_code (eqb code 0x52) (adisc_does l from (num 3 f 49) (part 8 f 32) (part 8 f 40))
+    (does_code (eqb code 0x20) (prli_does l (num 3 f 25) (get_or f 28 0) (get_or f 30 0) (get_or f 43 0))
+    (does_code (eqb code 0x21) (prlo_does l (num 3 f 25) (get_or f 28 0)) (rrq_does l from (num 3 f 29) (sought (num 2 f 32))))))
 
 -- a service leaves the login that of the same address, or ends it
-pub service-other : (code : ℕ) (l : Login) (sought : ℕ → Found) (from : ℕ) (f : List ℕ) (a : ℕ) → hasAddress a l ≡ false → hasAddress a (serviceOf code l sought from f).login ≡ false
-service-other code l sought from f a h = by (service-does code l sought from f)
+pub service_other : (code : ℕ) (l : Login) (sought : ℕ → Found) (from : ℕ) (f : List ℕ) (a : ℕ) → has_address a l ≡ false → has_address a (service_of code l sought from f).login ≡ false
+service_other code l sought from f a h = by (service_does code l sought from f)
   where
-    by : {g : Record → Record} {s : Served} → Does g l s → hasAddress a s.login ≡ false
+    by : {g : Record → Record} {s : Served} → Does g l s → has_address a s.login ≡ false
     by (takes x m k e) = k a ∙ h
     by (rejects x y) = h
-    by ends = empty-has a
+    by ends = empty_has a
 
 -- the sender's login is at place i
-module _ (p : Port) (a i : ℕ) (at : findLogin p a ≡ At i) where
-  does-record : pairs apartLogin p.logins ≡ true → {g : Record → Record} {s : Served} → Does g (loginAt p i) s
-      → AfterService g (recordOf p a) s.reply (recordOf (served_at p i s).port a)
-  does-record d {g} (takes x m h e) = store-record p a i at m (h a ∙ found-has p a i at) ∙ e ∙ ap g (sym (found-record p a i at))
-  does-record d (rejects x y) = store-record p a i at (loginAt p i) (found-has p a i at) ∙ sym (found-record p a i at)
-  does-record d ends = drop-record p a i at d
+module _ (p : Port) (a i : ℕ) (at : find_login p a ≡ At i) where
+  does_record : pairs apart_login p.logins ≡ true → {g : Record → Record} {s : Served} → Does g (login_at p i) s
+      → AfterService g (record_of p a) s.reply (record_of (served_at p i s).port a)
+  does_record d {g} (takes x m h e) = store_record p a i at m (h a ∙ found_has p a i at) ∙ e ∙ ap g (sym (found_record p a i at))
+  does_record d (rejects x y) = store_record p a i at (login_at p i) (found_has p a i at) ∙ sym (found_record p a i at)
+  does_record d ends = drop_record p a i at d
 
   -- a login of the same address that says the same leaves the record as it was
-  pub same_kept : (m : Login) → hasAddress a m ≡ true → recordAt m ≡ recordAt (loginAt p i) → recordOf (withLogin p i m) a ≡ recordOf p a
-  same_kept m h e = store-record p a i at m h ∙ e ∙ sym (found-record p a i at)
+  pub same_kept : (m : Login) → has_address a m ≡ true → record_at m ≡ record_at (login_at p i) → record_of (with_login p i m) a ≡ record_of p a
+  same_kept m h e = store_record p a i at m h ∙ e ∙ sym (found_record p a i at)
 
   -- and so does an exchange that ends
-  pub exchange-kept : (j : ℕ) → recordOf (withLogin p i (endedAt (loginAt p i) j)) a ≡ recordOf p a
-  unfolding withExchange hasAddress
-  exchange-kept j = same_kept (endedAt (loginAt p i) j) (found-has p a i at) refl
+  pub exchange_kept : (j : ℕ) → record_of (with_login p i (ended_at (login_at p i) j)) a ≡ record_of p a
+  unfolding with_exchange has_address
+  exchange_kept j = same_kept (ended_at (login_at p i) j) (found_has p a i at) refl
 
-  module _ (d : pairs apartLogin p.logins ≡ true) where
+  module _ (d : pairs apart_login p.logins ≡ true) where
     -- the service of any code
-    pub service-record : (code : ℕ) (sought : ℕ → Found) (f : List ℕ)
-        → AfterService (effect_of code) (recordOf p a) (served_at p i (serviceOf code (loginAt p i) sought a f)).reply (recordOf (served_at p i (serviceOf code (loginAt p i) sought a f)).port a)
-    service-record code sought f = does-record d (service-does code (loginAt p i) sought a f)
+    pub service_record : (code : ℕ) (sought : ℕ → Found) (f : List ℕ)
+        → AfterService (effect_of code) (record_of p a) (served_at p i (service_of code (login_at p i) sought a f)).reply (record_of (served_at p i (service_of code (login_at p i) sought a f)).port a)
+    service_record code sought f = does_record d (service_does code (login_at p i) sought a f)
 
-module _ (p : Port) (d : pairs apartLogin p.logins ≡ true) where
+module _ (p : Port) (d : pairs apart_login p.logins ≡ true) where
   -- PLOGI: what it ends, ends its sender's login
-  ends-record : (v : Verdict) (a n : ℕ) → recordOf (changedAll (endsFor v a n) p) a ≡ out
-  ends-record verdict.Accept a n = host-record p d a n
-  ends-record (verdict.Reject t) a n = end-record p d a
+  ends_record : (v : Verdict) (a n : ℕ) → record_of (changed_all (ends_for v a n) p) a ≡ out
+  ends_record verdict.Accept a n = host_record p d a n
+  ends_record (verdict.Reject t) a n = end_record p d a
 
-  pub plogi-record : (a : ℕ) (q : Params) → AfterPlogi q (plogiOf p a q).reply (recordOf (plogiOf p a q).port a)
-  unfolding plogiOf
-  plogi-record a q = outcome-record (changedAll (endsBy a q) p) a q (outcomeOf (changedAll (endsBy a q) p) q) refl (ends-record (verdictOf q) a (name_of q.port_name))
+  pub plogi_record : (a : ℕ) (q : Params) → AfterPlogi q (plogi_of p a q).reply (record_of (plogi_of p a q).port a)
+  unfolding plogi_of
+  plogi_record a q = outcome_record (changed_all (ends_by a q) p) a q (outcome_of (changed_all (ends_by a q) p) q) refl (ends_record (verdict_of q) a (name_of q.port_name))
 
   -- LOGO
-  pub logo-record : (a named : ℕ) → AfterLogo (recordOf p a) (logoOf p a named).reply (recordOf (logoOf p a named).port a)
-  unfolding logoOf
-  logo-record a named = step (eqb named a)
+  pub logo_record : (a named : ℕ) → AfterLogo (record_of p a) (logo_of p a named).reply (record_of (logo_of p a named).port a)
+  unfolding logo_of
+  logo_record a named = step (eqb named a)
     where
-      step : (b : Bool) → AfterLogo (recordOf p a) (cond b (decidedAs (reply.Accept accepted.Short) (changedAll (EndLogin a) p)) (decidedAs (reply.Reject 0x03 0x1f) p)).reply
-          (recordOf (cond b (decidedAs (reply.Accept accepted.Short) (changedAll (EndLogin a) p)) (decidedAs (reply.Reject 0x03 0x1f) p)).port a)
-      step true = end-record p d a
+      step : (b : Bool) → AfterLogo (record_of p a) (cond b (decided_as (reply.Accept accepted.Short) (changed_all (EndLogin a) p)) (decided_as (reply.Reject 0x03 0x1f) p)).reply
+          (record_of (cond b (decided_as (reply.Accept accepted.Short) (changed_all (EndLogin a) p)) (decided_as (reply.Reject 0x03 0x1f) p)).port a)
+      step true = end_record p d a
       step false = refl

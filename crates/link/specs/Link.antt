@@ -2,26 +2,26 @@
 use Rattle.std.specs.Prelude.{ℕ, ◌+◌, ◌/◌, ◌%◌, Bool, cond, not, ◌&&◌, ◌||◌, List, eqb, length, get_or, replicate}
 use Rattle.tables.specs.declared.Found.{Found}
 use Rattle.tables.specs.declared.Found.TheVariants.{At, Nothing}
-use Rattle.tables.specs.Lists.{onFound, same}
+use Rattle.tables.specs.Lists.{on_found, same}
 use Rattle.wire.specs.Bytes.{num, part, name_of}
 use Rattle.frame.specs.declared.Header.{Header}
 use Rattle.params.specs.declared.Params.{Params}
 use Rattle.params.specs.declared.Verdict.{Verdict}
 use Rattle.params.specs.declared.Verdict.TheVariants as verdict
-use Rattle.params.specs.Words.{params_of, verdictOf, reasonOf}
+use Rattle.params.specs.Words.{params_of, verdict_of, reason_of}
 use Rattle.state.specs.declared.Login.{Login}
 use Rattle.state.specs.declared.Port.{Port}
 use Rattle.state.specs.declared.Change.{Change}
 use Rattle.state.specs.declared.Change.TheVariants.{EndLogin, EndHost}
 use Rattle.state.specs.Standing.{Standing, Open, NoExchange, NoLogin}
-use Rattle.state.specs.Changes.{emptyExchange, emptyLogin, loginAt, withLogin, withProven, withPaired, withoutExchanges, endedAt, changedAll}
-use Rattle.state.specs.Tables.{findLogin, freeLogin, lookupOf, soughtIn}
+use Rattle.state.specs.Changes.{empty_exchange, empty_login, login_at, with_login, with_proven, with_paired, without_exchanges, ended_at, changed_all}
+use Rattle.state.specs.Tables.{find_login, free_login, lookup_of, sought_in}
 use Rattle.reply.specs.declared.Reply.{Reply}
 use Rattle.reply.specs.declared.Reply.TheVariants as reply
 use Rattle.reply.specs.declared.Accepted.{Accepted}
 use Rattle.reply.specs.declared.Accepted.TheVariants as accepted
 use Rattle.calls.specs.declared.Served.{Served}
-use Rattle.calls.specs.Turn.{Decided, decidedAs, servedAs, served_at}
+use Rattle.calls.specs.Turn.{Decided, decided_as, served_as, served_at}
 use Rattle.link.specs.declared.Outcome.{Outcome}
 use Rattle.link.specs.declared.Outcome.TheVariants.{Place, Rejected}
 
@@ -38,8 +38,8 @@ size_of code =
     0))))))
 
 -- PLOGI: "keeps address, names, W18 size, W19/B1, W20/B1, proven, unpaired, attention 29h"
-unfoldable pub newLogin : ℕ → Params → Login
-newLogin from q =
+unfoldable pub new_login : ℕ → Params → Login
+new_login from q =
     record {
       used = 1;
       proven = 1;
@@ -51,7 +51,7 @@ newLogin from q =
       address = from;
       port_name = q.port_name;
       node_name = q.node_name;
-      places = replicate 8 emptyExchange;
+      places = replicate 8 empty_exchange;
     }
 
 -- "a free place, else 09,29"; "the lowest free place"
@@ -60,118 +60,118 @@ room_for (At i) = Place i
 room_for Nothing = Rejected 0x09 0x29
 
 -- the word tests, and then the room test
-abbrev pub outcomeAfter : Verdict → Found → Outcome
-outcomeAfter verdict.Accept f = room_for f
-outcomeAfter (verdict.Reject t) f = Rejected (reasonOf t).reason (reasonOf t).explanation
+abbrev pub outcome_after : Verdict → Found → Outcome
+outcome_after verdict.Accept f = room_for f
+outcome_after (verdict.Reject t) f = Rejected (reason_of t).reason (reason_of t).explanation
 
-unfoldable pub outcomeOf : Port → Params → Outcome
-outcomeOf p q = outcomeAfter (verdictOf q) (freeLogin p)
+unfoldable pub outcome_of : Port → Params → Outcome
+outcome_of p q = outcome_after (verdict_of q) (free_login p)
 
 -- ACC, or LS_RJT with the reason
-abbrev pub outcomeReply : Outcome → Reply
-outcomeReply (Place i) = reply.Accept accepted.Login
-outcomeReply (Rejected r e) = reply.Reject r e
+abbrev pub outcome_reply : Outcome → Reply
+outcome_reply (Place i) = reply.Accept accepted.Login
+outcome_reply (Rejected r e) = reply.Reject r e
 
 -- an accepted login is stored at its place
-abbrev pub outcomePort : Outcome → Port → Login → Port
-outcomePort (Place i) p l = withLogin p i l
-outcomePort (Rejected r e) p l = p
+abbrev pub outcome_port : Outcome → Port → Login → Port
+outcome_port (Place i) p l = with_login p i l
+outcome_port (Rejected r e) p l = p
 
 -- "Of right size, it ends the sender's login and exchanges first, accepted or not";
 -- "A PLOGI whose parameters pass, with a port name logged in at another address, ends that login and its exchanges before the room test" (02, 1)
-abbrev pub endsFor : Verdict → ℕ → ℕ → Change
-endsFor verdict.Accept from name = EndHost from name
-endsFor (verdict.Reject t) from name = EndLogin from
+abbrev pub ends_for : Verdict → ℕ → ℕ → Change
+ends_for verdict.Accept from name = EndHost from name
+ends_for (verdict.Reject t) from name = EndLogin from
 
 -- what a PLOGI with these parameters ends
-abbrev pub endsBy : ℕ → Params → Change
-endsBy from q = endsFor (verdictOf q) from (name_of q.port_name)
+abbrev pub ends_by : ℕ → Params → Change
+ends_by from q = ends_for (verdict_of q) from (name_of q.port_name)
 
 -- PLOGI: what it ends, ends first; then the room test
-unfoldable pub plogiOf : Port → ℕ → Params → Decided
-plogiOf p from q =
-    let ended = changedAll (endsBy from q) p in
-    decidedAs (outcomeReply (outcomeOf ended q)) (outcomePort (outcomeOf ended q) ended (newLogin from q))
+unfoldable pub plogi_of : Port → ℕ → Params → Decided
+plogi_of p from q =
+    let ended = changed_all (ends_by from q) p in
+    decided_as (outcome_reply (outcome_of ended q)) (outcome_port (outcome_of ended q) ended (new_login from q))
 
 -- "Names differ from the login's"
-unfoldable pub namesDiffer : Login → List ℕ → List ℕ → Bool
-namesDiffer l port node = not (same port l.port_name) || not (same node l.node_name)
+unfoldable pub names_differ : Login → List ℕ → List ℕ → Bool
+names_differ l port node = not (same port l.port_name) || not (same node l.node_name)
 
 -- "ACC marks the login proven and changes nothing else"
-abbrev pub provenAs : Accepted → Login → Served
-provenAs a l = servedAs (reply.Accept a) (withProven l 1)
+abbrev pub proven_as : Accepted → Login → Served
+proven_as a l = served_as (reply.Accept a) (with_proven l 1)
 
 -- PDISC: "tests as PLOGI, without the room test, changing nothing on reject"; "PDISC's [ACC] is PLOGI's"
-abbrev pub provenBy : Verdict → Login → Served
-provenBy verdict.Accept l = provenAs accepted.Login l
-provenBy (verdict.Reject t) l = servedAs (reply.Reject (reasonOf t).reason (reasonOf t).explanation) l
+abbrev pub proven_by : Verdict → Login → Served
+proven_by verdict.Accept l = proven_as accepted.Login l
+proven_by (verdict.Reject t) l = served_as (reply.Reject (reason_of t).reason (reason_of t).explanation) l
 
 -- PDISC: "Names differ from the login's ..: drive LOGO, login ended"
-unfoldable pub pdiscOf : Login → Params → Served
-pdiscOf l q = cond (namesDiffer l q.port_name q.node_name) (servedAs reply.Logout emptyLogin) (provenBy (verdictOf q) l)
+unfoldable pub pdisc_of : Login → Params → Served
+pdisc_of l q = cond (names_differ l q.port_name q.node_name) (served_as reply.Logout empty_login) (proven_by (verdict_of q) l)
 
 -- ADISC: "Names differ from the login's, or ADISC W6/B1-3 from S_ID: drive LOGO, login ended"
-unfoldable pub adiscOf : Login → ℕ → ℕ → List ℕ → List ℕ → Served
-adiscOf l from named port node =
-    cond (namesDiffer l port node) (servedAs reply.Logout emptyLogin)
-    (cond (eqb named from) (provenAs accepted.Address l) (servedAs reply.Logout emptyLogin))
+unfoldable pub adisc_of : Login → ℕ → ℕ → List ℕ → List ℕ → Served
+adisc_of l from named port node =
+    cond (names_differ l port node) (served_as reply.Logout empty_login)
+    (cond (eqb named from) (proven_as accepted.Address l) (served_as reply.Logout empty_login))
 
 -- LOGO: "W1/B1-3 must equal S_ID, else 03,1F. Ends the login if any; ACC of 4 bytes."
-unfoldable pub logoOf : Port → ℕ → ℕ → Decided
-logoOf p from named =
-    cond (eqb named from) (decidedAs (reply.Accept accepted.Short) (changedAll (EndLogin from) p)) (decidedAs (reply.Reject 0x03 0x1f) p)
+unfoldable pub logo_of : Port → ℕ → ℕ → Decided
+logo_of p from named =
+    cond (eqb named from) (decided_as (reply.Accept accepted.Short) (changed_all (EndLogin from) p)) (decided_as (reply.Reject 0x03 0x1f) p)
 
 -- "B1-3 = 10 00 14 and W1/B0 = 08h"
-unfoldable pub pageFine : ℕ → ℕ → Bool
-pageFine page protocol = eqb page 0x100014 && eqb protocol 0x08
+unfoldable pub page_fine : ℕ → ℕ → Bool
+page_fine page protocol = eqb page 0x100014 && eqb protocol 0x08
 
 -- bit n of a byte, where b is 2 to the n
-abbrev pub bitSet : ℕ → ℕ → Bool
-bitSet b byte = eqb (byte / b % 2) 1
+abbrev pub bit_set : ℕ → ℕ → Bool
+bit_set b byte = eqb (byte / b % 2) 1
 
 -- PRLI "also needs W1/B2 bit 5 and, in W4, bits 5 and 1"
-unfoldable pub pairFine : ℕ → ℕ → ℕ → ℕ → Bool
-pairFine page protocol flags roles = pageFine page protocol && bitSet 32 flags && bitSet 32 roles && bitSet 2 roles
+unfoldable pub pair_fine : ℕ → ℕ → ℕ → ℕ → Bool
+pair_fine page protocol flags roles = page_fine page protocol && bit_set 32 flags && bit_set 32 roles && bit_set 2 roles
 
 -- PRLI: "else 09,00; it marks the login paired and ends nothing"
-unfoldable pub prliOf : Login → ℕ → ℕ → ℕ → ℕ → Served
-prliOf l page protocol flags roles =
-    cond (pairFine page protocol flags roles) (servedAs (reply.Accept accepted.Pair) (withPaired l 1)) (servedAs (reply.Reject 0x09 0x00) l)
+unfoldable pub prli_of : Login → ℕ → ℕ → ℕ → ℕ → Served
+prli_of l page protocol flags roles =
+    cond (pair_fine page protocol flags roles) (served_as (reply.Accept accepted.Pair) (with_paired l 1)) (served_as (reply.Reject 0x09 0x00) l)
 
 -- PRLO: "else 09,00"; "ends the pairing and its exchanges"
-unfoldable pub prloOf : Login → ℕ → ℕ → Served
-prloOf l page protocol = cond (pageFine page protocol) (servedAs (reply.Accept accepted.Unpair) (withPaired (withoutExchanges l) 0)) (servedAs (reply.Reject 0x09 0x00) l)
+unfoldable pub prlo_of : Login → ℕ → ℕ → Served
+prlo_of l page protocol = cond (page_fine page protocol) (served_as (reply.Accept accepted.Unpair) (with_paired (without_exchanges l) 0)) (served_as (reply.Reject 0x09 0x00) l)
 
 -- RRQ: "W1/B1-3 not S_ID 03,15; that OX_ID open 03,17; else ACC of 4 bytes", by the place where that exchange was found
-unfoldable pub rrqOf : Login → ℕ → ℕ → Found → Served
-rrqOf l from named place =
-    cond (eqb named from) (onFound place (λ j. servedAs (reply.Reject 0x03 0x17) l) (servedAs (reply.Accept accepted.Short) l)) (servedAs (reply.Reject 0x03 0x15) l)
+unfoldable pub rrq_of : Login → ℕ → ℕ → Found → Served
+rrq_of l from named place =
+    cond (eqb named from) (on_found place (λ j. served_as (reply.Reject 0x03 0x17) l) (served_as (reply.Accept accepted.Short) l)) (served_as (reply.Reject 0x03 0x15) l)
 
 -- a service on the sender's login, from the words of the payload: word w starts at byte 24 + 4 w of the frame; sought is where an exchange of that login stands, by its OX_ID
-unfoldable pub serviceOf : ℕ → Login → (ℕ → Found) → ℕ → List ℕ → Served
-serviceOf code l sought from f =
-    cond (eqb code 0x50) (pdiscOf l (params_of f 28))
-    (cond (eqb code 0x52) (adiscOf l from (num 3 f 49) (part 8 f 32) (part 8 f 40))
-    (cond (eqb code 0x20) (prliOf l (num 3 f 25) (get_or f 28 0) (get_or f 30 0) (get_or f 43 0))
-    (cond (eqb code 0x21) (prloOf l (num 3 f 25) (get_or f 28 0))
-    (rrqOf l from (num 3 f 29) (sought (num 2 f 32))))))
+unfoldable pub service_of : ℕ → Login → (ℕ → Found) → ℕ → List ℕ → Served
+service_of code l sought from f =
+    cond (eqb code 0x50) (pdisc_of l (params_of f 28))
+    (cond (eqb code 0x52) (adisc_of l from (num 3 f 49) (part 8 f 32) (part 8 f 40))
+    (cond (eqb code 0x20) (prli_of l (num 3 f 25) (get_or f 28 0) (get_or f 30 0) (get_or f 43 0))
+    (cond (eqb code 0x21) (prlo_of l (num 3 f 25) (get_or f 28 0))
+    (rrq_of l from (num 3 f 29) (sought (num 2 f 32))))))
 
 -- "Order: other code 0B,00; wrong size 03,00; no login (PLOGI and LOGO excepted) a drive LOGO; then"
 unfoldable pub link_of : Port → Header → List ℕ → Decided
 link_of p h f =
     let code = get_or f 24 0 in
     let from = h.s_id in
-    cond (eqb (size_of code) 0) (decidedAs (reply.Reject 0x0b 0x00) p)
-    (cond (not (eqb (length f) (24 + size_of code))) (decidedAs (reply.Reject 0x03 0x00) p)
-    (cond (eqb code 0x03) (plogiOf p from (params_of f 28))
-    (cond (eqb code 0x05) (logoOf p from (num 3 f 29))
-    (onFound (findLogin p from) (λ i. served_at p i (serviceOf code (loginAt p i) (soughtIn p from) from f)) (decidedAs reply.Logout p)))))
+    cond (eqb (size_of code) 0) (decided_as (reply.Reject 0x0b 0x00) p)
+    (cond (not (eqb (length f) (24 + size_of code))) (decided_as (reply.Reject 0x03 0x00) p)
+    (cond (eqb code 0x03) (plogi_of p from (params_of f 28))
+    (cond (eqb code 0x05) (logo_of p from (num 3 f 29))
+    (on_found (find_login p from) (λ i. served_at p i (service_of code (login_at p i) (sought_in p from) from f)) (decided_as reply.Logout p)))))
 
 -- ABTS: "no login, drive LOGO. RX_ID not FFFFh, BA_RJT 00 03 03 00. Else the sender's exchange of that OX_ID, if any, ends; BA_ACC"
-abbrev pub abortedAt : Standing → ℕ → Port → Decided
-abortedAt NoLogin rx p = decidedAs reply.Logout p
-abortedAt (NoExchange i) rx p = cond (eqb rx 0xffff) (decidedAs reply.AbortAccept p) (decidedAs reply.AbortReject p)
-abortedAt (Open i j) rx p = cond (eqb rx 0xffff) (decidedAs reply.AbortAccept (withLogin p i (endedAt (loginAt p i) j))) (decidedAs reply.AbortReject p)
+abbrev pub aborted_at : Standing → ℕ → Port → Decided
+aborted_at NoLogin rx p = decided_as reply.Logout p
+aborted_at (NoExchange i) rx p = cond (eqb rx 0xffff) (decided_as reply.AbortAccept p) (decided_as reply.AbortReject p)
+aborted_at (Open i j) rx p = cond (eqb rx 0xffff) (decided_as reply.AbortAccept (with_login p i (ended_at (login_at p i) j))) (decided_as reply.AbortReject p)
 
-unfoldable pub abtsOf : Port → ℕ → ℕ → ℕ → Decided
-abtsOf p from ox rx = abortedAt (lookupOf p from ox) rx p
+unfoldable pub abts_of : Port → ℕ → ℕ → ℕ → Decided
+abts_of p from ox rx = aborted_at (lookup_of p from ox) rx p

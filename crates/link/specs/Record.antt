@@ -1,11 +1,11 @@
 -- The drive's login record for an address, as a host's belief is compared with it (document 01, "The host's rules").
 use Rattle.std.specs.Prelude.{ℕ, Bool, true, false, List, eqb}
-use Rattle.tables.specs.Lists.{onFound}
+use Rattle.tables.specs.Lists.{on_found}
 use Rattle.params.specs.declared.Params.{Params}
 use Rattle.state.specs.declared.Login.{Login}
 use Rattle.state.specs.declared.Port.{Port}
-use Rattle.state.specs.Changes.{loginAt}
-use Rattle.state.specs.Tables.{findLogin}
+use Rattle.state.specs.Changes.{login_at}
+use Rattle.state.specs.Tables.{find_login}
 
 -- "names and parameters sent", as the drive stores them
 pub record Kept : Type 0 where
@@ -20,19 +20,19 @@ pub data Record : Type 0 where
   out : Record
   held : (paired proven : Bool) (kept : Kept) → Record
 
-abbrev pub keptOf : Login → Kept
-keptOf l = record { port_name = l.port_name; node_name = l.node_name; size = l.size; concurrent = l.concurrent; sequences = l.sequences }
+abbrev pub kept_of : Login → Kept
+kept_of l = record { port_name = l.port_name; node_name = l.node_name; size = l.size; concurrent = l.concurrent; sequences = l.sequences }
 
 -- what an accepted PLOGI with these parameters keeps
-abbrev pub keptFrom : Params → Kept
-keptFrom q = record { port_name = q.port_name; node_name = q.node_name; size = q.size; concurrent = q.concurrent; sequences = q.sequences }
+abbrev pub kept_from : Params → Kept
+kept_from q = record { port_name = q.port_name; node_name = q.node_name; size = q.size; concurrent = q.concurrent; sequences = q.sequences }
 
-abbrev pub recordAt : Login → Record
-recordAt l = held (eqb l.paired 1) (eqb l.proven 1) (keptOf l)
+abbrev pub record_at : Login → Record
+record_at l = held (eqb l.paired 1) (eqb l.proven 1) (kept_of l)
 
 -- the record for an address
-unfoldable pub recordOf : Port → ℕ → Record
-recordOf p a = onFound (findLogin p a) (λ i. recordAt (loginAt p i)) out
+unfoldable pub record_of : Port → ℕ → Record
+record_of p a = on_found (find_login p a) (λ i. record_at (login_at p i)) out
 
 -- what a service makes of a record
 abbrev pub proved : Record → Record

@@ -2,8 +2,8 @@
 mod on_login;
 
 ghost use Rattle.std.specs.Prelude.{◌≡◌, ◌<◌};
-ghost use Rattle.link.specs.Link.{size_of, newLogin, endsFor, outcomeReply};
-ghost use Rattle.link.specs.Turn.{outcomeIn, plogiTurn, logoTurn, abortedLogin, linkTurn, abtsTurn};
+ghost use Rattle.link.specs.Link.{size_of, new_login, ends_for, outcome_reply};
+ghost use Rattle.link.specs.Turn.{outcome_in, plogi_turn, logo_turn, aborted_login, link_turn, abts_turn};
 
 use calls::{Decision, View, answer_only, change_logins, place_for, serve_at, store_login};
 use formed::Key;
@@ -24,7 +24,7 @@ pub enum Outcome {
 
 // A request to the link services: other code, wrong size, PLOGI, LOGO, no login, and then the services on the sender's login.
 pub fn link(v: View, h: Header, frame: &[u8]) -> Decision
-    ensures { result ≡ linkTurn v h frame.now }
+    ensures { result ≡ link_turn v h frame.now }
 {
     let code = byte_at(frame, 24);
     let size = size_of(code);
@@ -52,7 +52,7 @@ pub fn link(v: View, h: Header, frame: &[u8]) -> Decision
 
 // ABTS of an exchange: without a login a drive LOGO; a named responder exchange is rejected; else the exchange ends, if there is one.
 pub fn abts(v: View, h: Header) -> Decision
-    ensures { result ≡ abtsTurn v h }
+    ensures { result ≡ abts_turn v h }
 {
     let seat = v.seat;
     let Found::At(i) = seat else {
@@ -68,7 +68,7 @@ pub fn abts(v: View, h: Header) -> Decision
 
 // A login without its exchange of this OX_ID, if there is one.
 fn end_named(l: Login, ox_id: u16) -> Login
-    ensures { result ≡ abortedLogin l ox_id }
+    ensures { result ≡ aborted_login l ox_id }
 {
     let f = find_exchange(l, ox_id);
     match f {
@@ -96,7 +96,7 @@ fn size_of(code: u8) -> usize
 // PLOGI: ends the sender's login first, accepted or not; the word tests in their order; where they pass the login of its port name ends, wherever it stands;
 // then the room test.
 fn plogi(keys: [Key; 8], from: u32, q: Params) -> Decision
-    ensures { result ≡ plogiTurn keys from q }
+    ensures { result ≡ plogi_turn keys from q }
 {
     let port = q.port_name;
     let name = name_number(port);
@@ -118,7 +118,7 @@ fn plogi(keys: [Key; 8], from: u32, q: Params) -> Decision
 
 // The logins that end: a PLOGI that fails a word test ends the sender's own and no other.
 fn ends_for(v: Verdict, from: u32, name: u64) -> Change
-    ensures { result ≡ endsFor v from name }
+    ensures { result ≡ ends_for v from name }
 {
     match v {
         Verdict::Accept => Change::EndHost(from, name),
@@ -127,7 +127,7 @@ fn ends_for(v: Verdict, from: u32, name: u64) -> Change
 }
 
 fn judged(v: Verdict, keys: [Key; 8], from: u32, name: u64) -> Outcome
-    ensures { result ≡ outcomeIn v keys from name }
+    ensures { result ≡ outcome_in v keys from name }
 {
     match v {
         Verdict::Reject(t) => {
@@ -145,7 +145,7 @@ fn judged(v: Verdict, keys: [Key; 8], from: u32, name: u64) -> Outcome
 }
 
 fn outcome_reply(o: Outcome) -> Reply
-    ensures { result ≡ outcomeReply o }
+    ensures { result ≡ outcome_reply o }
 {
     match o {
         Outcome::Place(_) => Reply::Accept(Accepted::Login),
@@ -154,7 +154,7 @@ fn outcome_reply(o: Outcome) -> Reply
 }
 
 fn new_login(from: u32, q: Params) -> Login
-    ensures { result ≡ newLogin from q }
+    ensures { result ≡ new_login from q }
 {
     let port = q.port_name;
     let node = q.node_name;
@@ -173,7 +173,7 @@ fn new_login(from: u32, q: Params) -> Login
 
 // LOGO: ends the login, if any, of a sender that names itself.
 fn logo(from: u32, named: u32) -> Decision
-    ensures { result ≡ logoTurn from named }
+    ensures { result ≡ logo_turn from named }
 {
     if named == from {
         change_logins(Reply::Accept(Accepted::Short), Change::EndLogin(from))

@@ -1,8 +1,8 @@
 // The services on the sender's login: PDISC, ADISC, PRLI, PRLO and RRQ (document 01, "Link services").
 ghost use Rattle.std.specs.Prelude.{◌≡◌};
 ghost use Rattle.tables.specs.Lists.{same};
-ghost use Rattle.state.specs.Tables.{findExchange};
-ghost use Rattle.link.specs.Link.{provenAs, namesDiffer, pdiscOf, adiscOf, pageFine, pairFine, prliOf, prloOf, rrqOf, serviceOf};
+ghost use Rattle.state.specs.Tables.{find_exchange};
+ghost use Rattle.link.specs.Link.{proven_as, names_differ, pdisc_of, adisc_of, page_fine, pair_fine, prli_of, prlo_of, rrq_of, service_of};
 
 use calls::{Served, serve_as};
 use params::{Params, Verdict};
@@ -13,7 +13,7 @@ use wire::{be16, be24, byte_at, name_at};
 
 // The services on the sender's login: PDISC, ADISC, PRLI, PRLO, RRQ.
 pub(crate) fn service(code: u8, l: Login, from: u32, frame: &[u8]) -> Served
-    ensures { result ≡ serviceOf code l (findExchange l) from frame.now }
+    ensures { result ≡ service_of code l (find_exchange l) from frame.now }
 {
     if code == 0x50 {
         return pdisc(l, Params::read(frame, 28));
@@ -40,7 +40,7 @@ pub(crate) fn service(code: u8, l: Login, from: u32, frame: &[u8]) -> Served
 
 // PDISC: other names end the login; then the word tests; accepted, the login is proven.
 fn pdisc(l: Login, q: Params) -> Served
-    ensures { result ≡ pdiscOf l q }
+    ensures { result ≡ pdisc_of l q }
 {
     let port = q.port_name;
     let node = q.node_name;
@@ -59,7 +59,7 @@ fn pdisc(l: Login, q: Params) -> Served
 
 // ADISC: other names, or another address, end the login; else it is proven.
 fn adisc(l: Login, from: u32, named: u32, port: [u8; 8], node: [u8; 8]) -> Served
-    ensures { result ≡ adiscOf l from named port node }
+    ensures { result ≡ adisc_of l from named port node }
 {
     if names_differ(l, port, node) {
         return serve_as(Reply::Logout, empty_login());
@@ -73,7 +73,7 @@ fn adisc(l: Login, from: u32, named: u32, port: [u8; 8], node: [u8; 8]) -> Serve
 
 // PRLI: marks the login paired and ends nothing.
 fn prli(l: Login, page: u32, protocol: u8, flags: u8, roles: u8) -> Served
-    ensures { result ≡ prliOf l page protocol flags roles }
+    ensures { result ≡ prli_of l page protocol flags roles }
 {
     if pair_fine(page, protocol, flags, roles) {
         let mut m = l;
@@ -85,7 +85,7 @@ fn prli(l: Login, page: u32, protocol: u8, flags: u8, roles: u8) -> Served
 }
 
 fn pair_fine(page: u32, protocol: u8, flags: u8, roles: u8) -> bool
-    ensures { result ≡ pairFine page protocol flags roles }
+    ensures { result ≡ pair_fine page protocol flags roles }
 {
     if page_fine(page, protocol) {
         if flags / 32 % 2 == 1 {
@@ -99,7 +99,7 @@ fn pair_fine(page: u32, protocol: u8, flags: u8, roles: u8) -> bool
 
 // PRLO: ends the pairing and its exchanges.
 fn prlo(l: Login, page: u32, protocol: u8) -> Served
-    ensures { result ≡ prloOf l page protocol }
+    ensures { result ≡ prlo_of l page protocol }
 {
     if page_fine(page, protocol) {
         let mut m = end_exchanges(l);
@@ -112,7 +112,7 @@ fn prlo(l: Login, page: u32, protocol: u8) -> Served
 
 // RRQ: of the sender itself, and of no exchange that is open.
 fn rrq(l: Login, from: u32, named: u32, ox_id: u16) -> Served
-    ensures { result ≡ rrqOf l from named (findExchange l ox_id) }
+    ensures { result ≡ rrq_of l from named (find_exchange l ox_id) }
 {
     if named == from {
         let f = find_exchange(l, ox_id);
@@ -127,7 +127,7 @@ fn rrq(l: Login, from: u32, named: u32, ox_id: u16) -> Served
 
 // An ACC of this kind, and the login proven.
 fn proven(a: Accepted, l: Login) -> Served
-    ensures { result ≡ provenAs a l }
+    ensures { result ≡ proven_as a l }
 {
     let mut m = l;
     m.proven = 1;
@@ -138,7 +138,7 @@ fn proven(a: Accepted, l: Login) -> Served
 }
 
 fn page_fine(page: u32, protocol: u8) -> bool
-    ensures { result ≡ pageFine page protocol }
+    ensures { result ≡ page_fine page protocol }
 {
     if page == 0x100014 {
         protocol == 0x08
@@ -148,7 +148,7 @@ fn page_fine(page: u32, protocol: u8) -> bool
 }
 
 fn names_differ(l: Login, port: [u8; 8], node: [u8; 8]) -> bool
-    ensures { result ≡ namesDiffer l port node }
+    ensures { result ≡ names_differ l port node }
 {
     let p = l.port_name;
     let n = l.node_name;

@@ -5,12 +5,12 @@ use mathlib.Core.Bool.{true, false}
 use Prim.Native.Nat.{ℕ}
 use native.Mathlib.Omega.{arith}
 use Rattle.tables.specs.Firsts.{NoneOf, IsFirst}
-use Rattle.tables.proofs.Firsts.{none-always, first_then, none_then, then-first, then-none}
+use Rattle.tables.proofs.Firsts.{none_always, first_then, none_then, then_first, then_none}
 use Rattle.params.specs.declared.Params.{Params}
 use Rattle.params.specs.declared.Fault.{Fault}
 use Rattle.params.specs.declared.Fault.TheVariants.{BufferSize, PortName, NodeName, ClassThree, DataSize, ConcurrentSequences, OpenSequences}
 use Rattle.params.specs.declared.Verdict.TheVariants.{Accept, Reject}
-use Rattle.params.specs.Words.{fails, faults, verdictOf}
+use Rattle.params.specs.Words.{fails, faults, verdict_of}
 
 other : (f : Fault) → Reject f ≡ Accept → ⊥
 other f e = let z : ◌≡◌ {A = ℕ} 0 1 = cc in omega arith
@@ -27,21 +27,21 @@ module _ (p : Params) where
   each n OpenSequences = n.1.1.1.1.1.1.0
 
   -- accepted: no test fails
-  pub accepted : verdictOf p ≡ Accept → (f : Fault) → fails p f ≡ false
-  unfolding verdictOf
-  accepted e = each (then-none (fails p) faults Reject Accept other e)
+  pub accepted : verdict_of p ≡ Accept → (f : Fault) → fails p f ≡ false
+  unfolding verdict_of
+  accepted e = each (then_none (fails p) faults Reject Accept other e)
 
   -- no test fails: accepted
-  pub accepts-then : ((f : Fault) → fails p f ≡ false) → verdictOf p ≡ Accept
-  unfolding verdictOf
-  accepts-then h = none_then (fails p) faults Reject Accept (none-always (fails p) h faults)
+  pub accepts_then : ((f : Fault) → fails p f ≡ false) → verdict_of p ≡ Accept
+  unfolding verdict_of
+  accepts_then h = none_then (fails p) faults Reject Accept (none_always (fails p) h faults)
 
   -- rejected by a test: it is the first that fails
-  pub rejected : (f : Fault) → verdictOf p ≡ Reject f → IsFirst (fails p) faults f
-  unfolding verdictOf
-  rejected f e = then-first (fails p) faults Reject Accept other (λ x y q. cc) f e
+  pub rejected : (f : Fault) → verdict_of p ≡ Reject f → IsFirst (fails p) faults f
+  unfolding verdict_of
+  rejected f e = then_first (fails p) faults Reject Accept other (λ x y q. cc) f e
 
   -- the first test that fails: rejected by it
-  pub rejects-then : (f : Fault) → IsFirst (fails p) faults f → verdictOf p ≡ Reject f
-  unfolding verdictOf
-  rejects-then f i = first_then (fails p) faults Reject Accept i
+  pub rejects_then : (f : Fault) → IsFirst (fails p) faults f → verdict_of p ≡ Reject f
+  unfolding verdict_of
+  rejects_then f i = first_then (fails p) faults Reject Accept i

@@ -28,20 +28,20 @@ params_of s word1 =
     }
 
 -- "from 256 to 2,112 and a multiple of 4", else it fails
-unfoldable pub sizeFails : ℕ → Bool
-sizeFails n = ltb n 256 || ltb 2112 n || not (eqb (n % 4) 0)
+unfoldable pub size_fails : ℕ → Bool
+size_fails n = ltb n 256 || ltb 2112 n || not (eqb (n % 4) 0)
 
 -- "not zero", else it fails: every byte of the name is 0
-unfoldable pub zeroName : List ℕ → Bool
-zeroName name = all (λ b. eqb b 0) name
+unfoldable pub zero_name : List ℕ → Bool
+zero_name name = all (λ b. eqb b 0) name
 
 -- whether the test of this field fails
 abbrev pub fails : Params → Fault → Bool
-fails p BufferSize = sizeFails p.buffer
-fails p PortName = zeroName p.port_name
-fails p NodeName = zeroName p.node_name
+fails p BufferSize = size_fails p.buffer
+fails p PortName = zero_name p.port_name
+fails p NodeName = zero_name p.node_name
 fails p ClassThree = ltb p.class3 128
-fails p DataSize = sizeFails p.size
+fails p DataSize = size_fails p.size
 fails p ConcurrentSequences = eqb p.concurrent 0
 fails p OpenSequences = eqb p.sequences 0
 
@@ -50,26 +50,26 @@ abbrev pub faults : List Fault
 faults = BufferSize ∷ PortName ∷ NodeName ∷ ClassThree ∷ DataSize ∷ ConcurrentSequences ∷ OpenSequences ∷ []
 
 -- rejected by the first test that fails, accepted where none does
-unfoldable pub verdictOf : Params → Verdict
-verdictOf p = first_of (fails p) faults Reject Accept
+unfoldable pub verdict_of : Params → Verdict
+verdict_of p = first_of (fails p) faults Reject Accept
 
 abbrev pub accepts : Verdict → Bool
 accepts Accept = true
 accepts (Reject f) = false
 
 -- "which must pass the PLOGI rules below with W20/B1 = 01h"
-unfoldable pub setupPasses : Params → Bool
-setupPasses p = accepts (verdictOf p) && eqb p.sequences 1
+unfoldable pub setup_passes : Params → Bool
+setup_passes p = accepts (verdict_of p) && eqb p.sequences 1
 
 abbrev pub rejection : ℕ → ℕ → Reason
 rejection r e = record { reason = r; explanation = e }
 
 -- "else 03,0F", "else 03,0D", "else 03,0E", "else 03,01", "else 03,07", "else 03,09", "else 03,01"
-abbrev pub reasonOf : Fault → Reason
-reasonOf BufferSize = rejection 0x03 0x0f
-reasonOf PortName = rejection 0x03 0x0d
-reasonOf NodeName = rejection 0x03 0x0e
-reasonOf ClassThree = rejection 0x03 0x01
-reasonOf DataSize = rejection 0x03 0x07
-reasonOf ConcurrentSequences = rejection 0x03 0x09
-reasonOf OpenSequences = rejection 0x03 0x01
+abbrev pub reason_of : Fault → Reason
+reason_of BufferSize = rejection 0x03 0x0f
+reason_of PortName = rejection 0x03 0x0d
+reason_of NodeName = rejection 0x03 0x0e
+reason_of ClassThree = rejection 0x03 0x01
+reason_of DataSize = rejection 0x03 0x07
+reason_of ConcurrentSequences = rejection 0x03 0x09
+reason_of OpenSequences = rejection 0x03 0x01

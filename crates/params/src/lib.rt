@@ -1,6 +1,6 @@
 // The word tests of a login's parameters: what PLOGI and PDISC carry, and the words of the login accept that a setup gives.
 ghost use Rattle.std.specs.Prelude.{◌≡◌};
-ghost use Rattle.params.specs.Words.{params_of, sizeFails, zeroName, verdictOf, accepts, setupPasses, reasonOf};
+ghost use Rattle.params.specs.Words.{params_of, size_fails, zero_name, verdict_of, accepts, setup_passes, reason_of};
 
 use wire::{be16, byte_at, name_at};
 
@@ -75,7 +75,7 @@ impl Params {
 
     // The word tests in word order: accepted, or rejected by the first test that fails.
     pub fn verdict(self) -> Verdict
-        ensures { result ≡ verdictOf self }
+        ensures { result ≡ verdict_of self }
     {
         let port = self.port_name;
         let node = self.node_name;
@@ -105,7 +105,7 @@ impl Params {
 
     // Whether a setup may have these in its accept words: the same tests, and W20/B1 = 01h.
     pub fn pass_setup(self) -> bool
-        ensures { result ≡ setupPasses self }
+        ensures { result ≡ setup_passes self }
     {
         if self.verdict().is_accept() {
             self.sequences == Params::SETUP_SEQUENCES
@@ -129,7 +129,7 @@ impl Verdict {
 impl Fault {
     // The reason and explanation that a rejected login is answered with.
     pub fn why(self) -> Reason
-        ensures { result ≡ reasonOf self }
+        ensures { result ≡ reason_of self }
     {
         let explanation = match self {
             Fault::BufferSize => 0x0f,
@@ -149,7 +149,7 @@ impl Fault {
 
 // Whether a receive size is not from 256 to 2,112 or no multiple of 4. One test for W2 and W18.
 pub fn size_fails(n: u16) -> bool
-    ensures { result ≡ sizeFails n }
+    ensures { result ≡ size_fails n }
 {
     if n < Params::LEAST_SIZE {
         return true;
@@ -162,7 +162,7 @@ pub fn size_fails(n: u16) -> bool
 
 // Whether a name is zero. One test for the port name and the node name.
 pub fn zero_name(name: [u8; 8]) -> bool
-    ensures { result ≡ zeroName name }
+    ensures { result ≡ zero_name name }
 {
     let mut i: usize = 0;
     while i < 8 {

@@ -9,20 +9,20 @@ use Rattle.refusal.specs.declared.Said.TheVariants.{Sent, Refused}
 use Rattle.recording.specs.declared.Line.{Line}
 
 -- "still holds the fill 5Ah it was lent with": every byte does
-unfoldable pub allFill : List ℕ → Bool
-allFill l = all (λ b. eqb b 0x5a) l
+unfoldable pub all_fill : List ℕ → Bool
+all_fill l = all (λ b. eqb b 0x5a) l
 
-abbrev pub flagOf : Bool → ℕ
-flagOf still = cond still 1 0
+abbrev pub flag_of : Bool → ℕ
+flag_of still = cond still 1 0
 
 -- "refusal number u8 (0 answered), reply length u16, the reply's bytes, then one byte"
 unfoldable pub answer : ℕ → List ℕ → Bool → List ℕ
-answer number reply still = ((number ∷ bytes 2 (length reply)) ++ reply) ++ (flagOf still ∷ [])
+answer number reply still = ((number ∷ bytes 2 (length reply)) ++ reply) ++ (flag_of still ∷ [])
 
 -- the answer to a call that left l in the buffer that it was lent: "1 if every byte of the lent buffer after the reply (after a refusal: every byte) still holds the fill"
 abbrev pub answer_of : Said → List ℕ → List ℕ
-answer_of (Sent n) l = answer 0 (take n l) (allFill (drop n l))
-answer_of (Refused x) l = answer (number_of x) [] (allFill l)
+answer_of (Sent n) l = answer 0 (take n l) (all_fill (drop n l))
+answer_of (Refused x) l = answer (number_of x) [] (all_fill l)
 
 -- an answer in a line's 4,100 bytes
 abbrev pub line_for : List ℕ → Line

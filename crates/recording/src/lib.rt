@@ -2,9 +2,9 @@
 mod lines;
 
 ghost use Rattle.std.specs.Prelude.{◌≡◌, ◌≤◌, length};
-ghost use Rattle.drive.specs.Entry.{frameInWindow};
+ghost use Rattle.drive.specs.Entry.{frame_in_window};
 ghost use Rattle.wire.specs.Bytes.{num};
-ghost use Rattle.recording.specs.Calls.{unmade, setupIn, noCall, madeBy, fill, toldAnswer, handed, asked, happened, setupCall, frameCall, nextCall, eventCall, read_by, windowFrom, isDataCall, dataCall, dataAfter, toldBy, bodyAfter, rest_of, ToldIs};
+ghost use Rattle.recording.specs.Calls.{unmade, setup_in, no_call, made_by, fill, told_answer, handed, asked, happened, setup_call, frame_call, next_call, event_call, read_by, window_from, is_data_call, data_call, data_after, told_by, body_after, rest_of, ToldIs};
 
 use drive::{Answer, Drive, Event, no_drive};
 use lines::{line_of, written};
@@ -48,8 +48,8 @@ pub fn start() -> Session
 // The record of a letter and a body: S makes a drive, F hands it a frame, D a frame and a window, N asks it for the next one, E tells it of an event; any other is no call.
 // Of the body only the window of D may change.
 pub fn tell(s: Session, letter: u8, body: &mut [u8]) -> Told
-    ensures told_is { ToldIs (toldBy s letter body.old) result }
-    ensures body_after { body.new ≡ bodyAfter s letter body.old }
+    ensures told_is { ToldIs (told_by s letter body.old) result }
+    ensures body_after { body.new ≡ body_after s letter body.old }
 {
     if is_data_call(s, letter, body) {
         tell_data(s, body)
@@ -84,7 +84,7 @@ fn tell_read(s: Session, letter: u8, body: &[u8]) -> Told
 
 // What is no call: 255, and the session as it was.
 pub fn no_call(s: Session) -> Told
-    ensures { ToldIs (noCall s) result }
+    ensures { ToldIs (no_call s) result }
 {
     let none = [0u8; 0];
     let l = written(255, &none, true);
@@ -95,7 +95,7 @@ pub fn no_call(s: Session) -> Told
 }
 
 fn tell_setup(s: Session, body: &[u8]) -> Told
-    ensures { ToldIs (setupCall s body.now) result }
+    ensures { ToldIs (setup_call s body.now) result }
 {
     if body.len() < 153 {
         return no_call(s);
@@ -104,7 +104,7 @@ fn tell_setup(s: Session, body: &[u8]) -> Told
 }
 
 fn tell_frame(s: Session, body: &[u8]) -> Told
-    ensures { ToldIs (frameCall s body.now) result }
+    ensures { ToldIs (frame_call s body.now) result }
 {
     if body.len() < 2 {
         return no_call(s);
@@ -123,7 +123,7 @@ fn tell_frame(s: Session, body: &[u8]) -> Told
 
 // Whether a record is a call of D: what stands before its window is there, its room is none over 4,096, and a drive was made.
 fn is_data_call(s: Session, letter: u8, body: &[u8]) -> bool
-    ensures { result ≡ isDataCall s letter body.now }
+    ensures { result ≡ is_data_call s letter body.now }
 {
     if letter != b'D' {
         return false;
@@ -142,17 +142,17 @@ fn is_data_call(s: Session, letter: u8, body: &[u8]) -> bool
 
 // Where the window of a D begins.
 fn window_from(body: &[u8]) -> usize
-    ensures { result ≡ windowFrom body.now }
+    ensures { result ≡ window_from body.now }
 {
     12 + be16(body, 10) as usize
 }
 
 // A call of D. The frame is copied, since it and the window are parts of one lent slice.
 fn tell_data(s: Session, body: &mut [u8]) -> Told
-    requires body_in_bounds { windowFrom body.old ≤ length body.old }
+    requires body_in_bounds { window_from body.old ≤ length body.old }
     requires body_bound { num 2 body.old 0 ≤ 4096 }
-    ensures told_is { ToldIs (dataCall s body.old) result }
-    ensures body_after { body.new ≡ dataAfter s body.old }
+    ensures told_is { ToldIs (data_call s body.old) result }
+    ensures body_after { body.new ≡ data_after s body.old }
 {
     let n = be16(body, 10) as usize;
     let at = 12 + n;
@@ -168,7 +168,7 @@ fn tell_data(s: Session, body: &mut [u8]) -> Told
 }
 
 fn tell_next(s: Session, body: &[u8]) -> Told
-    ensures { ToldIs (nextCall s body.now) result }
+    ensures { ToldIs (next_call s body.now) result }
 {
     if body.len() < 16 {
         return no_call(s);
@@ -192,7 +192,7 @@ fn tell_next(s: Session, body: &[u8]) -> Told
 }
 
 fn tell_event(s: Session, body: &[u8]) -> Told
-    ensures { ToldIs (eventCall s body.now) result }
+    ensures { ToldIs (event_call s body.now) result }
 {
     if body.len() < 1 {
         return no_call(s);
@@ -211,7 +211,7 @@ fn tell_event(s: Session, body: &[u8]) -> Told
 
 // A drive made, or refused and the session as it was.
 fn made(s: Session, a: Answer) -> Told
-    ensures { ToldIs (madeBy s a) result }
+    ensures { ToldIs (made_by s a) result }
 {
     let none = [0u8; 0];
     let said = a.said;
@@ -236,7 +236,7 @@ fn made(s: Session, a: Answer) -> Told
 fn hand_frame(s: Session, room: usize, frame: &[u8], start: u64, window: &mut [u8]) -> Told
     requires { room ≤ 4096 }
     ensures told_is { ToldIs (handed s room frame.now start window.old) result }
-    ensures window_after { window.new ≡ frameInWindow s.drive frame.now start window.old room }
+    ensures window_after { window.new ≡ frame_in_window s.drive frame.now start window.old room }
 {
     let d = s.drive;
     let mut space = filled();
@@ -273,7 +273,7 @@ fn happen(s: Session, e: Event) -> Told
 // The drive's answer, and what it left in the buffer that it was lent.
 fn answered(s: Session, a: Answer, lent: &[u8]) -> Told
     requires { length lent.now ≤ 4096 }
-    ensures { ToldIs (toldAnswer s a lent.now) result }
+    ensures { ToldIs (told_answer s a lent.now) result }
 {
     let said = a.said;
     let after = a.drive;
@@ -290,7 +290,7 @@ fn answered(s: Session, a: Answer, lent: &[u8]) -> Told
 // The setup of a body of 153 bytes.
 fn setup_in(body: &[u8]) -> Setup
     requires { length body.now ≡ 153 }
-    ensures { result ≡ setupIn body.now }
+    ensures { result ≡ setup_in body.now }
 {
     let mut identity = [0u8; 28];
     put_front(&mut identity, &body[12..40]);

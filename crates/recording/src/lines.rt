@@ -1,7 +1,7 @@
 // The bytes of an answer.
 ghost use Rattle.std.specs.Prelude.{◌≡◌, ◌≤◌, length};
 ghost use Rattle.wire.specs.Bytes.{Wrote};
-ghost use Rattle.recording.specs.Answers.{allFill, flagOf, answer, answer_of, LineIs};
+ghost use Rattle.recording.specs.Answers.{all_fill, flag_of, answer, answer_of, LineIs};
 
 use crate::Line;
 use refusal::Said;
@@ -54,14 +54,14 @@ fn put_answer(number: u8, reply: &[u8], still: bool, out: &mut [u8]) -> usize
 }
 
 fn flag(still: bool) -> u8
-    ensures { result ≡ flagOf still }
+    ensures { result ≡ flag_of still }
 {
     if still { 1 } else { 0 }
 }
 
 // Whether every byte holds the fill.
 fn untouched(lent: &[u8]) -> bool
-    ensures { result ≡ allFill lent.now }
+    ensures { result ≡ all_fill lent.now }
 {
     let mut i = 0;
     while i < lent.len() {

@@ -18,17 +18,17 @@ number_of BadWindow = 10
 number_of NoWrite = 11
 
 -- "Frame in: 1 to 7 in order." "11, data frame for no open write, after 7; then 10 for its window" (02, 2).
-abbrev pub frameOrder : List Refusal
-frameOrder = ShortBuffer ∷ IllFormed ∷ BadSize ∷ NotOurs ∷ BadSource ∷ UnknownForm ∷ Unproven ∷ NoWrite ∷ BadWindow ∷ []
+abbrev pub frame_order : List Refusal
+frame_order = ShortBuffer ∷ IllFormed ∷ BadSize ∷ NotOurs ∷ BadSource ∷ UnknownForm ∷ Unproven ∷ NoWrite ∷ BadWindow ∷ []
 
 -- "Next frame out: 1, 2, 9, 7, 10."
-abbrev pub nextOrder : List Refusal
-nextOrder = ShortBuffer ∷ IllFormed ∷ NoExchange ∷ Unproven ∷ BadWindow ∷ []
+abbrev pub next_order : List Refusal
+next_order = ShortBuffer ∷ IllFormed ∷ NoExchange ∷ Unproven ∷ BadWindow ∷ []
 
 -- "Event: 2."
-abbrev pub eventOrder : List Refusal
-eventOrder = IllFormed ∷ []
+abbrev pub event_order : List Refusal
+event_order = IllFormed ∷ []
 
 -- "Making a drive: 8."
-abbrev pub makeOrder : List Refusal
-makeOrder = BadSetup ∷ []
+abbrev pub make_order : List Refusal
+make_order = BadSetup ∷ []

@@ -1,7 +1,7 @@
 // The payload of FCP_DATA, FCP_XFER_RDY and FCP_RSP, and sense (document 01, "Commands").
 ghost use Rattle.std.specs.Prelude.{◌≡◌, ◌≤◌, ◌<◌, length};
 ghost use Rattle.wire.specs.Bytes.{Wrote};
-ghost use Rattle.reply.specs.Payload.{residualFlag, residualSize, statusBytes, senseWith, senseBytes, responseBytes, dataBytes, readyBytes};
+ghost use Rattle.reply.specs.Payload.{residual_flag, residual_size, status_bytes, sense_with, sense_bytes, response_bytes, data_bytes, ready_bytes};
 
 use crate::{Residual, Response, Sense};
 use frame::Header;
@@ -9,7 +9,7 @@ use wire::{bytes4, least, put_front};
 
 // Sense of this key and code; what a drive tells has no qualifier and no information.
 pub fn sense_with(key: u8, code: u8) -> Sense
-    ensures { result ≡ senseWith key code }
+    ensures { result ≡ sense_with key code }
 {
     Sense {
         first: 0x70,
@@ -22,7 +22,7 @@ pub fn sense_with(key: u8, code: u8) -> Sense
 
 // Writes the 18 sense bytes at the front of the buffer, as much of them as fits.
 pub fn put_sense(s: Sense, out: &mut [u8]) -> usize
-    ensures { Wrote (senseBytes s) out.old out.new result 18 }
+    ensures { Wrote (sense_bytes s) out.old out.new result 18 }
 {
     let i = bytes4(s.information);
     let all = [
@@ -51,7 +51,7 @@ pub fn put_sense(s: Sense, out: &mut [u8]) -> usize
 
 // The bytes that the frame says, 2,048 at most, from the source.
 pub(crate) fn put_data(size: u16, source: &[u8], out: &mut [u8]) -> usize
-    ensures { Wrote (dataBytes size source.now) out.old out.new result 2048 }
+    ensures { Wrote (data_bytes size source.now) out.old out.new result 2048 }
 {
     let n = least(least(size as usize, Header::MOST_DATA), source.len());
     put_front(out, &source[..n]);
@@ -60,7 +60,7 @@ pub(crate) fn put_data(size: u16, source: &[u8], out: &mut [u8]) -> usize
 
 // FCP_XFER_RDY: offset, burst and a zero word.
 pub(crate) fn put_ready(offset: u32, burst: u32, out: &mut [u8]) -> usize
-    ensures { Wrote (readyBytes offset burst) out.old out.new result 2048 }
+    ensures { Wrote (ready_bytes offset burst) out.old out.new result 2048 }
 {
     let o = bytes4(offset);
     let b = bytes4(burst);
@@ -71,7 +71,7 @@ pub(crate) fn put_ready(offset: u32, burst: u32, out: &mut [u8]) -> usize
 
 pub(crate) fn put_response(x: Response, out: &mut [u8]) -> usize
     requires { 2112 ≤ length out.old }
-    ensures { Wrote (responseBytes x) out.old out.new result 2048 }
+    ensures { Wrote (response_bytes x) out.old out.new result 2048 }
 {
     match x {
         Response::Code(code) => put_code(code, out),
@@ -82,7 +82,7 @@ pub(crate) fn put_response(x: Response, out: &mut [u8]) -> usize
 
 fn put_code(code: u8, out: &mut [u8]) -> usize
     requires { 2112 ≤ length out.old }
-    ensures { Wrote (responseBytes (Response.Code code)) out.old out.new result 2048 }
+    ensures { Wrote (response_bytes (Response.Code code)) out.old out.new result 2048 }
 {
     let n = put_status(0x01, 0x00, 0, 0, 8, out);
     let b = [0, 0, 0, code, 0, 0, 0, 0];
@@ -92,7 +92,7 @@ fn put_code(code: u8, out: &mut [u8]) -> usize
 
 fn put_check(s: Sense, r: Residual, out: &mut [u8]) -> usize
     requires { 2112 ≤ length out.old }
-    ensures { Wrote (responseBytes (Response.Check s r)) out.old out.new result 2048 }
+    ensures { Wrote (response_bytes (Response.Check s r)) out.old out.new result 2048 }
 {
     let n = put_status(0x02 + flag_of(r), 0x02, size_of(r), 18, 0, out);
     let m = put_sense(s, &mut out[n..]);
@@ -101,7 +101,7 @@ fn put_check(s: Sense, r: Residual, out: &mut [u8]) -> usize
 
 // The 24 bytes that every FCP_RSP has.
 fn put_status(flags: u8, status: u8, resid: u32, sense: u32, response: u32, out: &mut [u8]) -> usize
-    ensures { Wrote (statusBytes flags status resid sense response) out.old out.new result 24 }
+    ensures { Wrote (status_bytes flags status resid sense response) out.old out.new result 24 }
 {
     let r = bytes4(resid);
     let s = bytes4(sense);
@@ -115,7 +115,7 @@ fn put_status(flags: u8, status: u8, resid: u32, sense: u32, response: u32, out:
 }
 
 fn flag_of(r: Residual) -> u8
-    ensures { (result ≡ residualFlag r) × (result < 9) }
+    ensures { (result ≡ residual_flag r) × (result < 9) }
 {
     match r {
         Residual::Exact => 0,
@@ -125,7 +125,7 @@ fn flag_of(r: Residual) -> u8
 }
 
 fn size_of(r: Residual) -> u32
-    ensures { result ≡ residualSize r }
+    ensures { result ≡ residual_size r }
 {
     match r {
         Residual::Exact => 0,

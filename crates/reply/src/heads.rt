@@ -1,6 +1,6 @@
 // The header of each reply (document 01, "Header and reply headers").
 ghost use Rattle.std.specs.Prelude.{◌≡◌, ◌<◌, cond};
-ghost use Rattle.reply.specs.Reply.{answerHead, logoutHead, dataHead, head_of};
+ghost use Rattle.reply.specs.Reply.{answer_head, logout_head, data_head, head_of};
 
 use crate::{DataFrame, Reply};
 use frame::Header;
@@ -26,7 +26,7 @@ pub(crate) fn reply_head(h: Header, r: Reply, fill: usize) -> Header
 }
 
 fn answer_head(h: Header, r_ctl: u8, protocol: u8, f_ctl: u32, seq_id: u8) -> Header
-    ensures { result ≡ answerHead h r_ctl protocol f_ctl seq_id }
+    ensures { result ≡ answer_head h r_ctl protocol f_ctl seq_id }
 {
     Header {
         r_ctl: r_ctl,
@@ -45,7 +45,7 @@ fn answer_head(h: Header, r_ctl: u8, protocol: u8, f_ctl: u32, seq_id: u8) -> He
 }
 
 fn logout_head(h: Header) -> Header
-    ensures { result ≡ logoutHead h }
+    ensures { result ≡ logout_head h }
 {
     let mut g = answer_head(h, 0x22, 0x01, 0x290000, 0x00);
     let to = h.s_id;
@@ -55,7 +55,7 @@ fn logout_head(h: Header) -> Header
 
 fn data_head(h: Header, d: DataFrame, fill: u32) -> Header
     requires { fill < 4 }
-    ensures { result ≡ dataHead h d fill }
+    ensures { result ≡ data_head h d fill }
 {
     let mut g = answer_head(h, 0x01, 0x08, data_control(d.last) + fill, 0x01);
     g.seq_cnt = d.count;

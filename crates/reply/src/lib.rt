@@ -4,9 +4,9 @@ mod heads;
 mod services;
 
 ghost use Rattle.std.specs.Prelude.{◌≡◌, ◌+◌, ◌≤◌, ◌<◌, length};
-ghost use Rattle.wire.specs.Bytes.{Wrote, onto, fillCount};
-ghost use Rattle.reply.specs.Payload.{payloadOf};
-ghost use Rattle.reply.specs.Reply.{filled, silent, bytes_of, sentOf, written_of};
+ghost use Rattle.wire.specs.Bytes.{Wrote, onto, fill_count};
+ghost use Rattle.reply.specs.Payload.{payload_of};
+ghost use Rattle.reply.specs.Reply.{filled, silent, bytes_of, sent_of, written_of};
 
 use commands::{put_data, put_ready, put_response};
 pub use commands::{put_sense, sense_with};
@@ -87,7 +87,7 @@ pub struct Sizes {
 // Writes a reply to the frame with header h at the front of the buffer, its data taken from the source, and answers its length.
 // A buffer under 2,136 bytes is left alone.
 pub fn write(o: Own, h: Header, r: Reply, source: &[u8], reply: &mut [u8]) -> usize
-    ensures value { result ≡ sentOf o h r source.now (length reply.old) }
+    ensures value { result ≡ sent_of o h r source.now (length reply.old) }
     ensures reply_after { reply.new ≡ written_of o h r source.now reply.old }
 {
     if reply.len() < Header::MOST_FRAME {
@@ -129,8 +129,8 @@ fn is_silent(r: Reply) -> bool
 // The payload and its fill at the front of the part that is lent.
 fn put_filled(o: Own, h: Header, r: Reply, source: &[u8], out: &mut [u8]) -> Sizes
     requires { 2112 ≤ length out.old }
-    ensures wrote { Wrote (filled (payloadOf o h r source.now)) out.old out.new (result.payload + result.fill) 2051 }
-    ensures payload_bound { (result.payload ≤ 2048) × (result.fill < 4) × (result.fill ≡ fillCount (length (payloadOf o h r source.now))) }
+    ensures wrote { Wrote (filled (payload_of o h r source.now)) out.old out.new (result.payload + result.fill) 2051 }
+    ensures payload_bound { (result.payload ≤ 2048) × (result.fill < 4) × (result.fill ≡ fill_count (length (payload_of o h r source.now))) }
 {
     let n = put_payload(o, h, r, source, out);
     let f = put_fill(&mut out[n..], n);
@@ -142,7 +142,7 @@ fn put_filled(o: Own, h: Header, r: Reply, source: &[u8], out: &mut [u8]) -> Siz
 
 fn put_payload(o: Own, h: Header, r: Reply, source: &[u8], out: &mut [u8]) -> usize
     requires { 2112 ≤ length out.old }
-    ensures { Wrote (payloadOf o h r source.now) out.old out.new result 2048 }
+    ensures { Wrote (payload_of o h r source.now) out.old out.new result 2048 }
 {
     let own = o.address;
     let words = o.accept;

@@ -1,14 +1,14 @@
 // The payload of each answer to a link service and to ABTS (document 01, "Link services").
 ghost use Rattle.std.specs.Prelude.{◌≤◌, length};
 ghost use Rattle.wire.specs.Bytes.{Wrote};
-ghost use Rattle.reply.specs.Payload.{shortBytes, loginBytes, addressBytes, pairBytes, unpairBytes, acceptedBytes, rejectBytes, logoutBytes, abortAcceptBytes, abortRejectBytes};
+ghost use Rattle.reply.specs.Payload.{short_bytes, login_bytes, address_bytes, pair_bytes, unpair_bytes, accepted_bytes, reject_bytes, logout_bytes, abort_accept_bytes, abort_reject_bytes};
 
 use crate::Accepted;
 use wire::{bytes2, bytes4, put_at, put_front};
 
 pub(crate) fn put_accepted(own: u32, words: [u8; 112], a: Accepted, out: &mut [u8]) -> usize
     requires { 2112 ≤ length out.old }
-    ensures { Wrote (acceptedBytes own words a) out.old out.new result 2048 }
+    ensures { Wrote (accepted_bytes own words a) out.old out.new result 2048 }
 {
     match a {
         Accepted::Short => put_short(out),
@@ -20,7 +20,7 @@ pub(crate) fn put_accepted(own: u32, words: [u8; 112], a: Accepted, out: &mut [u
 }
 
 fn put_short(out: &mut [u8]) -> usize
-    ensures { Wrote shortBytes out.old out.new result 2048 }
+    ensures { Wrote short_bytes out.old out.new result 2048 }
 {
     let b = [0x02, 0, 0, 0];
     put_front(out, &b);
@@ -29,7 +29,7 @@ fn put_short(out: &mut [u8]) -> usize
 
 fn put_login(words: [u8; 112], out: &mut [u8]) -> usize
     requires { 2112 ≤ length out.old }
-    ensures { Wrote (loginBytes words) out.old out.new result 2048 }
+    ensures { Wrote (login_bytes words) out.old out.new result 2048 }
 {
     let b = [0x02, 0, 0, 0];
     put_front(out, &b);
@@ -38,7 +38,7 @@ fn put_login(words: [u8; 112], out: &mut [u8]) -> usize
 }
 
 fn put_address(own: u32, words: [u8; 112], out: &mut [u8]) -> usize
-    ensures { Wrote (addressBytes own words) out.old out.new result 2048 }
+    ensures { Wrote (address_bytes own words) out.old out.new result 2048 }
 {
     let a = bytes4(own);
     let b = [0x02, 0, 0, 0, a[0], a[1], a[2], a[3]];
@@ -49,7 +49,7 @@ fn put_address(own: u32, words: [u8; 112], out: &mut [u8]) -> usize
 }
 
 fn put_pair(out: &mut [u8]) -> usize
-    ensures { Wrote pairBytes out.old out.new result 2048 }
+    ensures { Wrote pair_bytes out.old out.new result 2048 }
 {
     let b = [
         0x02, 0x10, 0, 0x14, 0x08, 0, 0x21, 0, 0, 0, 0, 0, 0, 0, 0, 0, 0, 0, 0, 0x12,
@@ -59,7 +59,7 @@ fn put_pair(out: &mut [u8]) -> usize
 }
 
 fn put_unpair(out: &mut [u8]) -> usize
-    ensures { Wrote unpairBytes out.old out.new result 2048 }
+    ensures { Wrote unpair_bytes out.old out.new result 2048 }
 {
     let b = [
         0x02, 0x10, 0, 0x14, 0x08, 0, 0x01, 0, 0, 0, 0, 0, 0, 0, 0, 0, 0, 0, 0, 0,
@@ -69,7 +69,7 @@ fn put_unpair(out: &mut [u8]) -> usize
 }
 
 pub(crate) fn put_reject(reason: u8, explanation: u8, out: &mut [u8]) -> usize
-    ensures { Wrote (rejectBytes reason explanation) out.old out.new result 2048 }
+    ensures { Wrote (reject_bytes reason explanation) out.old out.new result 2048 }
 {
     let b = [0x01, 0, 0, 0, 0, reason, explanation, 0];
     put_front(out, &b);
@@ -77,7 +77,7 @@ pub(crate) fn put_reject(reason: u8, explanation: u8, out: &mut [u8]) -> usize
 }
 
 pub(crate) fn put_logout(own: u32, words: [u8; 112], out: &mut [u8]) -> usize
-    ensures { Wrote (logoutBytes own words) out.old out.new result 2048 }
+    ensures { Wrote (logout_bytes own words) out.old out.new result 2048 }
 {
     let a = bytes4(own);
     let b = [0x05, 0, 0, 0, a[0], a[1], a[2], a[3]];
@@ -87,7 +87,7 @@ pub(crate) fn put_logout(own: u32, words: [u8; 112], out: &mut [u8]) -> usize
 }
 
 pub(crate) fn put_abort_accept(ox_id: u16, out: &mut [u8]) -> usize
-    ensures { Wrote (abortAcceptBytes ox_id) out.old out.new result 2048 }
+    ensures { Wrote (abort_accept_bytes ox_id) out.old out.new result 2048 }
 {
     let o = bytes2(ox_id);
     let b = [0, 0, 0, 0, o[0], o[1], 0xff, 0xff, 0, 0, 0xff, 0xff];
@@ -96,7 +96,7 @@ pub(crate) fn put_abort_accept(ox_id: u16, out: &mut [u8]) -> usize
 }
 
 pub(crate) fn put_abort_reject(out: &mut [u8]) -> usize
-    ensures { Wrote abortRejectBytes out.old out.new result 2048 }
+    ensures { Wrote abort_reject_bytes out.old out.new result 2048 }
 {
     let b = [0, 0x03, 0x03, 0];
     put_front(out, &b);

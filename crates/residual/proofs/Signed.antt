@@ -26,21 +26,21 @@ less a (suc b) =
       | no h ↦ rw (lt-ltb a (suc b) (lt_of_not-le h)) (down (lt_of_not-le h))
     ]
 
-pub less-small : {a b : ℕ} {z : ℤ} (m : ℕ) → Less a b z → a < m → b < m → mag z < m
-less-small m (up h) ha hb = omega arith
-less-small m (down h) ha hb = omega arith
+pub less_small : {a b : ℕ} {z : ℤ} (m : ℕ) → Less a b z → a < m → b < m → mag z < m
+less_small m (up h) ha hb = omega arith
+less_small m (down h) ha hb = omega arith
 
 module _ (w : Width) (a b : ℕ) (ha : a < 2 ^ hbits w) (hb : b < 2 ^ hbits w) where
   -- the difference of the two as the machine reads them
-  pub read-less : Less a b (to_z w a -ℤ to_z w b)
-  read-less = rw (to_z_pos w ha, to_z_pos w hb) (less a b)
+  pub read_less : Less a b (to_z w a -ℤ to_z w b)
+  read_less = rw (to_z_pos w ha, to_z_pos w hb) (less a b)
 
-  pub less-fits : SFits w (to_z w a -ℤ to_z w b)
-  less-fits = record { sfits = less-small (2 ^ hbits w) read-less ha hb }
+  pub less_fits : SFits w (to_z w a -ℤ to_z w b)
+  less_fits = record { sfits = less_small (2 ^ hbits w) read_less ha hb }
 
   -- and as it reads the difference back
-  pub held-less : Less a b (to_z w (of_z w (to_z w a -ℤ to_z w b)))
-  held-less = rw (to_z-of_z less-fits) read-less
+  pub held_less : Less a b (to_z w (of_z w (to_z w a -ℤ to_z w b)))
+  held_less = rw (to_z-of_z less_fits) read_less
 
 no : false ≡ true → ⊥
 no t = let z : ◌≡◌ {A = ℕ} 0 1 = cc in omega arith
@@ -50,17 +50,17 @@ pub above : {a b : ℕ} {z : ℤ} → Less a b z → lt_z (pos 0) z ≡ true →
 above {a} {b} (up h) t = (omega (arith, ltb-true 0 (a - b) t), refl)
 above (down h) t = absurd (no t)
 
-pub not-above : {a b : ℕ} {z : ℤ} → Less a b z → lt_z (pos 0) z ≡ false → a ≤ b
-not-above {a} {b} (up h) t = omega (arith, ltb-false 0 (a - b) t)
-not-above (down h) t = omega arith
+pub not_above : {a b : ℕ} {z : ℤ} → Less a b z → lt_z (pos 0) z ≡ false → a ≤ b
+not_above {a} {b} (up h) t = omega (arith, ltb-false 0 (a - b) t)
+not_above (down h) t = omega arith
 
 pub below : {a b : ℕ} {z : ℤ} → Less a b z → lt_z z (pos 0) ≡ true → (a < b) × (z ≡ negsuc (b - suc a))
 below {a} {b} (up h) t = absurd (not-suc-le-zero (ltb-true (a - b) 0 t))
 below (down h) t = (h, refl)
 
-pub not-below : {a b : ℕ} {z : ℤ} → Less a b z → lt_z z (pos 0) ≡ false → b ≤ a
-not-below (up h) t = h
-not-below (down h) t = absurd (no (sym t))
+pub not_below : {a b : ℕ} {z : ℤ} → Less a b z → lt_z z (pos 0) ≡ false → b ≤ a
+not_below (up h) t = h
+not_below (down h) t = absurd (no (sym t))
 
 -- the negation of what is below 0
 pub negated : {a b : ℕ} {z : ℤ} → a < b → z ≡ negsuc (b - suc a) → pos 0 -ℤ z ≡ pos (b - a)

@@ -4,5 +4,5 @@ use Rattle.reply.specs.declared.Residual.{Residual}
 use Rattle.reply.specs.declared.Residual.TheVariants.{Exact, Over, Under}
 
 -- "The signed difference of wanted and FCP_DL above 0 sets flag 04h, below 0 flag 08h, FCP_RESID its size"
-unfoldable pub residualOf : ℕ → ℕ → Residual
-residualOf wanted expected = cond (ltb expected wanted) (Over (wanted - expected)) (cond (ltb wanted expected) (Under (expected - wanted)) Exact)
+unfoldable pub residual_of : ℕ → ℕ → Residual
+residual_of wanted expected = cond (ltb expected wanted) (Over (wanted - expected)) (cond (ltb wanted expected) (Under (expected - wanted)) Exact)

@@ -32,8 +32,8 @@ spelled (suc (suc k)) (suc m) n h f =
     rw (le-ltb n 10 ten, spelled (suc k) m (n / 10) (omega arith) (omega arith, up, down))
 
 -- a number of 64 bits has at most 20 digits
-pub at-most-20 : (k n : ℕ) → n < 2 ^ 64 → IsDigitCount 10 1 n k → k ≤ 20
-at-most-20 k n h f =
+pub at_most_20 : (k n : ℕ) → n < 2 ^ 64 → IsDigitCount 10 1 n k → k ≤ 20
+at_most_20 k n h f =
     elim (dec_le k 20) [
       | yes l ↦ l
       | no l ↦ (let a : 10 ^ 20 ≤ 10 ^ (k - 1) = pow-le-pow_right {n = 10} (omega arith) {i = 20} {j = k - 1} (omega arith) in
@@ -43,6 +43,6 @@ at-most-20 k n h f =
           absurd (omega arith))
     ]
 
-pub decimal-is : (k n : ℕ) → k ≤ 20 → IsDigitCount 10 1 n k → last_digits 10 k n ≡ decimal n
+pub decimal_is : (k n : ℕ) → k ≤ 20 → IsDigitCount 10 1 n k → last_digits 10 k n ≡ decimal n
 unfolding decimal
-decimal-is k n h f = spelled k 20 n h f
+decimal_is k n h f = spelled k 20 n h f

@@ -2,7 +2,7 @@
 ghost use Rattle.std.specs.Prelude.{◌≤◌, length};
 ghost use Rattle.wire.specs.Bytes.{Wrote};
 ghost use Rattle.saying.specs.Text.{decimal, LineIs};
-ghost use Rattle.saying.specs.Ends.{nameText, whyText, endText};
+ghost use Rattle.saying.specs.Ends.{name_text, why_text, end_text};
 
 use wire::{least, put_front};
 
@@ -34,7 +34,7 @@ pub fn put_decimal(n: u64, out: &mut [u8]) -> usize
 
 // The line that a program of this name says on standard error where it ends at a record; an empty one where its input is over.
 pub fn end_line(name: &[u8], number: u64, end: End) -> Line
-    ensures { LineIs (endText name.now number end) result }
+    ensures { LineIs (end_text name.now number end) result }
 {
     let mut bytes = [0u8; 96];
     let n = put_end(name, number, end, &mut bytes);
@@ -46,7 +46,7 @@ pub fn end_line(name: &[u8], number: u64, end: End) -> Line
 
 fn put_end(name: &[u8], number: u64, end: End, out: &mut [u8]) -> usize
     requires { 96 ≤ length out.old }
-    ensures { Wrote (endText name.now number end) out.old out.new result 81 }
+    ensures { Wrote (end_text name.now number end) out.old out.new result 81 }
 {
     match end {
         End::Over => 0,
@@ -60,7 +60,7 @@ fn put_end(name: &[u8], number: u64, end: End, out: &mut [u8]) -> usize
 fn put_why(name: &[u8], number: u64, why: &[u8], out: &mut [u8]) -> usize
     requires why_len_bound { length why.now ≤ 36 }
     requires in_bounds { 96 ≤ length out.old }
-    ensures { Wrote (whyText name.now number why.now) out.old out.new result 81 }
+    ensures { Wrote (why_text name.now number why.now) out.old out.new result 81 }
 {
     let n = put_name(name, out);
     let k = put_decimal(number, &mut out[n..]);
@@ -72,7 +72,7 @@ fn put_why(name: &[u8], number: u64, why: &[u8], out: &mut [u8]) -> usize
 // The name, at most 16 bytes of it, and the word before the number.
 fn put_name(name: &[u8], out: &mut [u8]) -> usize
     requires { 96 ≤ length out.old }
-    ensures { Wrote (nameText name.now) out.old out.new result 25 }
+    ensures { Wrote (name_text name.now) out.old out.new result 25 }
 {
     let n = least(name.len(), 16);
     put_front(out, &name[..n]);

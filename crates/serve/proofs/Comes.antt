@@ -10,120 +10,120 @@ use lib.ListN.{length, take, drop, length-take}
 use borrow.Author.Tests.{eqb-true}
 use Rattle.tables.specs.declared.Found.TheVariants.{At}
 use Rattle.cover.specs.Cover.{cut}
-use Rattle.cover.proofs.Cuts.{cut-covers}
+use Rattle.cover.proofs.Cuts.{cut_covers}
 use Rattle.state.specs.declared.Exchange.{Exchange}
 use Rattle.state.specs.declared.Port.{Port}
 use Rattle.state.specs.declared.Unit.{Unit}
 use Rattle.state.specs.Standing.{Open}
-use Rattle.state.specs.Changes.{loginAt, advanced}
-use Rattle.state.specs.Kinds.{kindBlocks, isWrite}
-use Rattle.state.specs.Tables.{lookupOf}
-use Rattle.formed.specs.Formed.{total, nextBytes, wellFormed}
-use Rattle.formed.proofs.Advance.{Reads, sending, is_read, then-sent}
-use Rattle.serve.specs.Next.{hasMore, readsMore, position, place_of, frame_of, nextReply, exchangeOf, full_of, Frame, step_of, next_of}
+use Rattle.state.specs.Changes.{login_at, advanced}
+use Rattle.state.specs.Kinds.{kind_blocks, is_write}
+use Rattle.state.specs.Tables.{lookup_of}
+use Rattle.formed.specs.Formed.{total, next_bytes, well_formed}
+use Rattle.formed.proofs.Advance.{Reads, sending, is_read, then_sent}
+use Rattle.serve.specs.Next.{has_more, reads_more, position, place_of, frame_of, next_reply, exchange_of, full_of, Frame, step_of, next_of}
 use Rattle.serve.specs.Whole.{piece, ends, Ends}
 use Rattle.serve.proofs.Steps.{Passed, given}
-use Rattle.serve.proofs.Asking.{sends-reply, ends-reply}
-use Rattle.serve.proofs.Keeping.{next-kept}
-use Rattle.serve.proofs.Frames.{runs, full-pos, total-small, more_left, port-is}
-use Rattle.serve.proofs.Whole.{next-open, next-exchange, next-proven}
+use Rattle.serve.proofs.Asking.{sends_reply, ends_reply}
+use Rattle.serve.proofs.Keeping.{next_kept}
+use Rattle.serve.proofs.Frames.{runs, full_pos, total_small, more_left, port_is}
+use Rattle.serve.proofs.Whole.{next_open, next_exchange_lem, next_proven}
 
 -- the block in which the next READ data begin
 abbrev block : Exchange → ℕ
 block e = e.start + e.sent / 512
 
 -- a window of so many bytes from there on
-abbrev windowAt : List ℕ → ℕ → Exchange → List ℕ
-windowAt unit len e = cut unit (block e) len
+abbrev window_at : List ℕ → ℕ → Exchange → List ℕ
+window_at unit len e = cut unit (block e) len
 
 -- the next READ data are on the unit
-on-unit : (full : ℕ) (e : Exchange) (u : Unit) → e.sent < total e → Reads u e → position e + nextBytes full e ≤ 512 * u.capacity
-on-unit full e u short reads = let w = reads.wanted in let c = reads.inside in omega arith
+on_unit_lem : (full : ℕ) (e : Exchange) (u : Unit) → e.sent < total e → Reads u e → position e + next_bytes full e ≤ 512 * u.capacity
+on_unit_lem full e u short reads = let w = reads.wanted in let c = reads.inside in omega arith
 
 -- where the frame's bytes begin in that window
 record Placed (unit : List ℕ) (len full : ℕ) (e : Exchange) : Type 0 where
   k : ℕ
-  is : place_of full e (block e) (length (windowAt unit len e)) ≡ At k
+  is : place_of full e (block e) (length (window_at unit len e)) ≡ At k
 
-module _ (u : Unit) (unit : List ℕ) (long : length unit ≡ 512 * u.capacity) (len : ℕ) (least : 2560 ≤ len) (full : ℕ) (e : Exchange) (most : nextBytes full e ≤ 2048) (more : hasMore e ≡ true) (to : isWrite e ≡ false) where
-  placed-case : (b : Bool) → eqb e.kind kindBlocks ≡ b → (b ≡ true → Reads u e) → Placed unit len full e
-  unfolding place_of readsMore
-  placed-case true h reads =
-      let inside = on-unit full e u (more_left full e more) (reads refl) in
+module _ (u : Unit) (unit : List ℕ) (long : length unit ≡ 512 * u.capacity) (len : ℕ) (least : 2560 ≤ len) (full : ℕ) (e : Exchange) (most : next_bytes full e ≤ 2048) (more : has_more e ≡ true) (to : is_write e ≡ false) where
+  placed_case : (b : Bool) → eqb e.kind kind_blocks ≡ b → (b ≡ true → Reads u e) → Placed unit len full e
+  unfolding place_of reads_more
+  placed_case true h reads =
+      let inside = on_unit_lem full e u (more_left full e more) (reads refl) in
       record {
         k = e.sent % 512;
-        is = rw (h, to, more) (cut-covers unit e.start e.sent (nextBytes full e) len (omega arith) (rw long inside));
+        is = rw (h, to, more) (cut_covers unit e.start e.sent (next_bytes full e) len (omega arith) (rw long inside));
       }
-  placed-case false h reads = record { k = e.sent; is = rw h }
+  placed_case false h reads = record { k = e.sent; is = rw h }
 
 -- with nothing left, any window will do
-none-placed : (full : ℕ) (e : Exchange) → hasMore e ≡ false → place_of full e 0 0 ≡ At e.sent
-unfolding place_of readsMore
-none-placed full e h = rw (h, and-false (eqb e.kind kindBlocks && not (isWrite e)))
+none_placed : (full : ℕ) (e : Exchange) → has_more e ≡ false → place_of full e 0 0 ≡ At e.sent
+unfolding place_of reads_more
+none_placed full e h = rw (h, and-false (eqb e.kind kind_blocks && not (is_write e)))
 
 -- the bytes that are left grow fewer
 abbrev left : Exchange → ℕ
 left e = total e - e.sent
 
-fewer : (full : ℕ) (e : Exchange) → 0 < full → e.sent < total e → (e.sent + nextBytes full e) % 4294967296 ≡ e.sent + nextBytes full e → left (advanced e (nextBytes full e)) < left e
+fewer : (full : ℕ) (e : Exchange) → 0 < full → e.sent < total e → (e.sent + next_bytes full e) % 4294967296 ≡ e.sent + next_bytes full e → left (advanced e (next_bytes full e)) < left e
 fewer full e pos short wrap = rw wrap (omega arith)
 
 -- with windows of so many bytes, or what the unit has of them
 module _ (u : Unit) (unit : List ℕ) (long : length unit ≡ 512 * u.capacity) (len : ℕ) (least : 2560 ≤ len) (most : len ≤ 65536) (a x i j : ℕ) where
   -- what is known of the port before each frame
   record Ready (p : Port) : Type 0 where
-    formed : wellFormed u p ≡ true
-    stands : lookupOf p a x ≡ Open i j
-    proven : (loginAt p i).proven ≡ 1
-    to : isWrite (exchangeOf p i j) ≡ false
+    formed : well_formed u p ≡ true
+    stands : lookup_of p a x ≡ Open i j
+    proven : (login_at p i).proven ≡ 1
+    to : is_write (exchange_of p i j) ≡ false
 
   -- nothing is left but the response
-  ends-here : (p : Port) → hasMore (exchangeOf p i j) ≡ false → Ready p → Ends u unit a x p
-  ends-here p more ready =
-      let e = exchangeOf p i j in
-      let step : Passed p a x 0 0 i j e.sent = record { stands = ready.stands; proven = ready.proven; short = omega arith; place = none-placed (full_of p i) e more } in
-      record { pieces = []; response = _; after = _; run = ends 0 0 i j e.sent (given step) (ends-reply (full_of p i) e more); lone = refl }
+  ends_here : (p : Port) → has_more (exchange_of p i j) ≡ false → Ready p → Ends u unit a x p
+  ends_here p more ready =
+      let e = exchange_of p i j in
+      let step : Passed p a x 0 0 i j e.sent = record { stands = ready.stands; proven = ready.proven; short = omega arith; place = none_placed (full_of p i) e more } in
+      record { pieces = []; response = _; after = _; run = ends 0 0 i j e.sent (given step) (ends_reply (full_of p i) e more); lone = refl }
 
   -- the window of the next data frame
-  placed : (p : Port) → hasMore (exchangeOf p i j) ≡ true → Ready p → Placed unit len (full_of p i) (exchangeOf p i j)
+  placed : (p : Port) → has_more (exchange_of p i j) ≡ true → Ready p → Placed unit len (full_of p i) (exchange_of p i j)
   placed p more ready =
-      let e = exchangeOf p i j in
-      placed-case u unit long len least (full_of p i) e (few (loginAt p i).size (left e)) more ready.to (eqb e.kind kindBlocks) refl
-      (λ k. is_read u e (eqb-true e.kind kindBlocks k) (runs u p a x i j ready.formed ready.stands).wanted)
+      let e = exchange_of p i j in
+      placed_case u unit long len least (full_of p i) e (few (login_at p i).size (left e)) more ready.to (eqb e.kind kind_blocks) refl
+      (λ k. is_read u e (eqb-true e.kind kind_blocks k) (runs u p a x i j ready.formed ready.stands).wanted)
     where
       few : (size m : ℕ) → min (min size 2048) m ≤ 2048
       few size m = omega arith
 
-  step_given : (p : Port) (at : Placed unit len (full_of p i) (exchangeOf p i j)) → Ready p → step_of p a x (block (exchangeOf p i j)) (length (windowAt unit len (exchangeOf p i j))) ≡ Frame i j at.k
-  step_given p at ready = given record { stands = ready.stands; proven = ready.proven; short = short-window (512 * block (exchangeOf p i j)); place = at.is }
+  step_given : (p : Port) (at : Placed unit len (full_of p i) (exchange_of p i j)) → Ready p → step_of p a x (block (exchange_of p i j)) (length (window_at unit len (exchange_of p i j))) ≡ Frame i j at.k
+  step_given p at ready = given record { stands = ready.stands; proven = ready.proven; short = short_window (512 * block (exchange_of p i j)); place = at.is }
     where
-      short-window : (n : ℕ) → length (take len (drop n unit)) ≤ 65536
-      short-window n = let t = length-take len (drop n unit) in omega arith
+      short_window : (n : ℕ) → length (take len (drop n unit)) ≤ 65536
+      short_window n = let t = length-take len (drop n unit) in omega arith
 
   -- a data frame, and what comes after it
-  module _ (p : Port) (start k : ℕ) (more : hasMore (exchangeOf p i j) ≡ true) (step : step_of p a x start (length (cut unit start len)) ≡ Frame i j k) where
+  module _ (p : Port) (start k : ℕ) (more : has_more (exchange_of p i j) ≡ true) (step : step_of p a x start (length (cut unit start len)) ≡ Frame i j k) where
     abbrev then : Port
     then = (next_of u p a x start (cut unit start len)).port
 
     then_ready : Ready p → Ready then
     then_ready ready =
-        let is = port-is u p a x start (cut unit start len) i j k step in
+        let is = port_is u p a x start (cut unit start len) i j k step in
         record {
-          formed = next-kept u p a x start (cut unit start len) ready.formed;
-          stands = next-open u p a x i j ready.stands then more is;
-          proven = next-proven u p a x i j ready.stands then more is ∙ ready.proven;
-          to = ap (λ e. isWrite e) (next-exchange u p a x i j ready.stands then more is ready.to) ∙ ready.to;
+          formed = next_kept u p a x start (cut unit start len) ready.formed;
+          stands = next_open u p a x i j ready.stands then more is;
+          proven = next_proven u p a x i j ready.stands then more is ∙ ready.proven;
+          to = ap (λ e. is_write e) (next_exchange_lem u p a x i j ready.stands then more is ready.to) ∙ ready.to;
         }
 
-    then-fewer : Ready p → left (exchangeOf then i j) < left (exchangeOf p i j)
-    then-fewer ready =
-        let e = exchangeOf p i j in
+    then_fewer : Ready p → left (exchange_of then i j) < left (exchange_of p i j)
+    then_fewer ready =
+        let e = exchange_of p i j in
         let w = ready.formed in
         let o = ready.stands in
-        let pos = full-pos u p a x i j w o in
+        let pos = full_pos u p a x i j w o in
         let short = more_left (full_of p i) e more in
-        let wrap = then-sent (full_of p i) e pos (sending (runs u p a x i j w o) ready.to).fits short (total-small u p a x i j w o) in
-        rw (next-exchange u p a x i j o then more (port-is u p a x start (cut unit start len) i j k step) ready.to) (fewer (full_of p i) e pos short wrap)
+        let wrap = then_sent (full_of p i) e pos (sending (runs u p a x i j w o) ready.to).fits short (total_small u p a x i j w o) in
+        rw (next_exchange_lem u p a x i j o then more (port_is u p a x start (cut unit start len) i j k step) ready.to) (fewer (full_of p i) e pos short wrap)
 
     then_runs : Ready p → Ends u unit a x then → Ends u unit a x p
     then_runs ready rest =
@@ -131,32 +131,32 @@ module _ (u : Unit) (unit : List ℕ) (long : length unit ≡ 512 * u.capacity) 
           pieces = _;
           response = rest.response;
           after = rest.after;
-          run = piece start len i j k (frame_of (full_of p i) (exchangeOf p i j)) step (sends-reply (full_of p i) (exchangeOf p i j) more ready.to) rest.run;
+          run = piece start len i j k (frame_of (full_of p i) (exchange_of p i j)) step (sends_reply (full_of p i) (exchange_of p i j) more ready.to) rest.run;
           lone = rest.lone;
         }
 
-  comes-next : (p : Port) (b : Bool) → hasMore (exchangeOf p i j) ≡ b → Ready p → ((q : Port) → Ready q → left (exchangeOf q i j) < left (exchangeOf p i j) → Ends u unit a x q) → Ends u unit a x p
-  comes-next p false more ready rest = ends-here p more ready
-  comes-next p true more ready rest = with-place (placed p more ready)
+  comes_next : (p : Port) (b : Bool) → has_more (exchange_of p i j) ≡ b → Ready p → ((q : Port) → Ready q → left (exchange_of q i j) < left (exchange_of p i j) → Ends u unit a x q) → Ends u unit a x p
+  comes_next p false more ready rest = ends_here p more ready
+  comes_next p true more ready rest = with_place (placed p more ready)
     where
-      with-place : Placed unit len (full_of p i) (exchangeOf p i j) → Ends u unit a x p
-      with-place at =
-          let start = block (exchangeOf p i j) in
+      with_place : Placed unit len (full_of p i) (exchange_of p i j) → Ends u unit a x p
+      with_place at =
+          let start = block (exchange_of p i j) in
           let step = step_given p at ready in
-          then_runs p start at.k more step ready (rest (then p start at.k more step) (then_ready p start at.k more step ready) (then-fewer p start at.k more step ready))
+          then_runs p start at.k more step ready (rest (then p start at.k more step) (then_ready p start at.k more step ready) (then_fewer p start at.k more step ready))
 
-  comes : (fuel : ℕ) (p : Port) → left (exchangeOf p i j) ≤ fuel → Ready p → Ends u unit a x p
-  comes zero p h ready = comes-next p (hasMore (exchangeOf p i j)) refl ready (λ q on l. absurd (no-fewer (left (exchangeOf q i j)) (left (exchangeOf p i j)) h l))
+  comes : (fuel : ℕ) (p : Port) → left (exchange_of p i j) ≤ fuel → Ready p → Ends u unit a x p
+  comes zero p h ready = comes_next p (has_more (exchange_of p i j)) refl ready (λ q on l. absurd (no_fewer (left (exchange_of q i j)) (left (exchange_of p i j)) h l))
     where
-      no-fewer : (m n : ℕ) → n ≤ 0 → m < n → ⊥
-      no-fewer m n h l = omega arith
-  comes (suc fuel) p h ready = comes-next p (hasMore (exchangeOf p i j)) refl ready (λ q on l. comes fuel q (one_fewer (left (exchangeOf q i j)) (left (exchangeOf p i j)) h l) on)
+      no_fewer : (m n : ℕ) → n ≤ 0 → m < n → ⊥
+      no_fewer m n h l = omega arith
+  comes (suc fuel) p h ready = comes_next p (has_more (exchange_of p i j)) refl ready (λ q on l. comes fuel q (one_fewer (left (exchange_of q i j)) (left (exchange_of p i j)) h l) on)
     where
       one_fewer : (m n : ℕ) → n ≤ suc fuel → m < n → m ≤ fuel
       one_fewer m n h l = omega arith
 
 -- every open exchange of a proven login whose data go to the host can be served to its end, of whatever kind it is and whatever was sent of it
-pub run-comes : (u : Unit) (unit : List ℕ) (p : Port) (a x i j : ℕ) → wellFormed u p ≡ true → length unit ≡ 512 * u.capacity → lookupOf p a x ≡ Open i j → (loginAt p i).proven ≡ 1
-    → isWrite (exchangeOf p i j) ≡ false → Ends u unit a x p
-run-comes u unit p a x i j w long o proven to =
-    comes u unit long 65536 (omega arith) (omega arith) a x i j (left (exchangeOf p i j)) p (le_refl (left (exchangeOf p i j))) (record { formed = w; stands = o; proven = proven; to = to })
+pub run_comes : (u : Unit) (unit : List ℕ) (p : Port) (a x i j : ℕ) → well_formed u p ≡ true → length unit ≡ 512 * u.capacity → lookup_of p a x ≡ Open i j → (login_at p i).proven ≡ 1
+    → is_write (exchange_of p i j) ≡ false → Ends u unit a x p
+run_comes u unit p a x i j w long o proven to =
+    comes u unit long 65536 (omega arith) (omega arith) a x i j (left (exchange_of p i j)) p (le_refl (left (exchange_of p i j))) (record { formed = w; stands = o; proven = proven; to = to })

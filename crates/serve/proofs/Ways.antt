@@ -9,71 +9,71 @@ use borrow.Author.Tests.{eq-eqb, ne_eqb}
 use Rattle.tables.specs.declared.Found.{Found}
 use Rattle.tables.specs.declared.Found.TheVariants.{At, Nothing}
 use Rattle.wire.specs.Bytes.{bytes, onto, over}
-use Rattle.wire.proofs.Digits.{bytes-mod}
+use Rattle.wire.proofs.Digits.{bytes_mod}
 use Rattle.refusal.specs.declared.Refusal.TheVariants.{NoExchange, Unproven, BadWindow}
 use Rattle.refusal.specs.declared.Said.TheVariants.{Sent}
 use Rattle.state.specs.declared.Change.TheVariants.{Keep}
 use Rattle.state.specs.declared.Exchange.{Exchange}
 use Rattle.state.specs.declared.Login.{Login}
-use Rattle.state.specs.Changes.{exchangeAt, withExchange}
-use Rattle.state.specs.Tables.{findExchange}
-use Rattle.formed.specs.Formed.{fullFrame}
+use Rattle.state.specs.Changes.{exchange_at, with_exchange}
+use Rattle.state.specs.Tables.{find_exchange}
+use Rattle.formed.specs.Formed.{full_frame}
 use Rattle.frame.specs.declared.Header.{Header}
-use Rattle.reply.specs.Reply.{sentOf, written_of}
+use Rattle.reply.specs.Reply.{sent_of, written_of}
 use Rattle.calls.specs.declared.View.{View}
 use Rattle.calls.specs.declared.Turn.{Turn}
-use Rattle.calls.specs.Turn.{refusedTurn}
-use Rattle.serve.specs.Made.{inquiryFirst, inquiryBytes, capacityBytes}
-use Rattle.serve.specs.Next.{windowPlace, nextReply, nextExchange, source_of, askedBy}
-use Rattle.serve.specs.Turn.{nextTurn, nextTurnBuffer}
+use Rattle.calls.specs.Turn.{refused_turn}
+use Rattle.serve.specs.Made.{inquiry_first, inquiry_bytes, capacity_bytes}
+use Rattle.serve.specs.Next.{window_place, next_reply, next_exchange, source_of, asked_by}
+use Rattle.serve.specs.Turn.{next_turn, next_turn_buffer}
 
 -- the first eight bytes laid over zeros, and then the identity from byte 8 on
-pub inquiry-is : (identity b₁ b₂ : List ℕ) (kind first : ℕ) → length identity ≡ 28 → first ≡ inquiryFirst kind
-    → b₁ ≡ onto (first ∷ 0x00 ∷ 0x02 ∷ 0x02 ∷ 0x1f ∷ 0x00 ∷ 0x00 ∷ 0x02 ∷ []) (replicate 36 0) → b₂ ≡ over b₁ 8 identity → b₂ ≡ inquiryBytes identity kind
-unfolding onto over inquiryBytes
-inquiry-is identity b₁ b₂ kind first len e e₁ e₂ =
+pub inquiry_is : (identity b₁ b₂ : List ℕ) (kind first : ℕ) → length identity ≡ 28 → first ≡ inquiry_first kind
+    → b₁ ≡ onto (first ∷ 0x00 ∷ 0x02 ∷ 0x02 ∷ 0x1f ∷ 0x00 ∷ 0x00 ∷ 0x02 ∷ []) (replicate 36 0) → b₂ ≡ over b₁ 8 identity → b₂ ≡ inquiry_bytes identity kind
+unfolding onto over inquiry_bytes
+inquiry_is identity b₁ b₂ kind first len e e₁ e₂ =
     let few : length identity ≤ 28 = omega arith in
     rw (e₂, e₁, e, take_all 28 identity few, len, append-nil identity)
 
 -- the four bytes of the last address, and of 512
-pub capacity-is : (capacity last : ℕ) (b : List ℕ) → last ≡ capacity - 1 → b ≡ bytes 4 (last % 4294967296)
-    → get_or b 0 0 ∷ get_or b 1 0 ∷ get_or b 2 0 ∷ get_or b 3 0 ∷ 0x00 ∷ 0x00 ∷ 0x02 ∷ 0x00 ∷ [] ≡ capacityBytes capacity
-unfolding capacityBytes
-capacity-is capacity last b e h =
-    let is : b ≡ bytes 4 (capacity - 1) = h ∙ bytes-mod 4 last ∙ ap (bytes 4) e in
+pub capacity_is : (capacity last : ℕ) (b : List ℕ) → last ≡ capacity - 1 → b ≡ bytes 4 (last % 4294967296)
+    → get_or b 0 0 ∷ get_or b 1 0 ∷ get_or b 2 0 ∷ get_or b 3 0 ∷ 0x00 ∷ 0x00 ∷ 0x02 ∷ 0x00 ∷ [] ≡ capacity_bytes capacity
+unfolding capacity_bytes
+capacity_is capacity last b e h =
+    let is : b ≡ bytes 4 (capacity - 1) = h ∙ bytes_mod 4 last ∙ ap (bytes 4) e in
     rw is
 
 -- a next frame: what the turn t and the buffer after it are, by what its calls gave
 module _ (v : View) (a x start : ℕ) (W R : List ℕ) (t : Turn) where
   abbrev Says : List ℕ → Type 0
-  Says R₁ = (t ≡ nextTurn v a x start W (length R)) × (R₁ ≡ nextTurnBuffer v a x start W R)
+  Says R₁ = (t ≡ next_turn v a x start W (length R)) × (R₁ ≡ next_turn_buffer v a x start W R)
 
-  pub no-login : v.seat ≡ Nothing → t ≡ refusedTurn NoExchange → Says R
-  unfolding nextTurn nextTurnBuffer
-  no-login s e = rw s (e, refl)
+  pub no_login_lem : v.seat ≡ Nothing → t ≡ refused_turn NoExchange → Says R
+  unfolding next_turn next_turn_buffer
+  no_login_lem s e = rw s (e, refl)
 
   module _ (i : ℕ) (seat : v.seat ≡ At i) where
-    module _ (g : Found) (eg : g ≡ findExchange v.login x) where
-      pub no-exchange : g ≡ Nothing → t ≡ refusedTurn NoExchange → Says R
-      unfolding nextTurn nextTurnBuffer
-      no-exchange none e = rw (seat, sym eg ∙ none) (e, refl)
+    module _ (g : Found) (eg : g ≡ find_exchange v.login x) where
+      pub no_exchange_lem : g ≡ Nothing → t ≡ refused_turn NoExchange → Says R
+      unfolding next_turn next_turn_buffer
+      no_exchange_lem none e = rw (seat, sym eg ∙ none) (e, refl)
 
       module _ (j : ℕ) (place : g ≡ At j) where
-        pub not-proven : (v.login.proven ≡ 1 → ⊥) → t ≡ refusedTurn Unproven → Says R
-        unfolding nextTurn nextTurnBuffer
-        not-proven h e = rw (seat, sym eg ∙ place, ne_eqb v.login.proven 1 h) (e, refl)
+        pub not_proven : (v.login.proven ≡ 1 → ⊥) → t ≡ refused_turn Unproven → Says R
+        unfolding next_turn next_turn_buffer
+        not_proven h e = rw (seat, sym eg ∙ place, ne_eqb v.login.proven 1 h) (e, refl)
 
-        module _ (proven : v.login.proven ≡ 1) (e : Exchange) (ee : e ≡ exchangeAt v.login j) (w : Found) (ew : w ≡ windowPlace (fullFrame v.login.size) e start (length W)) where
-          pub no-window : w ≡ Nothing → t ≡ refusedTurn BadWindow → Says R
-          unfolding nextTurn nextTurnBuffer
-          no-window none d = rw (seat, sym eg ∙ place, eq-eqb v.login.proven 1 proven, sym ee, sym ew ∙ none) (d, refl)
+        module _ (proven : v.login.proven ≡ 1) (e : Exchange) (ee : e ≡ exchange_at v.login j) (w : Found) (ew : w ≡ window_place (full_frame v.login.size) e start (length W)) where
+          pub no_window : w ≡ Nothing → t ≡ refused_turn BadWindow → Says R
+          unfolding next_turn next_turn_buffer
+          no_window none d = rw (seat, sym eg ∙ place, eq-eqb v.login.proven 1 proven, sym ee, sym ew ∙ none) (d, refl)
 
-          pub frame-given : (k : ℕ) (h : Header) (n : ℕ) (R₁ : List ℕ) (f : Exchange) (m : Login) → w ≡ At k
-              → h ≡ askedBy v.own.address a x
-              → n ≡ sentOf v.own h (nextReply (fullFrame v.login.size) e) (source_of v.unit e k W) (length R)
-              → R₁ ≡ written_of v.own h (nextReply (fullFrame v.login.size) e) (source_of v.unit e k W) R
-              → f ≡ nextExchange (fullFrame v.login.size) e → m ≡ withExchange v.login j f
+          pub frame_given : (k : ℕ) (h : Header) (n : ℕ) (R₁ : List ℕ) (f : Exchange) (m : Login) → w ≡ At k
+              → h ≡ asked_by v.own.address a x
+              → n ≡ sent_of v.own h (next_reply (full_frame v.login.size) e) (source_of v.unit e k W) (length R)
+              → R₁ ≡ written_of v.own h (next_reply (full_frame v.login.size) e) (source_of v.unit e k W) R
+              → f ≡ next_exchange (full_frame v.login.size) e → m ≡ with_exchange v.login j f
               → t ≡ record { said = Sent n; change = Keep; at = At i; login = m } → Says R₁
-          unfolding nextTurn nextTurnBuffer
-          frame-given k h n R₁ f m some eh en er ef em et =
+          unfolding next_turn next_turn_buffer
+          frame_given k h n R₁ f m some eh en er ef em et =
               rw (seat, sym eg ∙ place, eq-eqb v.login.proven 1 proven, sym ee, sym ew ∙ some) (et ∙ rw (en, em, ef, eh), er ∙ rw eh)

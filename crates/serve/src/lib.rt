@@ -1,12 +1,12 @@
 // The next frame of an open exchange: its data frames one after the other, of a WRITE its FCP_XFER_RDYs, and then its FCP_RSP.
 ghost use Rattle.std.specs.Prelude.{◌≡◌, ◌-◌, ◌≤◌, length, drop};
-ghost use Rattle.state.specs.Kinds.{isWrite};
-ghost use Rattle.reply.specs.Payload.{senseBytes};
-ghost use Rattle.reply.specs.Reply.{sentOf, written_of};
-ghost use Rattle.formed.specs.Formed.{fullFrame, nextBytes};
-ghost use Rattle.serve.specs.Made.{inquiryFirst, inquiryBytes, capacityBytes, senseOf, madeBytes};
-ghost use Rattle.serve.specs.Next.{hasMore, readsMore, burstOf, readyReply, place_of, windowPlace, frame_of, nextReply, nextExchange, source_of, askedBy};
-ghost use Rattle.serve.specs.Turn.{nextTurn, nextTurnBuffer};
+ghost use Rattle.state.specs.Kinds.{is_write};
+ghost use Rattle.reply.specs.Payload.{sense_bytes};
+ghost use Rattle.reply.specs.Reply.{sent_of, written_of};
+ghost use Rattle.formed.specs.Formed.{full_frame, next_bytes};
+ghost use Rattle.serve.specs.Made.{inquiry_first, inquiry_bytes, capacity_bytes, sense_of, made_bytes};
+ghost use Rattle.serve.specs.Next.{has_more, reads_more, burst_of, ready_reply, place_of, window_place, frame_of, next_reply, next_exchange, source_of, asked_by};
+ghost use Rattle.serve.specs.Turn.{next_turn, next_turn_buffer};
 
 use calls::{Turn, View, refuse_turn};
 use cover::{covered, too_long};
@@ -25,8 +25,8 @@ use wire::{bytes4, least, put_at, put_front};
 // The next frame of the exchange of an address and an OX_ID, from a window of the unit's bytes that starts at a block; v is what a call of that address sees.
 // Refused by the first of 9, 7, 10 that fits. A buffer under 2,136 bytes is left alone, and whether the state is well formed is the caller's to tell.
 pub fn next(v: View, address: u32, ox_id: u16, start: u64, window: &[u8], reply: &mut [u8]) -> Turn
-    ensures value { result ≡ nextTurn v address ox_id start window.now (length reply.old) }
-    ensures reply_after { reply.new ≡ nextTurnBuffer v address ox_id start window.now reply.old }
+    ensures value { result ≡ next_turn v address ox_id start window.now (length reply.old) }
+    ensures reply_after { reply.new ≡ next_turn_buffer v address ox_id start window.now reply.old }
 {
     let seat = v.seat;
     let l = v.login;
@@ -58,7 +58,7 @@ pub fn next(v: View, address: u32, ox_id: u16, start: u64, window: &[u8], reply:
 
 // The same in a window of at most 65,536 bytes; in a longer one nowhere.
 fn window_place(size: u16, e: Exchange, start: u64, len: usize) -> Found
-    ensures { result ≡ windowPlace (fullFrame size) e start len }
+    ensures { result ≡ window_place (full_frame size) e start len }
 {
     if too_long(len) {
         return Found::Nothing;
@@ -68,7 +68,7 @@ fn window_place(size: u16, e: Exchange, start: u64, len: usize) -> Found
 
 // Where the frame's first byte stands: of READ data in the window, if that holds all of the frame's bytes; of made data among these.
 fn place_of(size: u16, e: Exchange, start: u64, len: usize) -> Found
-    ensures { result ≡ place_of (fullFrame size) e start len }
+    ensures { result ≡ place_of (full_frame size) e start len }
 {
     if reads_more(e) {
         return covered(e.start, e.sent, next_bytes(size, e), start, len);
@@ -78,7 +78,7 @@ fn place_of(size: u16, e: Exchange, start: u64, len: usize) -> Found
 
 // Whether the next frame carries READ data.
 fn reads_more(e: Exchange) -> bool
-    ensures { result ≡ readsMore e }
+    ensures { result ≡ reads_more e }
 {
     if e.kind != Exchange::BLOCKS {
         return false;
@@ -88,21 +88,21 @@ fn reads_more(e: Exchange) -> bool
 
 // Whether the data of an exchange come from the host.
 fn is_write(e: Exchange) -> bool
-    ensures { result ≡ isWrite e }
+    ensures { result ≡ is_write e }
 {
     e.direction == Exchange::FROM_HOST
 }
 
 // Whether an exchange has data left to send.
 fn has_more(e: Exchange) -> bool
-    ensures { result ≡ hasMore e }
+    ensures { result ≡ has_more e }
 {
     e.sent < total_of(e)
 }
 
 // The bytes of the next data frame.
 fn next_bytes(size: u16, e: Exchange) -> u32
-    ensures { (result ≡ nextBytes (fullFrame size) e) × (result ≤ 2048) }
+    ensures { (result ≡ next_bytes (full_frame size) e) × (result ≤ 2048) }
 {
     let full = full_frame(size);
     let all = total_of(e);
@@ -115,8 +115,8 @@ fn next_bytes(size: u16, e: Exchange) -> u32
 
 // Writes the next frame of an exchange of the login that is seen, its data from place k of their source on.
 fn put_frame(v: View, h: Header, e: Exchange, k: usize, window: &[u8], reply: &mut [u8]) -> usize
-    ensures value { result ≡ sentOf v.own h (nextReply (fullFrame v.login.size) e) (source_of v.unit e k window.now) (length reply.old) }
-    ensures reply_after { reply.new ≡ written_of v.own h (nextReply (fullFrame v.login.size) e) (source_of v.unit e k window.now) reply.old }
+    ensures value { result ≡ sent_of v.own h (next_reply (full_frame v.login.size) e) (source_of v.unit e k window.now) (length reply.old) }
+    ensures reply_after { reply.new ≡ written_of v.own h (next_reply (full_frame v.login.size) e) (source_of v.unit e k window.now) reply.old }
 {
     let l = v.login;
     let o = v.own;
@@ -129,8 +129,8 @@ fn put_frame(v: View, h: Header, e: Exchange, k: usize, window: &[u8], reply: &m
 
 // Writes a reply whose data are the made data of a kind from place k on.
 fn put_made(v: View, h: Header, r: Reply, kind: u16, k: usize, reply: &mut [u8]) -> usize
-    ensures value { result ≡ sentOf v.own h r (drop k (madeBytes v.unit kind)) (length reply.old) }
-    ensures reply_after { reply.new ≡ written_of v.own h r (drop k (madeBytes v.unit kind)) reply.old }
+    ensures value { result ≡ sent_of v.own h r (drop k (made_bytes v.unit kind)) (length reply.old) }
+    ensures reply_after { reply.new ≡ written_of v.own h r (drop k (made_bytes v.unit kind)) reply.old }
 {
     let u = v.unit;
     let o = v.own;
@@ -150,7 +150,7 @@ fn put_made(v: View, h: Header, r: Reply, kind: u16, k: usize, reply: &mut [u8])
 
 // Writes a reply whose data are the source from place k on.
 fn put_from(o: Own, h: Header, r: Reply, source: &[u8], k: usize, reply: &mut [u8]) -> usize
-    ensures value { result ≡ sentOf o h r (drop k source.now) (length reply.old) }
+    ensures value { result ≡ sent_of o h r (drop k source.now) (length reply.old) }
     ensures reply_after { reply.new ≡ written_of o h r (drop k source.now) reply.old }
 {
     let a = least(k, source.len());
@@ -159,7 +159,7 @@ fn put_from(o: Own, h: Header, r: Reply, source: &[u8], k: usize, reply: &mut [u
 
 // The header of a frame from an address to ours, to which the next frame is a reply.
 fn asked_by(own: u32, address: u32, ox_id: u16) -> Header
-    ensures { result ≡ askedBy own address ox_id }
+    ensures { result ≡ asked_by own address ox_id }
 {
     Header {
         r_ctl: 0,
@@ -179,7 +179,7 @@ fn asked_by(own: u32, address: u32, ox_id: u16) -> Header
 
 // What asks for the data of a WRITE: FCP_XFER_RDY, and nothing while they are awaited.
 fn ready_reply(e: Exchange) -> Reply
-    ensures { result ≡ readyReply e }
+    ensures { result ≡ ready_reply e }
 {
     if e.awaited == 1 {
         return Reply::Nothing;
@@ -189,7 +189,7 @@ fn ready_reply(e: Exchange) -> Reply
 
 // The bytes that are asked for at a time: those left, 65,536 at most.
 fn burst_of(e: Exchange) -> u32
-    ensures { result ≡ burstOf e }
+    ensures { result ≡ burst_of e }
 {
     let all = total_of(e);
     if all <= e.sent {
@@ -205,7 +205,7 @@ fn burst_of(e: Exchange) -> u32
 
 // The next data frame, what asks for one, or FCP_RSP where all data are sent.
 fn next_reply(size: u16, e: Exchange) -> Reply
-    ensures { result ≡ nextReply (fullFrame size) e }
+    ensures { result ≡ next_reply (full_frame size) e }
 {
     if has_more(e) {
         if is_write(e) {
@@ -219,7 +219,7 @@ fn next_reply(size: u16, e: Exchange) -> Reply
 
 // The next data frame: where its bytes stand among those of the exchange, its number, how many they are, and whether they are the last.
 fn frame_of(size: u16, e: Exchange) -> DataFrame
-    ensures { result ≡ frame_of (fullFrame size) e }
+    ensures { result ≡ frame_of (full_frame size) e }
 {
     let n = next_bytes(size, e);
     DataFrame {
@@ -232,7 +232,7 @@ fn frame_of(size: u16, e: Exchange) -> DataFrame
 
 // The exchange after its next frame: one data frame on, its data asked for, or its place freed.
 fn next_exchange(size: u16, e: Exchange) -> Exchange
-    ensures { result ≡ nextExchange (fullFrame size) e }
+    ensures { result ≡ next_exchange (full_frame size) e }
 {
     if has_more(e) {
         if is_write(e) {
@@ -245,7 +245,7 @@ fn next_exchange(size: u16, e: Exchange) -> Exchange
 
 // INQUIRY data, of another unit than 0 with 7Fh first.
 fn inquiry_bytes(identity: [u8; 28], kind: u16) -> [u8; 36]
-    ensures { result ≡ inquiryBytes identity kind }
+    ensures { result ≡ inquiry_bytes identity kind }
 {
     let first = inquiry_first(kind);
     let head = [first, 0x00, 0x02, 0x02, 0x1f, 0x00, 0x00, 0x02];
@@ -257,7 +257,7 @@ fn inquiry_bytes(identity: [u8; 28], kind: u16) -> [u8; 36]
 
 // The first byte of INQUIRY data.
 fn inquiry_first(kind: u16) -> u8
-    ensures { result ≡ inquiryFirst kind }
+    ensures { result ≡ inquiry_first kind }
 {
     if kind == Exchange::INQUIRY_OTHER_UNIT {
         0x7f
@@ -268,7 +268,7 @@ fn inquiry_first(kind: u16) -> u8
 
 // READ CAPACITY data: the last block's address, and the bytes of a block.
 fn capacity_bytes(u: Unit) -> [u8; 8]
-    ensures { result ≡ capacityBytes u.capacity }
+    ensures { result ≡ capacity_bytes u.capacity }
 {
     let last = bytes4((last_block(u.capacity) % 4294967296) as u32);
     [last[0], last[1], last[2], last[3], 0x00, 0x00, 0x02, 0x00]
@@ -283,7 +283,7 @@ fn last_block(capacity: u64) -> u64
 
 // What REQUEST SENSE tells.
 fn sense_of(kind: u16) -> Sense
-    ensures { result ≡ senseOf kind }
+    ensures { result ≡ sense_of kind }
 {
     if kind == Exchange::SENSE_RESET {
         return sense_with(0x06, 0x29);
@@ -299,7 +299,7 @@ fn sense_of(kind: u16) -> Sense
 
 // The 18 bytes of a sense.
 fn sense_bytes(s: Sense) -> [u8; 18]
-    ensures { result ≡ senseBytes s }
+    ensures { result ≡ sense_bytes s }
 {
     let mut b = [0u8; 18];
     put_sense(s, &mut b);

@@ -9,8 +9,8 @@ use Rattle.state.specs.contracts.Login as login
 use Rattle.state.specs.contracts.Exchange as exchange
 use Rattle.state.specs.contracts.Port as port
 
-pub logins-8 : (p : Port) (vs : List Val) → shadow ((port.the_row).own_val p vs) → length p.logins ≡ 8
-logins-8 p vs g = sym (length-map p.logins (login.the_field).into) ∙ g.1.1.1.1.0.1.0.1
+pub logins_8 : (p : Port) (vs : List Val) → shadow ((port.the_row).own_val p vs) → length p.logins ≡ 8
+logins_8 p vs g = sym (length-map p.logins (login.the_field).into) ∙ g.1.1.1.1.0.1.0.1
 
-pub places-8 : (l : Login) (vs : List Val) → shadow ((login.the_row).own_val l vs) → length l.places ≡ 8
-places-8 l vs g = sym (length-map l.places (exchange.the_field).into) ∙ g.1.1.1.1.1.1.1.1.1.1.1.1.0.1.0.1
+pub places_8 : (l : Login) (vs : List Val) → shadow ((login.the_row).own_val l vs) → length l.places ≡ 8
+places_8 l vs g = sym (length-map l.places (exchange.the_field).into) ∙ g.1.1.1.1.1.1.1.1.1.1.1.1.0.1.0.1

@@ -10,8 +10,8 @@ use Rattle.state.specs.declared.Change.{Change}
 use Rattle.state.specs.declared.Change.TheVariants.{Keep, EndAll, EndLogin, EndHost, Unprove, EndUnproven, EndExchangesOf, Reset, Clear}
 
 -- a free place for an exchange
-abbrev pub emptyExchange : Exchange
-emptyExchange =
+abbrev pub empty_exchange : Exchange
+empty_exchange =
     record {
       kind = 0;
       ox_id = 0;
@@ -43,36 +43,36 @@ blank name es =
     }
 
 -- what reading past the end of a list of logins gives
-abbrev pub noLogin : Login
-noLogin = blank [] []
+abbrev pub no_login : Login
+no_login = blank [] []
 
 -- "A freed place": a free place for a login
-abbrev pub emptyLogin : Login
-emptyLogin = blank (replicate 8 0) (replicate 8 emptyExchange)
+abbrev pub empty_login : Login
+empty_login = blank (replicate 8 0) (replicate 8 empty_exchange)
 
 -- what a reply and the rules take from a port: its address and accept words
 unfoldable pub own_of : Port → Own
 own_of p = record { address = p.address; accept = p.accept }
 
 -- the login at a place, an empty one past the end
-unfoldable pub loginAt : Port → ℕ → Login
-loginAt p i = slice_index_or p.logins i emptyLogin
+unfoldable pub login_at : Port → ℕ → Login
+login_at p i = slice_index_or p.logins i empty_login
 
 -- the exchange at a place of a login, an empty one past the end
-unfoldable pub exchangeAt : Login → ℕ → Exchange
-exchangeAt l j = slice_index_or l.places j emptyExchange
+unfoldable pub exchange_at : Login → ℕ → Exchange
+exchange_at l j = slice_index_or l.places j empty_exchange
 
 -- the port with another table of logins
-abbrev pub withLogins : Port → List Login → Port
-withLogins p ls = record { address = p.address; accept = p.accept; logins = ls }
+abbrev pub with_logins : Port → List Login → Port
+with_logins p ls = record { address = p.address; accept = p.accept; logins = ls }
 
 -- the port with another login at a place
-unfoldable pub withLogin : Port → ℕ → Login → Port
-withLogin p i l = withLogins p (slice_set p.logins i l)
+unfoldable pub with_login : Port → ℕ → Login → Port
+with_login p i l = with_logins p (slice_set p.logins i l)
 
 -- the login with other flags, attention and exchanges
-abbrev pub withState : Login → ℕ → ℕ → ℕ → List Exchange → Login
-withState l proven paired attention es =
+abbrev pub with_state : Login → ℕ → ℕ → ℕ → List Exchange → Login
+with_state l proven paired attention es =
     record {
       used = l.used;
       proven = proven;
@@ -87,29 +87,29 @@ withState l proven paired attention es =
       places = es;
     }
 
-abbrev pub withProven : Login → ℕ → Login
-withProven l b = withState l b l.paired l.attention l.places
+abbrev pub with_proven : Login → ℕ → Login
+with_proven l b = with_state l b l.paired l.attention l.places
 
-abbrev pub withPaired : Login → ℕ → Login
-withPaired l b = withState l l.proven b l.attention l.places
+abbrev pub with_paired : Login → ℕ → Login
+with_paired l b = with_state l l.proven b l.attention l.places
 
-abbrev pub withAttention : Login → ℕ → Login
-withAttention l a = withState l l.proven l.paired a l.places
+abbrev pub with_attention : Login → ℕ → Login
+with_attention l a = with_state l l.proven l.paired a l.places
 
-abbrev pub withPlaces : Login → List Exchange → Login
-withPlaces l es = withState l l.proven l.paired l.attention es
+abbrev pub with_places : Login → List Exchange → Login
+with_places l es = with_state l l.proven l.paired l.attention es
 
 -- the login with another exchange at a place
-unfoldable pub withExchange : Login → ℕ → Exchange → Login
-withExchange l j e = withPlaces l (slice_set l.places j e)
+unfoldable pub with_exchange : Login → ℕ → Exchange → Login
+with_exchange l j e = with_places l (slice_set l.places j e)
 
 -- the exchange at a place ends
-abbrev pub endedAt : Login → ℕ → Login
-endedAt l j = withExchange l j emptyExchange
+abbrev pub ended_at : Login → ℕ → Login
+ended_at l j = with_exchange l j empty_exchange
 
 -- all exchanges of a login end
-unfoldable pub withoutExchanges : Login → Login
-withoutExchanges l = withPlaces l (replicate 8 emptyExchange)
+unfoldable pub without_exchanges : Login → Login
+without_exchanges l = with_places l (replicate 8 empty_exchange)
 
 -- a data frame of n bytes more was sent; "SEQ_CNT as a wrapping 16-bit count"
 abbrev pub advanced : Exchange → ℕ → Exchange
@@ -159,73 +159,73 @@ taken e n awaited =
       awaited = awaited;
     }
 
-abbrev pub isUsed : Login → Bool
-isUsed l = l.used == 1
+abbrev pub is_used : Login → Bool
+is_used l = l.used == 1
 
 -- a place for an exchange is free
-abbrev pub isClosed : Exchange → Bool
-isClosed e = e.kind == 0
+abbrev pub is_closed : Exchange → Bool
+is_closed e = e.kind == 0
 
 -- a login is used and has this address
-unfoldable pub hasAddress : ℕ → Login → Bool
-hasAddress a l = isUsed l && l.address == a
+unfoldable pub has_address : ℕ → Login → Bool
+has_address a l = is_used l && l.address == a
 
 -- a login is used and has this port name, by its number ("port name" is W5-6 alone)
-unfoldable pub hasName : ℕ → Login → Bool
-hasName n l = isUsed l && name_of l.port_name == n
+unfoldable pub has_name : ℕ → Login → Bool
+has_name n l = is_used l && name_of l.port_name == n
 
 -- a login is of a host with this address or this port name
-abbrev pub isHost : ℕ → ℕ → Login → Bool
-isHost a n l = hasAddress a l || hasName n l
+abbrev pub is_host : ℕ → ℕ → Login → Bool
+is_host a n l = has_address a l || has_name n l
 
 -- "power on ends all": a login ends, and a free place stays as it is
-unfoldable pub freedOf : Login → Login
-freedOf l = cond (isUsed l) emptyLogin l
+unfoldable pub freed_of : Login → Login
+freed_of l = cond (is_used l) empty_login l
 
 -- the login of an address ends, with its exchanges
 unfoldable pub ended_of : ℕ → Login → Login
-ended_of a l = cond (hasAddress a l) emptyLogin l
+ended_of a l = cond (has_address a l) empty_login l
 
 -- PLOGI "ends the sender's login and exchanges"; "with a port name logged in at another address, ends that login and its exchanges" (02, 1)
-unfoldable pub hostEnded : ℕ → ℕ → Login → Login
-hostEnded a n l = cond (isHost a n l) emptyLogin l
+unfoldable pub host_ended : ℕ → ℕ → Login → Login
+host_ended a n l = cond (is_host a n l) empty_login l
 
 -- "loop reset marks every login unproven"
 unfoldable pub unproven : Login → Login
-unproven l = cond (isUsed l) (withProven l 0) l
+unproven l = cond (is_used l) (with_proven l 0) l
 
 -- "verification time over ends the unproven ones"
 unfoldable pub verified : Login → Login
-verified l = cond (isUsed l) (cond (l.proven == 1) l emptyLogin) l
+verified l = cond (is_used l) (cond (l.proven == 1) l empty_login) l
 
 -- the exchanges of the login of an address end
-unfoldable pub abortedOf : ℕ → Login → Login
-abortedOf a l = cond (hasAddress a l) (withoutExchanges l) l
+unfoldable pub aborted_of : ℕ → Login → Login
+aborted_of a l = cond (has_address a l) (without_exchanges l) l
 
 -- "20h target reset ends all exchanges and gives every login attention 29h"
-unfoldable pub resetOf : Login → Login
-resetOf l = cond (isUsed l) (withAttention (withoutExchanges l) 0x29) l
+unfoldable pub reset_of : Login → Login
+reset_of l = cond (is_used l) (with_attention (without_exchanges l) 0x29) l
 
 -- "after 04h each other login that lost one gets 2Fh unless 29h stands": the login is one of these
-unfoldable pub losesTo : ℕ → Login → Bool
-losesTo from l = not (l.address == from) && not (all isClosed l.places) && not (l.attention == 0x29)
+unfoldable pub loses_to : ℕ → Login → Bool
+loses_to from l = not (l.address == from) && not (all is_closed l.places) && not (l.attention == 0x29)
 
 -- "04h clear task set ends all", sent by this address
-unfoldable pub clearedBy : ℕ → Login → Login
-clearedBy from l = cond (isUsed l) (cond (losesTo from l) (withAttention (withoutExchanges l) 0x2f) (withoutExchanges l)) l
+unfoldable pub cleared_by : ℕ → Login → Login
+cleared_by from l = cond (is_used l) (cond (loses_to from l) (with_attention (without_exchanges l) 0x2f) (without_exchanges l)) l
 
 -- what a change makes of one login
-abbrev pub changedOf : Change → Login → Login
-changedOf Keep l = l
-changedOf EndAll l = freedOf l
-changedOf (EndLogin a) l = ended_of a l
-changedOf (EndHost a n) l = hostEnded a n l
-changedOf Unprove l = unproven l
-changedOf EndUnproven l = verified l
-changedOf (EndExchangesOf a) l = abortedOf a l
-changedOf Reset l = resetOf l
-changedOf (Clear from) l = clearedBy from l
+abbrev pub changed_of : Change → Login → Login
+changed_of Keep l = l
+changed_of EndAll l = freed_of l
+changed_of (EndLogin a) l = ended_of a l
+changed_of (EndHost a n) l = host_ended a n l
+changed_of Unprove l = unproven l
+changed_of EndUnproven l = verified l
+changed_of (EndExchangesOf a) l = aborted_of a l
+changed_of Reset l = reset_of l
+changed_of (Clear from) l = cleared_by from l
 
 -- and of every login of a port
-unfoldable pub changedAll : Change → Port → Port
-changedAll c p = withLogins p (map (changedOf c) p.logins)
+unfoldable pub changed_all : Change → Port → Port
+changed_all c p = with_logins p (map (changed_of c) p.logins)

@@ -2,52 +2,52 @@
 use Rattle.std.specs.Prelude.{ℕ, Bool, not, ◌&&◌, ◌==◌}
 use Rattle.tables.specs.declared.Found.{Found}
 use Rattle.tables.specs.declared.Found.TheVariants.{At, Nothing}
-use Rattle.tables.specs.Lists.{first, onFound}
+use Rattle.tables.specs.Lists.{first, on_found}
 use Rattle.state.specs.declared.Exchange.{Exchange}
 use Rattle.state.specs.declared.Login.{Login}
 use Rattle.state.specs.declared.Port.{Port}
 use Rattle.state.specs.Standing.{Standing, Open, NoExchange, NoLogin}
-use Rattle.state.specs.Changes.{emptyLogin, isUsed, isClosed, hasAddress, loginAt}
+use Rattle.state.specs.Changes.{empty_login, is_used, is_closed, has_address, login_at}
 
 -- a place for a login is free
-abbrev pub isFree : Login → Bool
-isFree l = not (isUsed l)
+abbrev pub is_free : Login → Bool
+is_free l = not (is_used l)
 
 -- an exchange is open and has this OX_ID
-unfoldable pub hasId : ℕ → Exchange → Bool
-hasId x e = not (isClosed e) && e.ox_id == x
+unfoldable pub has_id : ℕ → Exchange → Bool
+has_id x e = not (is_closed e) && e.ox_id == x
 
 -- the login of an address
-unfoldable pub findLogin : Port → ℕ → Found
-findLogin p a = first (hasAddress a) p.logins
+unfoldable pub find_login : Port → ℕ → Found
+find_login p a = first (has_address a) p.logins
 
 -- the lowest free place for a login
-unfoldable pub freeLogin : Port → Found
-freeLogin p = first isFree p.logins
+unfoldable pub free_login : Port → Found
+free_login p = first is_free p.logins
 
 -- a login's exchange of this OX_ID
-unfoldable pub findExchange : Login → ℕ → Found
-findExchange l x = first (hasId x) l.places
+unfoldable pub find_exchange : Login → ℕ → Found
+find_exchange l x = first (has_id x) l.places
 
 -- the lowest free place of a login for an exchange
-unfoldable pub freeExchange : Login → Found
-freeExchange l = first isClosed l.places
+unfoldable pub free_exchange : Login → Found
+free_exchange l = first is_closed l.places
 
 -- the login at a seat, an empty one where there is none
-abbrev pub loginIn : Port → Found → Login
-loginIn p seat = onFound seat (loginAt p) emptyLogin
+abbrev pub login_in : Port → Found → Login
+login_in p seat = on_found seat (login_at p) empty_login
 
 -- the login of an address, an empty one where it has none
-unfoldable pub loginOf : Port → ℕ → Login
-loginOf p a = loginIn p (findLogin p a)
+unfoldable pub login_of : Port → ℕ → Login
+login_of p a = login_in p (find_login p a)
 
 -- where an exchange stands: the seat of its login, if there is one, and its place there, if it is found
-abbrev pub standingIn : Found → Found → Standing
-standingIn seat place = onFound seat (λ i. onFound place (λ j. Open i j) (NoExchange i)) NoLogin
+abbrev pub standing_in : Found → Found → Standing
+standing_in seat place = on_found seat (λ i. on_found place (λ j. Open i j) (NoExchange i)) NoLogin
 
 -- the exchange of an address and an OX_ID
-unfoldable pub lookupOf : Port → ℕ → ℕ → Standing
-lookupOf p a x = standingIn (findLogin p a) (findExchange (loginOf p a) x)
+unfoldable pub lookup_of : Port → ℕ → ℕ → Standing
+lookup_of p a x = standing_in (find_login p a) (find_exchange (login_of p a) x)
 
 -- the place of that exchange at its login
 abbrev pub place_in : Standing → Found
@@ -56,5 +56,5 @@ place_in (NoExchange i) = Nothing
 place_in NoLogin = Nothing
 
 -- that of an address and an OX_ID
-abbrev pub soughtIn : Port → ℕ → ℕ → Found
-soughtIn p a x = place_in (lookupOf p a x)
+abbrev pub sought_in : Port → ℕ → ℕ → Found
+sought_in p a x = place_in (lookup_of p a x)

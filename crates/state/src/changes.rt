@@ -1,13 +1,13 @@
 // What each change makes of one login (document 01, the events of "Link services" and the task flags of "Commands").
 ghost use Rattle.std.specs.Prelude.{◌≡◌};
-ghost use Rattle.state.specs.Changes.{freedOf, ended_of, hostEnded, unproven, verified, abortedOf, resetOf, losesTo, clearedBy};
+ghost use Rattle.state.specs.Changes.{freed_of, ended_of, host_ended, unproven, verified, aborted_of, reset_of, loses_to, cleared_by};
 
 use crate::Login;
 use crate::searches::{all_closed, has_address, is_host};
 use crate::stored::{empty_login, end_exchanges, set_attention};
 
 pub(crate) fn freed(l: Login) -> Login
-    ensures { result ≡ freedOf l }
+    ensures { result ≡ freed_of l }
 {
     if l.used == 1 { empty_login() } else { l }
 }
@@ -23,7 +23,7 @@ pub(crate) fn ended(l: Login, address: u32) -> Login
 }
 
 pub(crate) fn host_ended(l: Login, address: u32, name: u64) -> Login
-    ensures { result ≡ hostEnded address name l }
+    ensures { result ≡ host_ended address name l }
 {
     if is_host(l, address, name) {
         empty_login()
@@ -55,7 +55,7 @@ pub(crate) fn time_over(l: Login) -> Login
 }
 
 pub(crate) fn aborted(l: Login, address: u32) -> Login
-    ensures { result ≡ abortedOf address l }
+    ensures { result ≡ aborted_of address l }
 {
     if has_address(l, address) {
         end_exchanges(l)
@@ -65,7 +65,7 @@ pub(crate) fn aborted(l: Login, address: u32) -> Login
 }
 
 pub(crate) fn reset(l: Login) -> Login
-    ensures { result ≡ resetOf l }
+    ensures { result ≡ reset_of l }
 {
     if l.used == 1 {
         let m = end_exchanges(l);
@@ -76,7 +76,7 @@ pub(crate) fn reset(l: Login) -> Login
 }
 
 pub(crate) fn cleared(l: Login, from: u32) -> Login
-    ensures { result ≡ clearedBy from l }
+    ensures { result ≡ cleared_by from l }
 {
     if l.used == 1 {
         let m = end_exchanges(l);
@@ -92,7 +92,7 @@ pub(crate) fn cleared(l: Login, from: u32) -> Login
 
 // Whether a login is another than the sender's, has an exchange to lose, and no attention 29h that stands.
 fn loses_to(l: Login, from: u32) -> bool
-    ensures { result ≡ losesTo from l }
+    ensures { result ≡ loses_to from l }
 {
     let t = l.places;
     if l.address == from {

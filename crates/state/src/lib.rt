@@ -5,7 +5,7 @@ mod searches;
 mod stored;
 
 ghost use Rattle.std.specs.Prelude.{◌≡◌};
-ghost use Rattle.state.specs.Changes.{own_of, changedOf, changedAll};
+ghost use Rattle.state.specs.Changes.{own_of, changed_of, changed_all};
 
 use changes::{aborted, cleared, ended, freed, host_ended, reset, time_over, unproved};
 pub use searches::{all_closed, find_exchange, free_exchange, is_closed, is_free};
@@ -175,7 +175,7 @@ pub fn own_of(p: Port) -> Own
 
 // What a change makes of one login. A free place stays free.
 pub fn changed(l: Login, c: Change) -> Login
-    ensures { result ≡ changedOf c l }
+    ensures { result ≡ changed_of c l }
 {
     match c {
         Change::Keep => l,
@@ -192,7 +192,7 @@ pub fn changed(l: Login, c: Change) -> Login
 
 // The change at every login of the table.
 pub fn change_all(p: Port, c: Change) -> Port
-    ensures { result ≡ changedAll c p }
+    ensures { result ≡ changed_all c p }
 {
     let mut t = p.logins;
     let mut i: usize = 0;

@@ -1,8 +1,8 @@
 // Which places are free, and where a login or an exchange stands.
 ghost use Rattle.std.specs.Prelude.{◌≡◌};
 ghost use Rattle.tables.specs.Lists.{Within, all};
-ghost use Rattle.state.specs.Tables.{isFree, hasId, findExchange, freeExchange};
-ghost use Rattle.state.specs.Changes.{hasAddress, hasName, isHost, isClosed};
+ghost use Rattle.state.specs.Tables.{is_free, has_id, find_exchange, free_exchange};
+ghost use Rattle.state.specs.Changes.{has_address, has_name, is_host, is_closed};
 
 use crate::{Exchange, Login, Port};
 use tables::Found;
@@ -10,7 +10,7 @@ use wire::name_number;
 
 // Whether a login is used and has this address.
 pub(crate) fn has_address(l: Login, address: u32) -> bool
-    ensures { result ≡ hasAddress address l }
+    ensures { result ≡ has_address address l }
 {
     if l.used == 1 {
         l.address == address
@@ -21,7 +21,7 @@ pub(crate) fn has_address(l: Login, address: u32) -> bool
 
 // Whether a login is used and has this port name.
 fn has_name(l: Login, name: u64) -> bool
-    ensures { result ≡ hasName name l }
+    ensures { result ≡ has_name name l }
 {
     let port = l.port_name;
     if l.used == 1 {
@@ -33,7 +33,7 @@ fn has_name(l: Login, name: u64) -> bool
 
 // Whether a login is of a host with this address or this port name.
 pub(crate) fn is_host(l: Login, address: u32, name: u64) -> bool
-    ensures { result ≡ isHost address name l }
+    ensures { result ≡ is_host address name l }
 {
     if has_address(l, address) {
         true
@@ -44,14 +44,14 @@ pub(crate) fn is_host(l: Login, address: u32, name: u64) -> bool
 
 // Whether a place for a login is free.
 pub fn is_free(l: Login) -> bool
-    ensures { result ≡ isFree l }
+    ensures { result ≡ is_free l }
 {
     l.used != 1
 }
 
 // Whether an exchange is open and has this OX_ID.
 fn has_id(e: Exchange, ox_id: u16) -> bool
-    ensures { result ≡ hasId ox_id e }
+    ensures { result ≡ has_id ox_id e }
 {
     if e.kind == Exchange::FREE {
         false
@@ -62,14 +62,14 @@ fn has_id(e: Exchange, ox_id: u16) -> bool
 
 // Whether a place for an exchange is free.
 pub fn is_closed(e: Exchange) -> bool
-    ensures { result ≡ isClosed e }
+    ensures { result ≡ is_closed e }
 {
     e.kind == Exchange::FREE
 }
 
 // Whether every place for an exchange is free.
 pub fn all_closed(t: [Exchange; 8]) -> bool
-    ensures { result ≡ all isClosed t }
+    ensures { result ≡ all is_closed t }
 {
     let mut i: usize = 0;
     while i < Login::PLACES {
@@ -85,7 +85,7 @@ pub fn all_closed(t: [Exchange; 8]) -> bool
 
 // The lowest place of a login whose exchange is open and has this OX_ID.
 pub fn find_exchange(l: Login, ox_id: u16) -> Found
-    ensures { Within (findExchange l ox_id) 8 result }
+    ensures { Within (find_exchange l ox_id) 8 result }
 {
     let t = l.places;
     let mut i: usize = 0;
@@ -101,7 +101,7 @@ pub fn find_exchange(l: Login, ox_id: u16) -> Found
 
 // The lowest free place of a login for an exchange.
 pub fn free_exchange(l: Login) -> Found
-    ensures { Within (freeExchange l) 8 result }
+    ensures { Within (free_exchange l) 8 result }
 {
     let t = l.places;
     let mut i: usize = 0;

@@ -1,11 +1,11 @@
 // What stands at a place, and what is stored there: logins and their exchanges, opened, advanced and ended.
 ghost use Rattle.std.specs.Prelude.{◌≡◌};
-ghost use Rattle.state.specs.Changes.{emptyExchange, emptyLogin, loginAt, exchangeAt, withLogin, withExchange, withoutExchanges, withAttention, advanced, asked, taken, endedAt};
+ghost use Rattle.state.specs.Changes.{empty_exchange, empty_login, login_at, exchange_at, with_login, with_exchange, without_exchanges, with_attention, advanced, asked, taken, ended_at};
 
 use crate::{Exchange, Login, Port};
 
 pub fn empty_exchange() -> Exchange
-    ensures { result ≡ emptyExchange }
+    ensures { result ≡ empty_exchange }
 {
     Exchange {
         kind: 0,
@@ -22,7 +22,7 @@ pub fn empty_exchange() -> Exchange
 }
 
 pub fn empty_login() -> Login
-    ensures { result ≡ emptyLogin }
+    ensures { result ≡ empty_login }
 {
     let e = empty_exchange();
     Login {
@@ -42,7 +42,7 @@ pub fn empty_login() -> Login
 
 // The login at a place; past the table's end an empty one.
 pub fn login_at(p: Port, i: usize) -> Login
-    ensures { result ≡ loginAt p i }
+    ensures { result ≡ login_at p i }
 {
     if i < Port::LOGINS {
         let t = p.logins;
@@ -54,7 +54,7 @@ pub fn login_at(p: Port, i: usize) -> Login
 
 // The exchange at a place; past the table's end an empty one.
 pub fn exchange_at(l: Login, j: usize) -> Exchange
-    ensures { result ≡ exchangeAt l j }
+    ensures { result ≡ exchange_at l j }
 {
     if j < Login::PLACES {
         let t = l.places;
@@ -66,7 +66,7 @@ pub fn exchange_at(l: Login, j: usize) -> Exchange
 
 // A login is stored at a place; past the table's end nothing is stored.
 pub fn put_login(p: Port, i: usize, l: Login) -> Port
-    ensures { result ≡ withLogin p i l }
+    ensures { result ≡ with_login p i l }
 {
     if i < Port::LOGINS {
         let mut q = p;
@@ -79,7 +79,7 @@ pub fn put_login(p: Port, i: usize, l: Login) -> Port
 
 // An exchange is stored at a place of a login, opened or changed; past the table's end nothing is stored.
 pub fn put_exchange(l: Login, j: usize, e: Exchange) -> Login
-    ensures { result ≡ withExchange l j e }
+    ensures { result ≡ with_exchange l j e }
 {
     if j < Login::PLACES {
         let mut m = l;
@@ -92,7 +92,7 @@ pub fn put_exchange(l: Login, j: usize, e: Exchange) -> Login
 
 // The exchange at a place of a login ends.
 pub fn end_exchange(l: Login, j: usize) -> Login
-    ensures { result ≡ endedAt l j }
+    ensures { result ≡ ended_at l j }
 {
     let e = empty_exchange();
     put_exchange(l, j, e)
@@ -129,7 +129,7 @@ pub fn take_data(e: Exchange, n: u32, awaited: u8) -> Exchange
 
 // All exchanges of a login end.
 pub fn end_exchanges(l: Login) -> Login
-    ensures { result ≡ withoutExchanges l }
+    ensures { result ≡ without_exchanges l }
 {
     let e = empty_exchange();
     let t = [e; 8];
@@ -140,7 +140,7 @@ pub fn end_exchanges(l: Login) -> Login
 
 // The login's attention is set, or cleared with 0.
 pub fn set_attention(l: Login, attention: u8) -> Login
-    ensures { result ≡ withAttention l attention }
+    ensures { result ≡ with_attention l attention }
 {
     let mut m = l;
     m.attention = attention;

@@ -6,44 +6,44 @@ use Rattle.frame.specs.declared.Header.{Header}
 use Rattle.state.specs.declared.Login.{Login}
 use Rattle.state.specs.declared.Port.{Port}
 use Rattle.state.specs.declared.Unit.{Unit}
-use Rattle.state.specs.Changes.{loginAt, exchangeAt, withExchange}
-use Rattle.state.specs.Tables.{findLogin}
-use Rattle.formed.specs.Formed.{fullFrame, wellFormed}
-use Rattle.formed.proofs.Keeping.{change-used, end-used}
+use Rattle.state.specs.Changes.{login_at, exchange_at, with_exchange}
+use Rattle.state.specs.Tables.{find_login}
+use Rattle.formed.specs.Formed.{full_frame, well_formed}
+use Rattle.formed.proofs.Keeping.{change_used, end_used}
 use Rattle.calls.specs.Turn.{Decided}
-use Rattle.calls.proofs.Decisions.{on-found}
-use Rattle.calls.proofs.Keeping.{Keeps, stays, stored-kept}
+use Rattle.calls.proofs.Decisions.{on_found_lem}
+use Rattle.calls.proofs.Keeping.{Keeps, stays, stored_kept}
 use Rattle.taking.specs.declared.Step.{Step}
 use Rattle.taking.specs.declared.Step.TheVariants.{NoWrite, Fault, Uncovered, Take}
-use Rattle.taking.specs.Taking.{dataSize, burstEnd, stepIn, takenOn, servedBy, servedData, dataDecided}
-use Rattle.taking.proofs.Steps.{found-open, Takes, Means, step-means}
-use Rattle.taking.proofs.Bursts.{taken-on-fine}
+use Rattle.taking.specs.Taking.{data_size, burst_end, step_in, taken_on, served_by, served_data, data_decided}
+use Rattle.taking.proofs.Steps.{found_open, Takes, Means, step_means}
+use Rattle.taking.proofs.Bursts.{taken_on_fine}
 
 -- what a data frame makes of its sender's login is fine
 module _ (u : Unit) (own : ℕ) (l : Login) (x offset n start len : ℕ) where
   -- n bytes from the next on are within the burst
-  within : {j k : ℕ} → Takes l x offset n start len j k → (exchangeAt l j).sent + n ≤ burstEnd (exchangeAt l j)
-  within {j} t = subst (λ (s : ℕ). s + n ≤ burstEnd (exchangeAt l j)) t.next t.burst
+  within : {j k : ℕ} → Takes l x offset n start len j k → (exchange_at l j).sent + n ≤ burst_end (exchange_at l j)
+  within {j} t = subst (λ (s : ℕ). s + n ≤ burst_end (exchange_at l j)) t.next t.burst
 
-  step_keeps : (s : Step) → Means l x offset n start len s → Keeps u own l (servedBy s l n).login
-  unfolding withExchange
+  step_keeps : (s : Step) → Means l x offset n start len s → Keeps u own l (served_by s l n).login
+  unfolding with_exchange
   step_keeps NoWrite m = stays refl refl refl (λ h. h)
-  step_keeps (Fault j code) m = stays refl refl refl (λ h. end-used h j)
+  step_keeps (Fault j code) m = stays refl refl refl (λ h. end_used h j)
   step_keeps Uncovered m = stays refl refl refl (λ h. h)
   step_keeps (Take j k) m =
-      let e = exchangeAt l j in
-      stays refl refl refl (λ h. change-used h j (takenOn e n) refl refl (taken-on-fine u (fullFrame l.size) l.paired e n (found-open l x j m.found) m.write (within m)))
+      let e = exchange_at l j in
+      stays refl refl refl (λ h. change_used h j (taken_on e n) refl refl (taken_on_fine u (full_frame l.size) l.paired e n (found_open l x j m.found) m.write (within m)))
 
-module _ (u : Unit) (p : Port) (h : Header) (size start len : ℕ) (w : wellFormed u p ≡ true) where
+module _ (u : Unit) (p : Port) (h : Header) (size start len : ℕ) (w : well_formed u p ≡ true) where
   abbrev Kept : Decided → Type 0
-  Kept d = wellFormed u d.port ≡ true
+  Kept d = well_formed u d.port ≡ true
 
   -- no data frame makes a state ill formed
-  pub data-kept : wellFormed u (dataDecided p h size start len).port ≡ true
-  unfolding dataDecided servedData
-  data-kept =
-      on-found Kept (findLogin p h.s_id) _ _
-      (λ i at. let l = loginAt p i in
-      stored-kept u p w h.s_id i _ at
-      (step_keeps u p.address l h.ox_id h.offset (dataSize h size) start len (stepIn l h size start len) (step-means l h.ox_id h.offset (dataSize h size) start len)))
+  pub data_kept : well_formed u (data_decided p h size start len).port ≡ true
+  unfolding data_decided served_data
+  data_kept =
+      on_found_lem Kept (find_login p h.s_id) _ _
+      (λ i at. let l = login_at p i in
+      stored_kept u p w h.s_id i _ at
+      (step_keeps u p.address l h.ox_id h.offset (data_size h size) start len (step_in l h size start len) (step_means l h.ox_id h.offset (data_size h size) start len)))
       (λ _. w)

@@ -2,70 +2,70 @@
 use Rattle.std.specs.Prelude.{ℕ, ◌+◌, ◌-◌, ◌*◌, ◌/◌, ◌%◌, min, Bool, true, false, cond, not, ◌&&◌, List, [], eqb, ltb, length, take, drop}
 use Rattle.tables.specs.declared.Found.{Found}
 use Rattle.tables.specs.declared.Found.TheVariants.{At, Nothing}
-use Rattle.tables.specs.Lists.{onFound}
+use Rattle.tables.specs.Lists.{on_found}
 use Rattle.wire.specs.Bytes.{over}
 use Rattle.frame.specs.declared.Header.{Header}
-use Rattle.cover.specs.Cover.{position_of, lentPlace}
+use Rattle.cover.specs.Cover.{position_of, lent_place}
 use Rattle.refusal.specs.declared.Refusal.{Refusal}
 use Rattle.refusal.specs.declared.Refusal.TheVariants as refusal
 use Rattle.state.specs.declared.Exchange.{Exchange}
 use Rattle.state.specs.declared.Login.{Login}
 use Rattle.state.specs.declared.Port.{Port}
-use Rattle.state.specs.Changes.{loginAt, exchangeAt, withExchange, endedAt, taken}
-use Rattle.state.specs.Kinds.{isWrite}
-use Rattle.state.specs.Tables.{findLogin, findExchange}
+use Rattle.state.specs.Changes.{login_at, exchange_at, with_exchange, ended_at, taken}
+use Rattle.state.specs.Kinds.{is_write}
+use Rattle.state.specs.Tables.{find_login, find_exchange}
 use Rattle.formed.specs.Formed.{total}
 use Rattle.reply.specs.declared.Reply.TheVariants as reply
 use Rattle.reply.specs.declared.Response.TheVariants as response
-use Rattle.reply.specs.Reply.{sentOf, written_of}
+use Rattle.reply.specs.Reply.{sent_of, written_of}
 use Rattle.calls.specs.declared.View.{View}
 use Rattle.calls.specs.declared.Served.{Served}
 use Rattle.calls.specs.declared.Turn.{Turn}
-use Rattle.calls.specs.Turn.{Decided, decidedAs, servedAs, served_at, servedIn, refusedTurn, sentTurn}
+use Rattle.calls.specs.Turn.{Decided, decided_as, served_as, served_at, served_in, refused_turn, sent_turn}
 use Rattle.taking.specs.declared.Step.{Step}
 use Rattle.taking.specs.declared.Step.TheVariants.{NoWrite, Fault, Uncovered, Take}
 
 -- "(01h, 08h)": the form rule leaves no other frame with this R_CTL
-abbrev pub isData : Header → Bool
-isData h = eqb h.r_ctl 0x01
+abbrev pub is_data : Header → Bool
+is_data h = eqb h.r_ctl 0x01
 
 -- the bytes that a data frame of this size carries: its payload without the fill, whose count is in the low two bits of F_CTL
-abbrev pub dataSize : Header → ℕ → ℕ
-dataSize h size = size - 24 - h.f_ctl % 4
+abbrev pub data_size : Header → ℕ → ℕ
+data_size h size = size - 24 - h.f_ctl % 4
 
-abbrev pub dataIn : Header → List ℕ → List ℕ
-dataIn h f = take (dataSize h (length f)) (drop 24 f)
+abbrev pub data_in : Header → List ℕ → List ℕ
+data_in h f = take (data_size h (length f)) (drop 24 f)
 
 -- the end of the burst that was last asked for, 65,536 bytes at most; where no data are awaited that of what was sent
-unfoldable pub burstEnd : Exchange → ℕ
-burstEnd e = cond (eqb e.awaited 1) (min (total e) ((e.sent / 65536 + 1) * 65536)) e.sent
+unfoldable pub burst_end : Exchange → ℕ
+burst_end e = cond (eqb e.awaited 1) (min (total e) ((e.sent / 65536 + 1) * 65536)) e.sent
 
 -- RSP_CODE for a data frame of n bytes at an offset: "at another offset than the next is answered at once with RSP_CODE 03, else past the burst with 01"; 00 is no fault
-unfoldable pub faultOf : Exchange → ℕ → ℕ → ℕ
-faultOf e offset n = cond (not (eqb offset e.sent)) 0x03 (cond (ltb (burstEnd e) (offset + n)) 0x01 0x00)
+unfoldable pub fault_of : Exchange → ℕ → ℕ → ℕ
+fault_of e offset n = cond (not (eqb offset e.sent)) 0x03 (cond (ltb (burst_end e) (offset + n)) 0x01 0x00)
 
 -- the place of a login's open WRITE of this OX_ID
-unfoldable pub findWrite : Login → ℕ → Found
-findWrite l x = onFound (findExchange l x) (λ j. cond (isWrite (exchangeAt l j)) (At j) Nothing) Nothing
+unfoldable pub find_write : Login → ℕ → Found
+find_write l x = on_found (find_exchange l x) (λ j. cond (is_write (exchange_at l j)) (At j) Nothing) Nothing
 
 -- the window holds the n bytes from where the next data go on: the exchange stands at place j
-unfoldable pub coveredStep : Exchange → ℕ → ℕ → ℕ → ℕ → Step
-coveredStep e j n start len = onFound (lentPlace (position_of e.start e.sent) n start len) (λ k. Take j k) Uncovered
+unfoldable pub covered_step : Exchange → ℕ → ℕ → ℕ → ℕ → Step
+covered_step e j n start len = on_found (lent_place (position_of e.start e.sent) n start len) (λ k. Take j k) Uncovered
 
 -- "11, data frame for no open write, ..; then 10 for its window, unless a fault ends the exchange": 11, 03, 01, 10, in this order
 unfoldable pub step_of : Login → ℕ → ℕ → ℕ → ℕ → ℕ → Step
 step_of l x offset n start len =
-    onFound (findWrite l x) (λ j. cond (eqb (faultOf (exchangeAt l j) offset n) 0) (coveredStep (exchangeAt l j) j n start len) (Fault j (faultOf (exchangeAt l j) offset n))) NoWrite
+    on_found (find_write l x) (λ j. cond (eqb (fault_of (exchange_at l j) offset n) 0) (covered_step (exchange_at l j) j n start len) (Fault j (fault_of (exchange_at l j) offset n))) NoWrite
 
 -- the same of a frame of this size with header h, at a window of len bytes from block start on
-abbrev pub stepIn : Login → Header → ℕ → ℕ → ℕ → Step
-stepIn l h size start len = step_of l h.ox_id h.offset (dataSize h size) start len
+abbrev pub step_in : Login → Header → ℕ → ℕ → ℕ → Step
+step_in l h size start len = step_of l h.ox_id h.offset (data_size h size) start len
 
-abbrev pub noWrite : Step → Bool
-noWrite NoWrite = true
-noWrite (Fault j code) = false
-noWrite Uncovered = false
-noWrite (Take j k) = false
+abbrev pub no_write : Step → Bool
+no_write NoWrite = true
+no_write (Fault j code) = false
+no_write Uncovered = false
+no_write (Take j k) = false
 
 abbrev pub uncovered : Step → Bool
 uncovered NoWrite = false
@@ -74,62 +74,62 @@ uncovered Uncovered = true
 uncovered (Take j k) = false
 
 -- "When", of 11 and 10, for a frame with header h that comes to this as a data frame; the others are told before (`arrival/specs/Arrival.antt`)
-abbrev pub appliesData : Header → Step → Refusal → Bool
-appliesData h s refusal.ShortBuffer = false
-appliesData h s refusal.IllFormed = false
-appliesData h s refusal.BadSize = false
-appliesData h s refusal.NotOurs = false
-appliesData h s refusal.BadSource = false
-appliesData h s refusal.UnknownForm = false
-appliesData h s refusal.Unproven = false
-appliesData h s refusal.BadSetup = false
-appliesData h s refusal.NoExchange = false
-appliesData h s refusal.BadWindow = isData h && uncovered s
-appliesData h s refusal.NoWrite = isData h && noWrite s
+abbrev pub applies_data : Header → Step → Refusal → Bool
+applies_data h s refusal.ShortBuffer = false
+applies_data h s refusal.IllFormed = false
+applies_data h s refusal.BadSize = false
+applies_data h s refusal.NotOurs = false
+applies_data h s refusal.BadSource = false
+applies_data h s refusal.UnknownForm = false
+applies_data h s refusal.Unproven = false
+applies_data h s refusal.BadSetup = false
+applies_data h s refusal.NoExchange = false
+applies_data h s refusal.BadWindow = is_data h && uncovered s
+applies_data h s refusal.NoWrite = is_data h && no_write s
 
 -- the exchange after n bytes more: data are awaited until the burst's end
-abbrev pub takenOn : Exchange → ℕ → Exchange
-takenOn e n = taken e n (cond (eqb (e.sent + n) (burstEnd e)) 0 1)
+abbrev pub taken_on : Exchange → ℕ → Exchange
+taken_on e n = taken e n (cond (eqb (e.sent + n) (burst_end e)) 0 1)
 
 -- the answer to a data frame of n bytes, and the sender's login after it: a fault "is answered at once .. and ends the exchange"; else nothing is sent; a frame that is refused changes nothing
-abbrev pub servedBy : Step → Login → ℕ → Served
-servedBy NoWrite l n = servedAs reply.Nothing l
-servedBy (Fault j code) l n = servedAs (reply.Respond (response.Code code)) (endedAt l j)
-servedBy Uncovered l n = servedAs reply.Nothing l
-servedBy (Take j k) l n = servedAs reply.Nothing (withExchange l j (takenOn (exchangeAt l j) n))
+abbrev pub served_by : Step → Login → ℕ → Served
+served_by NoWrite l n = served_as reply.Nothing l
+served_by (Fault j code) l n = served_as (reply.Respond (response.Code code)) (ended_at l j)
+served_by Uncovered l n = served_as reply.Nothing l
+served_by (Take j k) l n = served_as reply.Nothing (with_exchange l j (taken_on (exchange_at l j) n))
 
-unfoldable pub servedData : Login → Header → ℕ → ℕ → ℕ → Served
-servedData l h size start len = servedBy (stepIn l h size start len) l (dataSize h size)
+unfoldable pub served_data : Login → Header → ℕ → ℕ → ℕ → Served
+served_data l h size start len = served_by (step_in l h size start len) l (data_size h size)
 
 -- "FCP_DATA frames go in order into a lent window": the window W after these data
-abbrev pub windowBy : Step → List ℕ → List ℕ → List ℕ
-windowBy NoWrite carried W = W
-windowBy (Fault j code) carried W = W
-windowBy Uncovered carried W = W
-windowBy (Take j k) carried W = over W k carried
+abbrev pub window_by : Step → List ℕ → List ℕ → List ℕ
+window_by NoWrite carried W = W
+window_by (Fault j code) carried W = W
+window_by Uncovered carried W = W
+window_by (Take j k) carried W = over W k carried
 
-unfoldable pub windowAfter : Login → Header → List ℕ → ℕ → List ℕ → List ℕ
-windowAfter l h f start W = windowBy (stepIn l h (length f) start (length W)) (dataIn h f) W
+unfoldable pub window_after : Login → Header → List ℕ → ℕ → List ℕ → List ℕ
+window_after l h f start W = window_by (step_in l h (length f) start (length W)) (data_in h f) W
 
 -- what is decided of a data frame, and the port after it
-unfoldable pub dataDecided : Port → Header → ℕ → ℕ → ℕ → Decided
-dataDecided p h size start len = onFound (findLogin p h.s_id) (λ i. served_at p i (servedData (loginAt p i) h size start len)) (decidedAs reply.Nothing p)
+unfoldable pub data_decided : Port → Header → ℕ → ℕ → ℕ → Decided
+data_decided p h size start len = on_found (find_login p h.s_id) (λ i. served_at p i (served_data (login_at p i) h size start len)) (decided_as reply.Nothing p)
 
 -- 11, 10, or neither refuses it
-abbrev pub onStep : {A : Type 0} → Step → (Refusal → A) → A → A
-onStep NoWrite g a = g refusal.NoWrite
-onStep (Fault j code) g a = a
-onStep Uncovered g a = g refusal.BadWindow
-onStep (Take j k) g a = a
+abbrev pub on_step : {A : Type 0} → Step → (Refusal → A) → A → A
+on_step NoWrite g a = g refusal.NoWrite
+on_step (Fault j code) g a = a
+on_step Uncovered g a = g refusal.BadWindow
+on_step (Take j k) g a = a
 
 -- what a data frame that arrived well comes to, seen by its sender: refused, or the length of its answer and the login after it; "no open write" of a port that is not logged in
-unfoldable pub takingTurn : View → Header → ℕ → ℕ → ℕ → ℕ → Turn
-takingTurn v h size start len room =
-    onFound v.seat (λ i. onStep (stepIn v.login h size start len) refusedTurn (sentTurn (sentOf v.own h (servedData v.login h size start len).reply [] room) (servedIn i (servedData v.login h size start len))))
-    (refusedTurn refusal.NoWrite)
+unfoldable pub taking_turn : View → Header → ℕ → ℕ → ℕ → ℕ → Turn
+taking_turn v h size start len room =
+    on_found v.seat (λ i. on_step (step_in v.login h size start len) refused_turn (sent_turn (sent_of v.own h (served_data v.login h size start len).reply [] room) (served_in i (served_data v.login h size start len))))
+    (refused_turn refusal.NoWrite)
 
-unfoldable pub takingBuffer : View → Header → ℕ → ℕ → ℕ → List ℕ → List ℕ
-takingBuffer v h size start len l = onFound v.seat (λ i. onStep (stepIn v.login h size start len) (λ x. l) (written_of v.own h (servedData v.login h size start len).reply [] l)) l
+unfoldable pub taking_buffer : View → Header → ℕ → ℕ → ℕ → List ℕ → List ℕ
+taking_buffer v h size start len l = on_found v.seat (λ i. on_step (step_in v.login h size start len) (λ x. l) (written_of v.own h (served_data v.login h size start len).reply [] l)) l
 
-unfoldable pub takingWindow : View → Header → List ℕ → ℕ → List ℕ → List ℕ
-takingWindow v h f start W = onFound v.seat (λ i. windowAfter v.login h f start W) W
+unfoldable pub taking_window : View → Header → List ℕ → ℕ → List ℕ → List ℕ
+taking_window v h f start W = on_found v.seat (λ i. window_after v.login h f start W) W

@@ -1,12 +1,12 @@
 // What a data frame comes to, for an open WRITE of its sender (document 02, request 2): it is refused, a fault ends the exchange, or its bytes go into the lent window.
 ghost use Rattle.std.specs.Prelude.{◌≡◌, [], ◌+◌, ◌<◌, cond, eqb, ltb, length};
 ghost use Rattle.wire.specs.Bytes.{over};
-ghost use Rattle.state.specs.Changes.{exchangeAt, withExchange};
+ghost use Rattle.state.specs.Changes.{exchange_at, with_exchange};
 ghost use Rattle.reply.specs.declared.Reply.TheVariants.{Nothing, Respond};
 ghost use Rattle.reply.specs.declared.Response.TheVariants.{Code};
-ghost use Rattle.reply.specs.Reply.{sentOf, written_of};
-ghost use Rattle.calls.specs.Turn.{stores, sentTurn};
-ghost use Rattle.taking.specs.Taking.{dataSize, dataIn, burstEnd, faultOf, findWrite, coveredStep, stepIn, takenOn, takingTurn, takingBuffer, takingWindow};
+ghost use Rattle.reply.specs.Reply.{sent_of, written_of};
+ghost use Rattle.calls.specs.Turn.{stores, sent_turn};
+ghost use Rattle.taking.specs.Taking.{data_size, data_in, burst_end, fault_of, find_write, covered_step, step_in, taken_on, taking_turn, taking_buffer, taking_window};
 
 use calls::{Turn, View, refuse_turn, send_turn, store_login};
 use cover::lent_place;
@@ -40,9 +40,9 @@ pub fn data_turn(
     window: &mut [u8],
     reply: &mut [u8],
 ) -> Turn
-    ensures value { result ≡ takingTurn v h (length frame.now) start (length window.old) (length reply.old) }
-    ensures reply_after { reply.new ≡ takingBuffer v h (length frame.now) start (length window.old) reply.old }
-    ensures window_after { window.new ≡ takingWindow v h frame.now start window.old }
+    ensures value { result ≡ taking_turn v h (length frame.now) start (length window.old) (length reply.old) }
+    ensures reply_after { reply.new ≡ taking_buffer v h (length frame.now) start (length window.old) reply.old }
+    ensures window_after { window.new ≡ taking_window v h frame.now start window.old }
 {
     let seat = v.seat;
     let o = v.own;
@@ -64,7 +64,7 @@ pub fn data_turn(
 
 // What a frame of this size with header h comes to as a data frame of the login l, at a window of len bytes that starts at a block.
 fn step_in(l: Login, h: Header, size: usize, start: u64, len: usize) -> Step
-    ensures { result ≡ stepIn l h size start len }
+    ensures { result ≡ step_in l h size start len }
 {
     let n = data_size(h, size);
     let Found::At(j) = find_write(l, h.ox_id) else {
@@ -81,7 +81,7 @@ fn step_in(l: Login, h: Header, size: usize, start: u64, len: usize) -> Step
 
 // A fault is answered with its RSP_CODE, and the login at place i is l after it.
 fn fault_turn(o: Own, h: Header, i: usize, l: Login, code: u8, reply: &mut [u8]) -> Turn
-    ensures value { result ≡ sentTurn (sentOf o h (Respond (Code code)) [] (length reply.old)) (stores (Respond (Code code)) i l) }
+    ensures value { result ≡ sent_turn (sent_of o h (Respond (Code code)) [] (length reply.old)) (stores (Respond (Code code)) i l) }
     ensures reply_after { reply.new ≡ written_of o h (Respond (Code code)) [] reply.old }
 {
     let none = [0u8; 0];
@@ -91,7 +91,7 @@ fn fault_turn(o: Own, h: Header, i: usize, l: Login, code: u8, reply: &mut [u8])
 
 // The bytes of a data frame go into the window, from a place on.
 fn put_data(h: Header, frame: &[u8], k: usize, window: &mut [u8])
-    ensures { window.new ≡ over window.old k (dataIn h frame.now) }
+    ensures { window.new ≡ over window.old k (data_in h frame.now) }
 {
     let from = least(Header::LEAST_FRAME, frame.len());
     let to = from + data_size(h, frame.len());
@@ -100,7 +100,7 @@ fn put_data(h: Header, frame: &[u8], k: usize, window: &mut [u8])
 
 // Nothing is sent for n bytes that are taken; the login at place i has an exchange at place j that is on by these.
 fn take_turn(l: Login, i: usize, j: usize, n: usize) -> Turn
-    ensures { result ≡ sentTurn 0 (stores Nothing i (withExchange l j (takenOn (exchangeAt l j) n))) }
+    ensures { result ≡ sent_turn 0 (stores Nothing i (with_exchange l j (taken_on (exchange_at l j) n))) }
 {
     let e = taken_on(exchange_at(l, j), n);
     send_turn(0, store_login(Reply::Nothing, i, put_exchange(l, j, e)))
@@ -108,7 +108,7 @@ fn take_turn(l: Login, i: usize, j: usize, n: usize) -> Turn
 
 // The bytes that a data frame of this size carries: its payload without the fill.
 fn data_size(h: Header, size: usize) -> usize
-    ensures { result ≡ dataSize h size }
+    ensures { result ≡ data_size h size }
 {
     let fill = (h.f_ctl % 4) as usize;
     less(less(size, Header::LEAST_FRAME), fill)
@@ -116,7 +116,7 @@ fn data_size(h: Header, size: usize) -> usize
 
 // The place of a login's open WRITE of this OX_ID.
 fn find_write(l: Login, ox_id: u16) -> Found
-    ensures { result ≡ findWrite l ox_id }
+    ensures { result ≡ find_write l ox_id }
 {
     let Found::At(j) = find_exchange(l, ox_id) else {
         return Found::Nothing;
@@ -131,7 +131,7 @@ fn find_write(l: Login, ox_id: u16) -> Found
 
 // RSP_CODE for a data frame of n bytes at an offset; 0 is no fault.
 fn fault_of(e: Exchange, offset: u32, n: usize) -> u8
-    ensures { result ≡ faultOf e offset n }
+    ensures { result ≡ fault_of e offset n }
 {
     if offset != e.sent {
         return 0x03;
@@ -157,7 +157,7 @@ fn is_past(end: u64, offset: u32, n: usize) -> bool
 
 // The end of the burst that was last asked for; where no data are awaited that of what was sent.
 fn burst_end(e: Exchange) -> u64
-    ensures { (result ≡ burstEnd e) × (result < 4294967297) }
+    ensures { (result ≡ burst_end e) × (result < 4294967297) }
 {
     if e.awaited == 1 {
         let all = total_of(e) as u64;
@@ -171,7 +171,7 @@ fn burst_end(e: Exchange) -> u64
 
 // Where the n bytes begin in the window, if it holds them.
 fn covered_step(e: Exchange, j: usize, n: usize, start: u64, len: usize) -> Step
-    ensures { result ≡ coveredStep e j n start len }
+    ensures { result ≡ covered_step e j n start len }
 {
     let Found::At(k) = lent_place(e.start, e.sent, n, start, len) else {
         return Step::Uncovered;
@@ -181,7 +181,7 @@ fn covered_step(e: Exchange, j: usize, n: usize, start: u64, len: usize) -> Step
 
 // The exchange after n bytes more; data are awaited until the burst's end.
 fn taken_on(e: Exchange, n: usize) -> Exchange
-    ensures { result ≡ takenOn e n }
+    ensures { result ≡ taken_on e n }
 {
     let awaited = awaited_after(e, n);
     take_data(e, (n % 4294967296) as u32, awaited)
@@ -189,7 +189,7 @@ fn taken_on(e: Exchange, n: usize) -> Exchange
 
 // Whether data are awaited after n bytes more: 1 short of the burst's end.
 fn awaited_after(e: Exchange, n: usize) -> u8
-    ensures { result ≡ cond (eqb (e.sent + n) (burstEnd e)) 0 1 }
+    ensures { result ≡ cond (eqb (e.sent + n) (burst_end e)) 0 1 }
 {
     let end = burst_end(e);
     let sent = e.sent as u64;

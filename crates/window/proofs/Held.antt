@@ -25,11 +25,11 @@ SpaceS = plain (λ κs. T.the_row (named_lft 3 1 tt κs))
 abbrev gives : Fields slots yes
 gives = (stay_none (λ _. u64) yes, (gave_slice (1 ∷ []) tt (plain (λ _. u8)), tt))
 
-abbrev pub space-gave : Stay SpaceS yes
-space-gave = stay_declared (struct_at name (named 1 ∷ []) slots) yes (stay_struct_at name (named 1 ∷ []) slots yes gives) Space (λ κs. (T.the_type (named_lft 3 1 tt κs)).to) (λ κs. (T.the_type (named_lft 3 1 tt κs)).to_one)
+abbrev pub space_gave : Stay SpaceS yes
+space_gave = stay_declared (struct_at name (named 1 ∷ []) slots) yes (stay_struct_at name (named 1 ∷ []) slots yes gives) Space (λ κs. (T.the_type (named_lft 3 1 tt κs)).to) (λ κs. (T.the_type (named_lft 3 1 tt κs)).to_one)
 
 module _ {M : Type 1} {𝓤 : Ura M} (𝓛 : Logic 𝓤) where
-  pub space-gave-goes : Goes 𝓛 3 SpaceS yes space-gave
-  space-gave-goes =
+  pub space_gave_goes : Goes 𝓛 3 SpaceS yes space_gave
+  space_gave_goes =
       Goes-declared 𝓛 3 (struct_at name (named 1 ∷ []) slots) yes (stay_struct_at name (named 1 ∷ []) slots yes gives) Space (λ κs. (T.the_type (named_lft 3 1 tt κs)).to) (λ κs. (T.the_type (named_lft 3 1 tt κs)).to_one)
       (Goes-struct_at 𝓛 3 name (named 1 ∷ []) slots yes gives (Goes-none 𝓛 3 (λ _. u64) yes (λ κs x f. refl), (Goes-gave_slice 𝓛 3 1 tt (plain (λ _. u8)), tt)))

@@ -1,8 +1,8 @@
 // The window of a next frame, and of a data frame in, as one thing: the block that it starts at, and the lent bytes.
 ghost use Rattle.std.specs.Prelude.{◌≡◌, length};
-ghost use Rattle.drive.specs.Entry.{nextFrame, nextFrameBuffer};
-ghost use Rattle.taking.specs.Taking.{takingTurn, takingBuffer, takingWindow};
-ghost use Rattle.drive.specs.Turn.{nextOutTurn, nextOutBuffer};
+ghost use Rattle.drive.specs.Entry.{next_frame, next_frame_buffer};
+ghost use Rattle.taking.specs.Taking.{taking_turn, taking_buffer, taking_window};
+ghost use Rattle.drive.specs.Turn.{next_out_turn, next_out_buffer};
 
 use calls::{Turn, View, look};
 use drive::{Answer, Drive};
@@ -24,9 +24,9 @@ pub struct Space<'a> {
 
 // What a data frame that arrived well comes to, with a space for its data: hands block and bytes on to what its sender sees.
 pub fn data_turn_into<'a>(v: View, h: Header, frame: &[u8], w: Space<'a>, reply: &mut [u8]) -> Turn
-    ensures { (result ≡ takingTurn v h (length frame.now) w.entry.start (length w.entry.bytes.now) (length reply.old))
-        × (reply.new ≡ takingBuffer v h (length frame.now) w.entry.start (length w.entry.bytes.now) reply.old)
-        × (w.exit.1.0.now ≡ takingWindow v h frame.now w.entry.start w.entry.bytes.now) }
+    ensures { (result ≡ taking_turn v h (length frame.now) w.entry.start (length w.entry.bytes.now) (length reply.old))
+        × (reply.new ≡ taking_buffer v h (length frame.now) w.entry.start (length w.entry.bytes.now) reply.old)
+        × (w.exit.1.0.now ≡ taking_window v h frame.now w.entry.start w.entry.bytes.now) }
 {
     taking::data_turn(v, h, frame, w.start, &mut *w.bytes, reply)
 }
@@ -40,9 +40,9 @@ pub fn data_turn(
     bytes: &mut [u8],
     reply: &mut [u8],
 ) -> Turn
-    ensures { (result ≡ takingTurn v h (length frame.now) start (length bytes.old) (length reply.old))
-        × (reply.new ≡ takingBuffer v h (length frame.now) start (length bytes.old) reply.old)
-        × (bytes.new ≡ takingWindow v h frame.now start bytes.old) }
+    ensures { (result ≡ taking_turn v h (length frame.now) start (length bytes.old) (length reply.old))
+        × (reply.new ≡ taking_buffer v h (length frame.now) start (length bytes.old) reply.old)
+        × (bytes.new ≡ taking_window v h frame.now start bytes.old) }
 {
     data_turn_into(v, h, frame, Space { start, bytes }, reply)
 }
@@ -55,8 +55,8 @@ pub fn next_turn_from<'a>(
     w: Window<'a>,
     reply: &mut [u8],
 ) -> Turn
-    ensures { (result ≡ nextOutTurn v address ox_id w.entry.start w.entry.bytes.now (length reply.old))
-        × (reply.new ≡ nextOutBuffer v address ox_id w.entry.start w.entry.bytes.now reply.old) }
+    ensures { (result ≡ next_out_turn v address ox_id w.entry.start w.entry.bytes.now (length reply.old))
+        × (reply.new ≡ next_out_buffer v address ox_id w.entry.start w.entry.bytes.now reply.old) }
 {
     drive::next_turn(v, address, ox_id, w.start, w.bytes, reply)
 }
@@ -70,8 +70,8 @@ pub fn next_turn(
     bytes: &[u8],
     reply: &mut [u8],
 ) -> Turn
-    ensures { (result ≡ nextOutTurn v address ox_id start bytes.now (length reply.old))
-        × (reply.new ≡ nextOutBuffer v address ox_id start bytes.now reply.old) }
+    ensures { (result ≡ next_out_turn v address ox_id start bytes.now (length reply.old))
+        × (reply.new ≡ next_out_buffer v address ox_id start bytes.now reply.old) }
 {
     next_turn_from(
         v,
@@ -94,8 +94,8 @@ pub fn next_frame(
     bytes: &[u8],
     reply: &mut [u8],
 ) -> Answer
-    ensures { (result ≡ nextFrame d address ox_id start bytes.now (length reply.old))
-        × (reply.new ≡ nextFrameBuffer d address ox_id start bytes.now reply.old) }
+    ensures { (result ≡ next_frame d address ox_id start bytes.now (length reply.old))
+        × (reply.new ≡ next_frame_buffer d address ox_id start bytes.now reply.old) }
 {
     if reply.len() < Header::MOST_FRAME {
         return d.refuse(Refusal::ShortBuffer);

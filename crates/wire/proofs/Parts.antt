@@ -9,25 +9,25 @@ use lib.Seq.{take_all, take_at, drop_at, drop-cons, drop-drop, take-append-le, t
 use native.Mathlib.Decide.{dec_le}
 use borrow.Rule.Slice.PartMut.{mid_of, put_mid}
 use Rattle.wire.specs.Bytes.{part, onto, over, Wrote}
-use Rattle.wire.proofs.Fronts.{onto-fits, onto-covers, length-onto, over-past}
+use Rattle.wire.proofs.Fronts.{onto_fits, onto_covers, length_onto, over_past}
 
 -- the part from a to the end
-pub rest-is : (a : ℕ) (l : List ℕ) → mid_of a (length l - a) l ≡ drop a l
-rest-is a l = take_all (length l - a) (drop a l) (simp length-drop (omega arith))
+pub rest_is : (a : ℕ) (l : List ℕ) → mid_of a (length l - a) l ≡ drop a l
+rest_is a l = take_all (length l - a) (drop a l) (simp length-drop (omega arith))
 
 -- k bytes that are all there, element by element
-pub part-is : (k : ℕ) (s : List ℕ) (i : ℕ) → i + k ≤ length s → part k s i ≡ take k (drop i s)
-part-is zero s i h = refl
-part-is (suc k) s i h = rw (drop-cons s i 0 (omega arith), part-is k s (i + 1) (omega arith), add-one)
+pub part_is : (k : ℕ) (s : List ℕ) (i : ℕ) → i + k ≤ length s → part k s i ≡ take k (drop i s)
+part_is zero s i h = refl
+part_is (suc k) s i h = rw (drop-cons s i 0 (omega arith), part_is k s (i + 1) (omega arith), add-one)
 
 -- the whole, once that part has come back as ys
 pub rest_back : (a : ℕ) (l ys : List ℕ) → put_mid a (length l - a) l ys ≡ take a l ++ ys
 rest_back a l ys = rw (drop_of_length-le (drop a l) {i = length l - a} (simp length-drop (omega arith)), append-nil)
 
 -- p over the front of the part from a on is p over the whole from a on
-pub over-part : (l l₂ p : List ℕ) (a : ℕ) → l₂ ≡ onto p (mid_of a (length l - a) l) → put_mid a (length l - a) l l₂ ≡ over l a p
+pub over_part : (l l₂ p : List ℕ) (a : ℕ) → l₂ ≡ onto p (mid_of a (length l - a) l) → put_mid a (length l - a) l l₂ ≡ over l a p
 unfolding over
-over-part l l₂ p a e = rest_back a l l₂ ∙ rw (e, rest-is a l)
+over_part l l₂ p a e = rest_back a l l₂ ∙ rw (e, rest_is a l)
 
 -- p, and then q over the front of what p leaves of l
 joined : (l p q : List ℕ) (a : ℕ) → length p ≡ a → a ≤ length l → p ++ onto q (drop a l) ≡ onto (p ++ q) l
@@ -38,45 +38,45 @@ joined l p q a lp room =
     rw (t, length-drop a l, drop-drop (length q) a l, length-append p q, lp, append_assoc p)
 
 -- p at the front of l, and then q at the front of the part after p, are p ++ q at the front of l
-pub onto-part : (l l₁ l₂ p q : List ℕ) (a : ℕ) → length p ≡ a → a ≤ length l → l₁ ≡ onto p l → l₂ ≡ onto q (mid_of a (length l₁ - a) l₁)
+pub onto_part : (l l₁ l₂ p q : List ℕ) (a : ℕ) → length p ≡ a → a ≤ length l → l₁ ≡ onto p l → l₂ ≡ onto q (mid_of a (length l₁ - a) l₁)
     → put_mid a (length l₁ - a) l₁ l₂ ≡ onto (p ++ q) l
-onto-part l l₁ l₂ p q a lp room e₁ e₂ =
+onto_part l l₁ l₂ p q a lp room e₁ e₂ =
     let h : length p ≤ length l = omega arith in
-    let f : l₁ ≡ p ++ drop a l = e₁ ∙ onto-fits p l h ∙ rw lp in
+    let f : l₁ ≡ p ++ drop a l = e₁ ∙ onto_fits p l h ∙ rw lp in
     rest_back a l₁ l₂
-    ∙ rw (e₂, rest-is a l₁, f, take_at p (drop a l) a lp, drop_at p (drop a l) a lp) (joined l p q a lp room)
+    ∙ rw (e₂, rest_is a l₁, f, take_at p (drop a l) a lp, drop_at p (drop a l) a lp) (joined l p q a lp room)
 
 -- p at the front of l, and then q from the end of p on, are p ++ q at the front of l, as much of it as fits
-pub onto-over : (l l₁ l₂ p q : List ℕ) (a : ℕ) → l₁ ≡ onto p l → l₂ ≡ over l₁ a q → length p ≡ a → l₂ ≡ onto (p ++ q) l
-onto-over l l₁ l₂ p q a e₁ e₂ lp =
+pub onto_over : (l l₁ l₂ p q : List ℕ) (a : ℕ) → l₁ ≡ onto p l → l₂ ≡ over l₁ a q → length p ≡ a → l₂ ≡ onto (p ++ q) l
+onto_over l l₁ l₂ p q a e₁ e₂ lp =
     e₂
     ∙ elim (dec_le a (length l)) [
-      | yes h ↦ sym (over-part l₁ _ q a refl) ∙ onto-part l l₁ _ p q a lp h e₁ refl
+      | yes h ↦ sym (over_part l₁ _ q a refl) ∙ onto_part l l₁ _ p q a lp h e₁ refl
       | no h ↦ (let f : length l ≤ length p = omega arith in
           let g : length l ≤ length (p ++ q) = simp length-append (omega arith) in
-          over-past l₁ a q (rw (e₁, length-onto p l) (omega arith)) ∙ e₁ ∙ rw (onto-covers p l f, onto-covers (p ++ q) l g, take-append-le (length l) p q f))
+          over_past l₁ a q (rw (e₁, length_onto p l) (omega arith)) ∙ e₁ ∙ rw (onto_covers p l f, onto_covers (p ++ q) l g, take-append-le (length l) p q f))
     ]
 
 -- two writers, the second lent the part of the k bytes after what the first wrote, are one
 pub wrote_then : {l l₁ l₂ p q : List ℕ} {n m a b : ℕ} (k : ℕ) → length l ≡ k → n ≤ k → Wrote p l l₁ n a → Wrote q (mid_of n (k - n) l₁) l₂ m b
     → Wrote (p ++ q) l (put_mid n (k - n) l₁ l₂) (n + m) (a + b)
 wrote_then {l} {l₁} {l₂} {p} {q} {n} {m} k len room u v =
-    let e : length l₁ ≡ k = ap length u.is ∙ length-onto p l ∙ len in
+    let e : length l₁ ≡ k = ap length u.is ∙ length_onto p l ∙ len in
     let f : l₂ ≡ onto q (mid_of n (length l₁ - n) l₁) = rw e v.is in
     record {
       long = rw (length-append p q, sym u.long, sym v.long);
       fits = let x = u.fits in let y = v.fits in omega arith;
-      is = ap (λ (j : ℕ). put_mid n (j - n) l₁ l₂) (sym e) ∙ onto-part l l₁ l₂ p q n (sym u.long) (rw len room) u.is f;
+      is = ap (λ (j : ℕ). put_mid n (j - n) l₁ l₂) (sym e) ∙ onto_part l l₁ l₂ p q n (sym u.long) (rw len room) u.is f;
     }
 
 -- a larger bound serves too
-pub wrote-within : {p l l₁ : List ℕ} {n a : ℕ} (b : ℕ) → a ≤ b → Wrote p l l₁ n a → Wrote p l l₁ n b
-wrote-within b h w = record { long = w.long; fits = let x = w.fits in omega arith; is = w.is }
+pub wrote_within : {p l l₁ : List ℕ} {n a : ℕ} (b : ℕ) → a ≤ b → Wrote p l l₁ n a → Wrote p l l₁ n b
+wrote_within b h w = record { long = w.long; fits = let x = w.fits in omega arith; is = w.is }
 
 -- q over l from a on, and then p at the front up to a, are p ++ q at the front of l
-pub onto-after : (l p q : List ℕ) (a : ℕ) → length p ≡ a → a ≤ length l → onto p (over l a q) ≡ onto (p ++ q) l
+pub onto_after : (l p q : List ℕ) (a : ℕ) → length p ≡ a → a ≤ length l → onto p (over l a q) ≡ onto (p ++ q) l
 unfolding over
-onto-after l p q a lp room =
+onto_after l p q a lp room =
     let front : length (take a l) ≡ a = length-take-le a l room in
     let long : length p ≤ length (take a l ++ onto q (drop a l)) = simp length-append (omega arith) in
-    onto-fits p (take a l ++ onto q (drop a l)) long ∙ rw (lp, drop_at (take a l) (onto q (drop a l)) a front) (joined l p q a lp room)
+    onto_fits p (take a l ++ onto q (drop a l)) long ∙ rw (lp, drop_at (take a l) (onto q (drop a l)) a front) (joined l p q a lp room)

@@ -34,12 +34,12 @@ unfoldable pub over : List ℕ → ℕ → List ℕ → List ℕ
 over l i p = take i l ++ onto p (drop i l)
 
 -- "Payloads are filled with zeros to a multiple of 4": how many a payload of this size takes
-abbrev pub fillCount : ℕ → ℕ
-fillCount size = (4 - size % 4) % 4
+abbrev pub fill_count : ℕ → ℕ
+fill_count size = (4 - size % 4) % 4
 
 -- those zeros
-abbrev pub fillOf : ℕ → List ℕ
-fillOf size = replicate (fillCount size) 0
+abbrev pub fill_of : ℕ → List ℕ
+fill_of size = replicate (fill_count size) 0
 
 -- a writer's answer: n, at most `most`, bytes p were laid over the front of l, which gives l₁
 pub record Wrote (p l l₁ : List ℕ) (n most : ℕ) : Type 0 where

@@ -1,6 +1,6 @@
 // Big-endian numbers read from a lent slice, their bytes, and bytes copied into one. Reading past the end gives 0, and what does not fit is not written.
 ghost use Rattle.std.specs.Prelude.{◌≡◌, ◌-◌, ◌%◌, ◌≤◌, ◌<◌, min, get_or};
-ghost use Rattle.wire.specs.Bytes.{num, bytes, part, name_of, onto, over, fillCount, fillOf};
+ghost use Rattle.wire.specs.Bytes.{num, bytes, part, name_of, onto, over, fill_count, fill_of};
 
 // The byte at a place, 0 past the end.
 pub fn byte_at(s: &[u8], i: usize) -> u8
@@ -136,8 +136,8 @@ pub fn put_at(out: &mut [u8], at: usize, src: &[u8])
 
 // The zeros that fill a payload of this size to a multiple of 4, over the front of out; answers how many there are.
 pub fn put_fill(out: &mut [u8], size: usize) -> usize
-    ensures value { result ≡ fillCount size }
-    ensures out_after { out.new ≡ onto (fillOf size) out.old }
+    ensures value { result ≡ fill_count size }
+    ensures out_after { out.new ≡ onto (fill_of size) out.old }
 {
     let zeros = [0u8; 3];
     let n = (4 - size % 4) % 4;

@@ -2,7 +2,7 @@
 use mathlib.Core.Path.{sym}
 use native.Mathlib.Omega.{arith}
 use borrow.Author.Rules.{rules}
-use Rattle.address.proofs.Map.{map-right, none_above}
+use Rattle.address.proofs.Map.{map_right, none_above}
 use Rattle.address.proofs.valid_address.Statement.{statement}
 use Rattle.address.proofs.valid_address.Tie as tie
 
@@ -10,7 +10,7 @@ returns : tie.Need-returns
 returns c = sym (none_above c.before.args.n c.if1.true)
 
 returns-2 : tie.Need-returns-2
-returns-2 c = map-right c.before.args.n (omega arith)
+returns-2 c = map_right c.before.args.n (omega arith)
 
 pub valid-address-spec : {M : Type 1} → statement M
 valid-address-spec =

@@ -53,8 +53,8 @@ use Rattle.drive.specs.contracts.Answer as An
 use Rattle.drive.proofs.Answer.TheLaws as An'
 use Rattle.drive.specs.contracts.Drive as Dr
 use Rattle.drive.proofs.Drive.TheLaws as Dr'
-use Rattle.boundary.specs.Boundary.{code_of, makeAnswer}
-use Rattle.boundary.proofs.Lent.{dval, N, code-of, to-code, goes-code}
+use Rattle.boundary.specs.Boundary.{code_of, make_answer}
+use Rattle.boundary.proofs.Lent.{dval, N, code_of_lem, to_code, goes_code}
 use Rattle.boundary.specs.contracts.make as g
 use Rattle.boundary.proofs.make.Symbol as g-def
 use Rattle.boundary.proofs.make.Symbol.{name as #boundary·make}
@@ -80,8 +80,8 @@ module _ {M : Type 1} {𝓤 : Ura M} (𝓛 : Logic 𝓤) (mem : Memory → SProp
   abbrev G : Contract 𝓤
   G = triple_of 𝓛 g.signature (g.spec 𝓛 mem run)
 
-  answer-of : (d : Drive) (z : Setup) (r : Answer) → ent 𝓤 (ensured 𝓛 g.ended (g.clauses 𝓛 mem run) tt (d, (z, tt)) tt r) (fact 𝓤 (r ≡ makeAnswer d z))
-  answer-of d z r = ex_e 𝓤 _ (λ ws. snd∗ 𝓤 (sem 𝓛 (lasts g.ended tt (d, (z, tt)) ws)) (fact 𝓤 (r ≡ makeAnswer d z)))
+  answer_of_lem : (d : Drive) (z : Setup) (r : Answer) → ent 𝓤 (ensured 𝓛 g.ended (g.clauses 𝓛 mem run) tt (d, (z, tt)) tt r) (fact 𝓤 (r ≡ make_answer d z))
+  answer_of_lem d z r = ex_e 𝓤 _ (λ ws. snd∗ 𝓤 (sem 𝓛 (lasts g.ended tt (d, (z, tt)) ws)) (fact 𝓤 (r ≡ make_answer d z)))
 
   abbrev to_make : Drive → Setup → G.Ghost
   to_make d z = ((tt, tt, tt, (d, (z, tt)), (dval d ∷ [], (zval z ∷ [], tt))), tt)
@@ -113,7 +113,7 @@ module _ {M : Type 1} {𝓤 : Ura M} (𝓛 : Logic 𝓤) (mem : Memory → SProp
   abbrev lent : Item 𝓤
   lent = ‵ (fshr_bor κ₁ (λ s. part_at Se.the_row s z b' o'))
 
-  exits : (r : Answer) (k : ℕ) (u : Val) → r ≡ makeAnswer h z → k ≡ code_of r.said
+  exits : (r : Answer) (k : ℕ) (u : Val) → r ≡ make_answer h z → k ≡ code_of r.said
       → ent 𝓤 (⋆ 𝓛 (‵ (fobs γ ((Dr.the_row).coded.code r.drive)) ∷ ‵ (fbor κ₀ (Body (mem_of Dr.the_row) b o γ)) ∷ ‵ (flft κ₀ q₀) ∷ ‵ (flft κ₁ q₁) ∷ ‵ (fres γ' ((Se.the_row).coded.code z)) ∷ lent ∷ ‵ (u64.own_val k (u ∷ [])) ∷ [])) (Post u)
   exits r k u e e' =
       qed 𝓛 (‵ (fobs γ ((Dr.the_row).coded.code r.drive)) ∷ ‵ (fbor κ₀ (Body (mem_of Dr.the_row) b o γ)) ∷ ‵ (flft κ₀ q₀) ∷ ‵ (flft κ₁ q₁) ∷ ‵ (fres γ' ((Se.the_row).coded.code z)) ∷ lent ∷ ‵ (u64.own_val k (u ∷ [])) ∷ []) ∵
@@ -124,7 +124,7 @@ module _ {M : Type 1} {𝓤 : Ura M} (𝓛 : Logic 𝓤) (mem : Memory → SProp
       feq_i ! (List Val) (vptr b o ∷ []) (vptr b o ∷ []) refl $ fjoin3 ! $ move ! (1 ∷ 2 ∷ []) $ feq_i ! (List Val) (vptr b' o' ∷ []) (vptr b' o' ∷ []) refl $ fjoin3 ! $
       nothing ! $ move ! (1 ∷ 0 ∷ []) $ fjoin ! $ move ! (1 ∷ 0 ∷ []) $ fjoin ! $ done !
 
-  module _ (C : Calls 𝓤 H) (Λ : Loops 𝓤 H) (fm : FmC 𝓤 H 𝓛.laws C) (known : Triple 𝓤 (C #boundary·make) (G 𝓛 mem run)) (known-code : Triple 𝓤 (C #boundary·code) (N 𝓛 mem run)) where
+  module _ (C : Calls 𝓤 H) (Λ : Loops 𝓤 H) (fm : FmC 𝓤 H 𝓛.laws C) (known : Triple 𝓤 (C #boundary·make) (G 𝓛 mem run)) (known_code : Triple 𝓤 (C #boundary·code) (N 𝓛 mem run)) where
     walk : ent 𝓤 (on_entry 𝓛 f.signature κs (q₀, (q₁, tt)) a vals) (WpFn 𝓤 H C Λ code.function (vptr b o ∷ vptr b' o' ∷ []) Post)
     walk =
         qed 𝓛 ((‵ (flft κ₀ q₀) ⊛ ‵ (flft κ₁ q₁) ⊛ ‵ ftrue) ∷ ‵ (owns (MutRef (named 0) κ₀ Dr.the_row ∷ ShrRef (named 1) κ₁ Se.the_row ∷ []) a vals) ∷ []) ∵ split ! $ move ! (2 ∷ []) $ fsplit ! $ fsplit3 ! $ drop ! $ move ! (2 ∷ []) $ fsplit ! $ fsplit3 ! $ drop ! $ move ! (6 ∷ []) $ split ! $
@@ -146,7 +146,7 @@ module _ {M : Type 1} {𝓤 : Ura M} (𝓛 : Logic 𝓤) (mem : Memory → SProp
         -- [what the callee asks; the setup's token; its borrow; the drive's cell; the open borrow; obs; auth; _5; …; room for _0; …; the setup's value]
         calls_at ! fm (G 𝓛 mem run) known (to_make 𝓛 mem run h z) (and_then ! (load ! (from ! (stop !)) (look ! 9 refl)) (and_then ! (load ! (from ! (stop !)) (look ! 7 refl)) (no_more !))) (λ u.
         use1 𝓛 (later (some (λ (r : Answer). (‵ ftrue ⊛ ‵ ((An.the_row).own_val r (u ∷ []))) ⊛ raw (ensured 𝓛 g.ended (g.clauses 𝓛 mem run) tt (h, (z, tt)) tt r)))) (id⊢ 𝓤 _) $ await ! tt $ pick ! (λ r.
-        split ! $ move ! (1 ∷ []) $ use1 𝓛 (raw (fact 𝓤 (r ≡ makeAnswer h z))) (answer-of 𝓛 mem run h z r) $ heard ! (r ≡ makeAnswer h z) (λ e. split ! $ drop ! $
+        split ! $ move ! (1 ∷ []) $ use1 𝓛 (raw (fact 𝓤 (r ≡ make_answer h z))) (answer_of_lem 𝓛 mem run h z r) $ heard ! (r ≡ make_answer h z) (λ e. split ! $ drop ! $
         peeks ! An.the_row (Is An.the_row) (shows 𝓛 An.the_row) r (u ∷ []) (λ is. drop ! $
         let fields = LL.owed An.the_type An'.the_laws r _ is in
         land ! (from ! (stop !)) (init ! 10 refl ((LL.lawful An.the_type An'.the_laws 𝓛).typed r _ is).0) $
@@ -155,10 +155,10 @@ module _ {M : Type 1} {𝓤 : Ura M} (𝓛 : Logic 𝓤) (mem : Memory → SProp
         assigns ! (of_opd ! (load ! (from ! (fld ! refl (stop !))) (look_in ! 10 (sub ! 1 refl (whole !))))) (from ! (hop ! (look ! 14 refl) (stop !))) (store_raw ! 2 refl (typed 𝓛 mem run r.drive fields.1.0)) $
         owned ! Dr.the_row (Is Dr.the_row) (LL.makes Dr.the_type Dr'.the_plain 𝓛) r.drive _ fields.1.0 $ move ! (3 ∷ 0 ∷ 4 ∷ 5 ∷ 6 ∷ []) $ closes ! tt Dr.the_row r.drive (dval r.drive ∷ []) b o $
         -- [obs; the borrow; its token; the setup's token; its borrow; _5; …; room for _0; …; the setup's value]
-        owned ! Sd.the_row (Is Sd.the_row) (EL.makes Sd.the_type Sd'.the_plain 𝓛) r.said _ fields.0 $ use1 𝓛 (raw ((N 𝓛 mem run).pre (to-code 𝓛 mem run r.said))) (goes-code 𝓛 mem run r.said) $
-        calls_at ! fm (N 𝓛 mem run) known-code (to-code 𝓛 mem run r.said) (and_then ! (load ! (from ! (fld ! refl (stop !))) (look_in ! 10 (sub ! 0 refl (whole !)))) (no_more !)) (λ u'.
+        owned ! Sd.the_row (Is Sd.the_row) (EL.makes Sd.the_type Sd'.the_plain 𝓛) r.said _ fields.0 $ use1 𝓛 (raw ((N 𝓛 mem run).pre (to_code 𝓛 mem run r.said))) (goes_code 𝓛 mem run r.said) $
+        calls_at ! fm (N 𝓛 mem run) known_code (to_code 𝓛 mem run r.said) (and_then ! (load ! (from ! (fld ! refl (stop !))) (look_in ! 10 (sub ! 0 refl (whole !)))) (no_more !)) (λ u'.
         use1 𝓛 (later (some (λ (k : ℕ). (‵ ftrue ⊛ ‵ (u64.own_val k (u' ∷ []))) ⊛ raw (ensured 𝓛 n.ended (n.clauses 𝓛 mem run) tt (r.said, tt) tt k)))) (id⊢ 𝓤 _) $ await ! tt $ pick ! (λ k.
-        split ! $ move ! (1 ∷ []) $ use1 𝓛 (raw (fact 𝓤 (k ≡ code_of r.said))) (code-of 𝓛 mem run r.said k) $ heard ! (k ≡ code_of r.said) (λ e'. split ! $ drop ! $
+        split ! $ move ! (1 ∷ []) $ use1 𝓛 (raw (fact 𝓤 (k ≡ code_of r.said))) (code_of_lem 𝓛 mem run r.said k) $ heard ! (k ≡ code_of r.said) (λ e'. split ! $ drop ! $
         peeks ! u64 (Is u64) (shows 𝓛 u64) k (u' ∷ []) (λ is'.
         -- [the result; obs; the borrow; its token; the setup's token; its borrow; _5; …; room for _0; …; the setup's value]
         land ! (from ! (stop !)) (init ! 16 refl ((uint_Lawful 𝓛 w64).typed k _ is').0) $
@@ -166,18 +166,18 @@ module _ {M : Type 1} {𝓤 : Ura M} (𝓛 : Logic 𝓤) (mem : Memory → SProp
         move ! (16 ∷ 17 ∷ []) $ free1 ! $ move ! (14 ∷ 15 ∷ []) $ free1 ! $ move ! (12 ∷ 13 ∷ []) $ free1 ! $ move ! (10 ∷ 11 ∷ []) $ free1 ! $ move ! (8 ∷ 9 ∷ []) $ free1 ! $ move ! (6 ∷ 7 ∷ []) $ free1 ! $ free0 ! $
         keep ! (1 ∷ 2 ∷ 3 ∷ 4 ∷ 6 ∷ 5 ∷ 0 ∷ []) $ by ! (exits r k u' e e')))))))))))))))))))
 
-module _ {M : Type 1} {𝓤 : Ura M} (𝓛 : Logic 𝓤) (mem : Memory → SProp 𝓤) (run : Routine → Fun 𝓤) (𝓣 : Tables 𝓤 𝓛.H) (known : Triple 𝓤 (𝓣.C #boundary·make) (G 𝓛 mem run)) (known-code : Triple 𝓤 (𝓣.C #boundary·code) (N 𝓛 mem run)) where
+module _ {M : Type 1} {𝓤 : Ura M} (𝓛 : Logic 𝓤) (mem : Memory → SProp 𝓤) (run : Routine → Fun 𝓤) (𝓣 : Tables 𝓤 𝓛.H) (known : Triple 𝓤 (𝓣.C #boundary·make) (G 𝓛 mem run)) (known_code : Triple 𝓤 (𝓣.C #boundary·code) (N 𝓛 mem run)) where
   open 𝓛 use {H}
 
-  f-walks : Walks 𝓛 f.ended stayed (WpFn 𝓤 H 𝓣.C 𝓣.Λ code.function) (f.clauses 𝓛 mem run)
-  f-walks = walked 𝓛 f.ended stayed (f.clauses 𝓛 mem run) (WpFn 𝓤 H 𝓣.C 𝓣.Λ code.function)
+  f_walks : Walks 𝓛 f.ended stayed (WpFn 𝓤 H 𝓣.C 𝓣.Λ code.function) (f.clauses 𝓛 mem run)
+  f_walks = walked 𝓛 f.ended stayed (f.clauses 𝓛 mem run) (WpFn 𝓤 H 𝓣.C 𝓣.Λ code.function)
       (λ κs. (mut_vals, (shr_vals, tt))) (λ κs. (mut_Tells (named 0) κs.0 Dr.the_row, (shr_Tells (named 1) κs.1.0 Se.the_row, tt)))
-      (λ κs qs bounds a g are. via 𝓤 _ (fst∗ 𝓤 _ (emp 𝓤)) (walk 𝓛 mem run κs.0 κs.1.0 qs.0 qs.1.0 a.0.ref_ptr.0 a.0.ref_ptr.1 a.0.ghost_name a.0.now a.1.0.ref_ptr.0 a.1.0.ref_ptr.1 a.1.0.ghost_name a.1.0.now 𝓣.C 𝓣.Λ (fm_of 𝓤 H 𝓛.laws 𝓣) known known-code))
+      (λ κs qs bounds a g are. via 𝓤 _ (fst∗ 𝓤 _ (emp 𝓤)) (walk 𝓛 mem run κs.0 κs.1.0 qs.0 qs.1.0 a.0.ref_ptr.0 a.0.ref_ptr.1 a.0.ghost_name a.0.now a.1.0.ref_ptr.0 a.1.0.ref_ptr.1 a.1.0.ghost_name a.1.0.now 𝓣.C 𝓣.Λ (fm_of 𝓤 H 𝓛.laws 𝓣) known known_code))
 
   f_meets : Meets 𝓛 f.signature (WpFn 𝓤 H 𝓣.C 𝓣.Λ code.function) (f.spec 𝓛 mem run)
   f_meets =
       walk_Meets 𝓛 f.ended stayed (Goes-ref 𝓛 2 0 tt (plain (λ _. Dr.the_row)), (Goes-none_ref 𝓛 2 (1 ∷ []) tt (plain (λ _. Se.the_row)) yes, tt)) (f.clauses 𝓛 mem run)
-      (WpFn 𝓤 H 𝓣.C 𝓣.Λ code.function) (WpFn-mono 𝓤 H 𝓛.laws 𝓣 code.function) f-walks
+      (WpFn 𝓤 H 𝓣.C 𝓣.Λ code.function) (WpFn-mono 𝓤 H 𝓛.laws 𝓣 code.function) f_walks
 
 pub jhartupal-make-spec : {M : Type 1} → stated.statement M
 unfolding code.routine tables_of

@@ -3,14 +3,14 @@ use Prim.Native.Nat.{◌-◌}
 use mathlib.Core.Path.{◌≡◌, refl}
 use lib.ListN.{length}
 use borrow.Author.Rules.{rules}
-use Rattle.tables.proofs.Loops.{Filled, fill-starts, fill_on, fill-out}
-use Rattle.formed.proofs.Keys.{noKey}
-use Rattle.boundary.specs.Settled.{reaches, marksOf}
+use Rattle.tables.proofs.Loops.{Filled, fill_starts, fill_on, fill_out}
+use Rattle.formed.proofs.Keys.{no_key}
+use Rattle.boundary.specs.Settled.{reaches, marks_of}
 use Rattle.boundary.proofs.marks.Statement.{statement}
 use Rattle.boundary.proofs.marks.Tie as tie
 
 abbrev invariant-loop : tie.invariant-loop
-invariant-loop c keys m₀ i₀ m i = Filled noKey (reaches c) (marksOf c keys) m keys 8 i
+invariant-loop c keys m₀ i₀ m i = Filled no_key (reaches c) (marks_of c keys) m keys 8 i
 
 abbrev decreases-loop : tie.decreases-loop
 decreases-loop c keys m₀ i₀ m i = 8 - i
@@ -22,7 +22,7 @@ loop-again : tie.Need-loop-preserved invariant-loop decreases-loop
 loop-again c = let t = c.before.before in fill_on (len t.before.before) t.before.loop.invariant t.loop-test.true c.is-reached.ensures
 
 returns : tie.Need-returns invariant-loop decreases-loop
-returns c = fill-out (len c.before.before) c.before.loop.invariant c.loop-test.false
+returns c = fill_out (len c.before.before) c.before.loop.invariant c.loop-test.false
 
 pub marks-spec : {M : Type 1} → statement M
 marks-spec =
@@ -30,7 +30,7 @@ marks-spec =
     (tie.spec
     invariant-loop
     decreases-loop
-    (λ c. fill-starts refl)
+    (λ c. fill_starts refl)
     (λ c. search rules)
     (λ c. search rules)
     (λ c κs. search rules)

@@ -49,12 +49,12 @@ use denote.Triple.Walked.{says, Stays, stay_none, stay_ref, walk_of, Goes-none, 
 use denote.Exit.{yes}
 use denote.Triple.Clauses.{ensured, lasts}
 use borrow.Author.Tests.{lt-ltb, le-ltb, ltb-true, ltb-false}
-use Rattle.tables.proofs.Loops.{Filled, fill-starts, fill_on, fill-out}
+use Rattle.tables.proofs.Loops.{Filled, fill_starts, fill_on, fill_out}
 use Rattle.state.specs.declared.Login.{Login}
 use Rattle.state.specs.declared.Own.{Own}
 use Rattle.state.specs.declared.Port.{Port}
 use Rattle.state.specs.declared.Unit.{Unit as TheUnit}
-use Rattle.state.specs.Changes.{noLogin, own_of}
+use Rattle.state.specs.Changes.{no_login, own_of}
 use Rattle.state.specs.contracts.Login as Lo
 use Rattle.state.proofs.Login.TheLaws as Lo'
 use Rattle.state.specs.contracts.Own as Ow
@@ -64,27 +64,27 @@ use Rattle.state.proofs.Port.TheLaws as Po'
 use Rattle.state.specs.contracts.Unit as Un
 use Rattle.state.proofs.Unit.TheLaws as Un'
 use Rattle.formed.specs.declared.Key.{Key}
-use Rattle.formed.specs.Keys.{loginKey, keys_of}
+use Rattle.formed.specs.Keys.{login_key, keys_of}
 use Rattle.formed.specs.contracts.Key as Ke
 use Rattle.formed.proofs.Key.TheLaws as Ke'
-use Rattle.formed.proofs.Keys.{noKey}
+use Rattle.formed.proofs.Keys.{no_key}
 use Rattle.formed.specs.contracts.login_key as g
 use Rattle.formed.proofs.login_key.Symbol as g-def
 use Rattle.formed.proofs.login_key.Symbol.{name as #formed·login-key}
 use Rattle.formed.proofs.login_key.Met as g-thm
 use Rattle.calls.specs.declared.Sight.{Sight}
-use Rattle.calls.specs.View.{sightFrom, sight_of}
+use Rattle.calls.specs.View.{sight_from, sight_of}
 use Rattle.calls.specs.contracts.Sight as Si
 use Rattle.calls.proofs.Sight.TheLaws as Si'
 use Rattle.calls.specs.contracts.sight_from as e
 use Rattle.calls.proofs.sight_from.Symbol as e-def
 use Rattle.calls.proofs.sight_from.Symbol.{name as #calls·sight-from}
 use Rattle.calls.proofs.sight_from.Met as e-thm
-use Rattle.boundary.proofs.Elements.{set_values, length-values, array-set, elem, unraw}
-use Rattle.boundary.proofs.Keyed.{keyVal, K8, k8, kvals, kval, blank, is_none, blank-are}
+use Rattle.boundary.proofs.Elements.{set_values, length_values, array_set, elem, unraw}
+use Rattle.boundary.proofs.Keyed.{key_val, K8, k8, kvals, kval, blank, is_none, blank_are}
 use Rattle.boundary.proofs.Lent.{pval, uval, word, rf}
-use Rattle.boundary.proofs.Logins.{lval, logins-long, table-8, login-is, reads}
-use Rattle.boundary.proofs.Reading.{half, a112, owning, oval, own-fits, is-own, typed-accept, typed-own, typed-login}
+use Rattle.boundary.proofs.Logins.{lval, logins_long, table_8, login_is, reads}
+use Rattle.boundary.proofs.Reading.{half, a112, owning, oval, own_fits, is_own, typed_accept, typed_own, typed_login}
 use Rattle.boundary.specs.contracts.sight.Key.{name as #boundary·sight}
 use Rattle.boundary.specs.contracts.sight as f
 use Rattle.boundary.proofs.sight.Statement as stated
@@ -95,20 +95,20 @@ abbrev stayed : Stays (f.ended).signature.params (f.ended).kept
 stayed = (stay_ref (0 ∷ []) tt (plain (λ _. Po.the_row)), (stay_none (λ _. Un.the_row) yes, tt))
 
 -- what is seen of the keys
-seen-is : (c : TheUnit) (h : Port) → sightFrom c (owning h) (keys_of c h) ≡ sight_of c h
+seen_is : (c : TheUnit) (h : Port) → sight_from c (owning h) (keys_of c h) ≡ sight_of c h
 unfolding own_of
-seen-is c h = refl
+seen_is c h = refl
 
 -- where the loop stands: a place, and the keys by then
 record Here (c : TheUnit) (h : Port) : Type 0 where
   i : ℕ
   ks : List Key
-  good : Filled noLogin (loginKey c h.address) (keys_of c h) ks h.logins 8 i
+  good : Filled no_login (login_key c h.address) (keys_of c h) ks h.logins 8 i
   is : Is K8 ks (kvals ks)
 
-none_filled : (c : TheUnit) (h : Port) → Filled noLogin (loginKey c h.address) (keys_of c h) blank h.logins 8 0
+none_filled : (c : TheUnit) (h : Port) → Filled no_login (login_key c h.address) (keys_of c h) blank h.logins 8 0
 unfolding keys_of
-none_filled c h = fill-starts refl
+none_filled c h = fill_starts refl
 
 module _ {M : Type 1} {𝓤 : Ura M} (𝓛 : Logic 𝓤) (mem : Memory → SProp 𝓤) (run : Routine → Fun 𝓤) where
   -- the contracts of `formed::login_key` and `calls::sight_from`, what they give, and what they are passed
@@ -118,34 +118,34 @@ module _ {M : Type 1} {𝓤 : Ura M} (𝓛 : Logic 𝓤) (mem : Memory → SProp
   abbrev E : Contract 𝓤
   E = triple_of 𝓛 e.signature (e.spec 𝓛 mem run)
 
-  key-of : (c : TheUnit) (d : ℕ) (m : Login) (k : Key) → ent 𝓤 (ensured 𝓛 g.ended (g.clauses 𝓛 mem run) tt (c, (d, (m, tt))) tt k) (fact 𝓤 (k ≡ loginKey c d m))
-  key-of c d m k = ex_e 𝓤 _ (λ ws. snd∗ 𝓤 (sem 𝓛 (lasts g.ended tt (c, (d, (m, tt))) ws)) (fact 𝓤 (k ≡ loginKey c d m)))
+  key_of_lem : (c : TheUnit) (d : ℕ) (m : Login) (k : Key) → ent 𝓤 (ensured 𝓛 g.ended (g.clauses 𝓛 mem run) tt (c, (d, (m, tt))) tt k) (fact 𝓤 (k ≡ login_key c d m))
+  key_of_lem c d m k = ex_e 𝓤 _ (λ ws. snd∗ 𝓤 (sem 𝓛 (lasts g.ended tt (c, (d, (m, tt))) ws)) (fact 𝓤 (k ≡ login_key c d m)))
 
-  sight-of : (c : TheUnit) (o : Own) (ks : List Key) (k : Sight) → ent 𝓤 (ensured 𝓛 e.ended (e.clauses 𝓛 mem run) tt (c, (o, (ks, tt))) tt k) (fact 𝓤 (k ≡ sightFrom c o ks))
-  sight-of c o ks k = ex_e 𝓤 _ (λ ws. snd∗ 𝓤 (sem 𝓛 (lasts e.ended tt (c, (o, (ks, tt))) ws)) (fact 𝓤 (k ≡ sightFrom c o ks)))
+  sight_of_lem : (c : TheUnit) (o : Own) (ks : List Key) (k : Sight) → ent 𝓤 (ensured 𝓛 e.ended (e.clauses 𝓛 mem run) tt (c, (o, (ks, tt))) tt k) (fact 𝓤 (k ≡ sight_from c o ks))
+  sight_of_lem c o ks k = ex_e 𝓤 _ (λ ws. snd∗ 𝓤 (sem 𝓛 (lasts e.ended tt (c, (o, (ks, tt))) ws)) (fact 𝓤 (k ≡ sight_from c o ks)))
 
-  abbrev to-key : TheUnit → ℕ → Login → G.Ghost
-  to-key c d m = ((tt, tt, tt, (c, (d, (m, tt))), (uval c ∷ [], (vint w32 d ∷ [], (lval m ∷ [], tt)))), tt)
+  abbrev to_key : TheUnit → ℕ → Login → G.Ghost
+  to_key c d m = ((tt, tt, tt, (c, (d, (m, tt))), (uval c ∷ [], (vint w32 d ∷ [], (lval m ∷ [], tt)))), tt)
 
-  abbrev to-sight : TheUnit → Port → List Key → E.Ghost
-  to-sight c h ks = ((tt, tt, tt, (c, (owning h, (ks, tt))), (uval c ∷ [], (oval h ∷ [], (kvals ks, tt)))), tt)
+  abbrev to_sight : TheUnit → Port → List Key → E.Ghost
+  to_sight c h ks = ((tt, tt, tt, (c, (owning h, (ks, tt))), (uval c ∷ [], (oval h ∷ [], (kvals ks, tt)))), tt)
 
   module _ where
-    goes-key : (c : TheUnit) (d : ℕ) (m : Login) → Is Un.the_row c (uval c ∷ []) → d < 2 ^ 32 → Is Lo.the_row m (lval m ∷ []) → ent 𝓤 (emp 𝓤) (G.pre (to-key c d m))
-    goes-key c d m is_c d-fits is_m =
+    goes_key : (c : TheUnit) (d : ℕ) (m : Login) → Is Un.the_row c (uval c ∷ []) → d < 2 ^ 32 → Is Lo.the_row m (lval m ∷ []) → ent 𝓤 (emp 𝓤) (G.pre (to_key c d m))
+    goes_key c d m is_c d-fits is_m =
         qed 𝓛 [] ∵ nothing ! $ owned ! Lo.the_row (Is Lo.the_row) (LL.makes Lo.the_type Lo'.the_plain 𝓛) m _ is_m $ fjoin ! $ owned ! u32 (Is u32) (uint_Makes 𝓛 w32) d _ (refl, d-fits) $ fjoin ! $
         owned ! Un.the_row (Is Un.the_row) (LL.makes Un.the_type Un'.the_plain 𝓛) c _ is_c $ fjoin ! $ nothing ! $ join ! $ frame ! $ done !
 
-    goes-sight : (c : TheUnit) (h : Port) (ks : List Key) → Is Un.the_row c (uval c ∷ []) → Is Ow.the_row (owning h) (oval h ∷ []) → Is K8 ks (kvals ks) → ent 𝓤 (emp 𝓤) (E.pre (to-sight c h ks))
-    goes-sight c h ks is_c is-o is-ks =
+    goes_sight : (c : TheUnit) (h : Port) (ks : List Key) → Is Un.the_row c (uval c ∷ []) → Is Ow.the_row (owning h) (oval h ∷ []) → Is K8 ks (kvals ks) → ent 𝓤 (emp 𝓤) (E.pre (to_sight c h ks))
+    goes_sight c h ks is_c is-o is-ks =
         qed 𝓛 [] ∵ nothing ! $ owned ! K8 (Is K8) (Array-Makes 𝓛 Ke.the_row (LL.makes Ke.the_type Ke'.the_plain 𝓛) 8) ks _ is-ks $ fjoin ! $ owned ! Ow.the_row (Is Ow.the_row) (LL.makes Ow.the_type Ow'.the_plain 𝓛) (owning h) _ is-o $ fjoin ! $
         owned ! Un.the_row (Is Un.the_row) (LL.makes Un.the_type Un'.the_plain 𝓛) c _ is_c $ fjoin ! $ nothing ! $ join ! $ frame ! $ done !
 
-    typed-key : (k : Key) (u : Val) → Is Ke.the_row k (u ∷ []) → Holds (has_ty Ke'.mir u) × WT u
-    typed-key k u is = ((LL.lawful Ke.the_type Ke'.the_laws 𝓛).typed k _ is).0
+    typed_key : (k : Key) (u : Val) → Is Ke.the_row k (u ∷ []) → Holds (has_ty Ke'.mir u) × WT u
+    typed_key k u is = ((LL.lawful Ke.the_type Ke'.the_laws 𝓛).typed k _ is).0
 
-    typed-keys : (ks : List Key) → Is K8 ks (kvals ks) → Holds (has_ty k8 (kval ks)) × WT (kval ks)
-    typed-keys ks is = ((Array-Lawful 𝓛 Ke.the_row (LL.lawful Ke.the_type Ke'.the_laws 𝓛) 8).typed ks _ is).0
+    typed_keys : (ks : List Key) → Is K8 ks (kvals ks) → Holds (has_ty k8 (kval ks)) × WT (kval ks)
+    typed_keys ks is = ((Array-Lawful 𝓛 Ke.the_row (LL.lawful Ke.the_type Ke'.the_laws 𝓛) 8).typed ks _ is).0
 
 module _ {M : Type 1} {𝓤 : Ura M} (𝓛 : Logic 𝓤) (mem : Memory → SProp 𝓤) (run : Routine → Fun 𝓤) (κ : Lft) (q : Share) (b o : ℕ) (γ : GName) (h : Port) (c : TheUnit) (is_c : Is Un.the_row c (uval c ∷ [])) where
   open 𝓛 use {H}
@@ -176,12 +176,12 @@ module _ {M : Type 1} {𝓤 : Ura M} (𝓛 : Logic 𝓤) (mem : Memory → SProp
     Nearer-wf = InvImage.wf (λ (x : Here c h). 8 - x.i) lt-wf_rel.wf
 
     abbrev starting : Here c h
-    starting = record { i = 0; ks = blank; good = none_filled c h; is = blank-are }
+    starting = record { i = 0; ks = blank; good = none_filled c h; is = blank_are }
 
-    abbrev going : (x : Here c h) → x.i < 8 → (k : Key) → Is Ke.the_row k (keyVal k ∷ []) → k ≡ loginKey c h.address (get_or h.logins x.i noLogin) → Here c h
-    going x less k is-k e = record { i = x.i + 1; ks = set x.ks x.i k; good = fill_on (logins-long h was) x.good less e; is = array-set Ke.the_row keyVal (LL.tells Ke.the_type Ke'.the_laws) 8 x.ks _ x.is x.i k is-k }
+    abbrev going : (x : Here c h) → x.i < 8 → (k : Key) → Is Ke.the_row k (key_val k ∷ []) → k ≡ login_key c h.address (get_or h.logins x.i no_login) → Here c h
+    going x less k is_k e = record { i = x.i + 1; ks = set x.ks x.i k; good = fill_on (logins_long h was) x.good less e; is = array_set Ke.the_row key_val (LL.tells Ke.the_type Ke'.the_laws) 8 x.ks _ x.is x.i k is_k }
 
-    module _ (𝓣 : Tables 𝓤 H) (fm : FmC 𝓤 H 𝓛.laws 𝓣.C) (known-key : Triple 𝓤 (𝓣.C #formed·login-key) (G 𝓛 mem run)) (known-sight : Triple 𝓤 (𝓣.C #calls·sight-from) (E 𝓛 mem run)) (l₀ l₁ l₂ l₃ l₄ l₅ l₆ l₇ l₈ l₉ l₁₀ l₁₁ l₁₂ l₁₃ l₁₄ l₁₅ l₁₆ l₁₇ l₁₈ : ℕ) where
+    module _ (𝓣 : Tables 𝓤 H) (fm : FmC 𝓤 H 𝓛.laws 𝓣.C) (known_key : Triple 𝓤 (𝓣.C #formed·login-key) (G 𝓛 mem run)) (known_sight : Triple 𝓤 (𝓣.C #calls·sight-from) (E 𝓛 mem run)) (l₀ l₁ l₂ l₃ l₄ l₅ l₆ l₇ l₈ l₉ l₁₀ l₁₁ l₁₂ l₁₃ l₁₄ l₁₅ l₁₆ l₁₇ l₁₈ : ℕ) where
       abbrev C : Calls 𝓤 H
       C = 𝓣.C
 
@@ -200,7 +200,7 @@ module _ {M : Type 1} {𝓤 : Ura M} (𝓛 : Logic 𝓤) (mem : Memory → SProp
 
       -- at the head of a turn
       abbrev At-head : Here c h → List (Item 𝓤)
-      At-head x = Had (‵ (fat full_share k8 l₃ 0 (kval x.ks))) (‵ (fat full_share word l₄ 0 (vint w64 x.i))) (‵ (fat full_share Ke'.mir l₆ 0 (keyVal noKey)))
+      At-head x = Had (‵ (fat full_share k8 l₃ 0 (kval x.ks))) (‵ (fat full_share word l₄ 0 (vint w64 x.i))) (‵ (fat full_share Ke'.mir l₆ 0 (key_val no_key)))
 
       -- a turn's postcondition: it ends nearer to 8, or the loop is left and the rest of the body runs
       abbrev Turned : Here c h → Out → SProp 𝓤
@@ -210,68 +210,68 @@ module _ {M : Type 1} {𝓤 : Ura M} (𝓛 : Logic 𝓤) (mem : Memory → SProp
       unfolding after_turn
       more x less =
           let i = x.i in
-          let m = get_or h.logins i noLogin in
+          let m = get_or h.logins i no_login in
           let d = h.address in
           let small : i * 288 < 2 ^ 64 = omega (arith, less) in
-          let small-16 : i * 16 < 2 ^ 64 = omega (arith, less) in
+          let small_16 : i * 16 < 2 ^ 64 = omega (arith, less) in
           let next_fits : i + 1 < 2 ^ 64 = omega (arith, less) in
-          let is_m = login-is h was i noLogin less in
+          let is_m = login_is h was i no_login less in
           assigns ! (bin ! (load ! (from ! (stop !)) (look ! 32 refl)) (lit ! tt) tt) (from ! (stop !)) (init ! 26 refl (tt, tt)) $
           rewrite ! 26 (λ (z : Bool). ‵ (fat full_share ty_bool l₇ 0 (vbool z))) (lt-ltb i 8 less) refl $ stays ! (load ! (from ! (stop !)) (look ! 26 refl)) $
           -- the address and the login at i are read
-          assigns ! (of_opd ! (load ! (from ! (hop ! (look ! 38 refl) (fld ! refl (stop !)))) (look_in ! 0 (sub ! 0 refl (whole !))))) (from ! (stop !)) (init ! 24 refl (tt, record { fits = own-fits h was })) $
+          assigns ! (of_opd ! (load ! (from ! (hop ! (look ! 38 refl) (fld ! refl (stop !)))) (look_in ! 0 (sub ! 0 refl (whole !))))) (from ! (stop !)) (init ! 24 refl (tt, record { fits = own_fits h was })) $
           assigns ! (bin ! (load ! (from ! (stop !)) (look ! 32 refl)) (lit ! tt) (record { fits = small })) (from ! (stop !)) (init ! 22 refl (tt, record { fits = small })) $
           assigns ! (addr ! (from ! (hop ! (look ! 38 refl) (fld ! refl (stop !))))) (from ! (stop !)) (init ! 20 refl (tt, tt)) $
           assigns ! (bin ! (load ! (from ! (stop !)) (look ! 20 refl)) (load ! (from ! (stop !)) (look ! 22 refl)) tt) (from ! (stop !)) (init ! 18 refl (tt, tt)) $
           rewrite ! 18 (λ (z : ℕ). ‵ (fat full_share ty_ptr l₁₁ 0 (vptr b z))) (sym (place_is 288 (o + 120) i)) refl $
-          assigns ! (of_opd ! (load ! (from ! (hop ! (look ! 18 refl) (stop !))) (look_in ! 0 (unraw ! (elem ! i (table-8 h was) less (sub ! 2 refl (whole !))))))) (from ! (stop !)) (init ! 16 refl (typed-login 𝓛 m is_m (reads h was i noLogin less))) $
-          rewrite ! 16 (λ (z : Val). ‵ (fat full_share Lo'.mir l₁₂ 0 z)) (reads h was i noLogin less) refl $
+          assigns ! (of_opd ! (load ! (from ! (hop ! (look ! 18 refl) (stop !))) (look_in ! 0 (unraw ! (elem ! i (table_8 h was) less (sub ! 2 refl (whole !))))))) (from ! (stop !)) (init ! 16 refl (typed_login 𝓛 m is_m (reads h was i no_login less))) $
+          rewrite ! 16 (λ (z : Val). ‵ (fat full_share Lo'.mir l₁₂ 0 z)) (reads h was i no_login less) refl $
           -- `login_key`
-          use0 𝓛 (raw ((G 𝓛 mem run).pre (to-key 𝓛 mem run c d m))) (goes-key 𝓛 mem run c d m is_c (own-fits h was) is_m) $
-          calls_at ! fm (G 𝓛 mem run) known-key (to-key 𝓛 mem run c d m) (and_then ! (load ! (from ! (stop !)) (look ! 37 refl)) (and_then ! (load ! (from ! (stop !)) (look ! 25 refl)) (and_then ! (load ! (from ! (stop !)) (look ! 17 refl)) (no_more !)))) (λ u.
+          use0 𝓛 (raw ((G 𝓛 mem run).pre (to_key 𝓛 mem run c d m))) (goes_key 𝓛 mem run c d m is_c (own_fits h was) is_m) $
+          calls_at ! fm (G 𝓛 mem run) known_key (to_key 𝓛 mem run c d m) (and_then ! (load ! (from ! (stop !)) (look ! 37 refl)) (and_then ! (load ! (from ! (stop !)) (look ! 25 refl)) (and_then ! (load ! (from ! (stop !)) (look ! 17 refl)) (no_more !)))) (λ u.
           use1 𝓛 (later (some (λ (k : Key). (‵ ftrue ⊛ ‵ ((Ke.the_row).own_val k (u ∷ []))) ⊛ raw (ensured 𝓛 g.ended (g.clauses 𝓛 mem run) tt (c, (d, (m, tt))) tt k)))) (id⊢ 𝓤 _) $ await ! tt $ pick ! (λ k.
-          split ! $ move ! (1 ∷ []) $ use1 𝓛 (raw (fact 𝓤 (k ≡ loginKey c d m))) (key-of 𝓛 mem run c d m k) $ heard ! (k ≡ loginKey c d m) (λ e. split ! $ drop ! $
+          split ! $ move ! (1 ∷ []) $ use1 𝓛 (raw (fact 𝓤 (k ≡ login_key c d m))) (key_of_lem 𝓛 mem run c d m k) $ heard ! (k ≡ login_key c d m) (λ e. split ! $ drop ! $
           peeks ! Ke.the_row (Is Ke.the_row) (shows 𝓛 Ke.the_row) k (u ∷ []) (λ is-u. drop ! $
-          let is-k = subst (Is Ke.the_row k) (LL.tells Ke.the_type Ke'.the_laws k _ is-u) is-u in
-          land ! (from ! (stop !)) (init ! 30 refl (typed-key 𝓛 mem run k u is-u)) $
+          let is_k = subst (Is Ke.the_row k) (LL.tells Ke.the_type Ke'.the_laws k _ is-u) is-u in
+          land ! (from ! (stop !)) (init ! 30 refl (typed_key 𝓛 mem run k u is-u)) $
           rewrite ! 30 (λ (z : Val). ‵ (fat full_share Ke'.mir l₅ 0 z)) (ap only (LL.tells Ke.the_type Ke'.the_laws k _ is-u)) refl $
           -- it is stored at i
-          assigns ! (bin ! (load ! (from ! (stop !)) (look ! 32 refl)) (lit ! tt) (record { fits = small-16 })) (from ! (stop !)) (store ! 22 refl (tt, record { fits = small-16 })) $
+          assigns ! (bin ! (load ! (from ! (stop !)) (look ! 32 refl)) (lit ! tt) (record { fits = small_16 })) (from ! (stop !)) (store ! 22 refl (tt, record { fits = small_16 })) $
           assigns ! (addr ! (from ! (stop !))) (from ! (stop !)) (init ! 14 refl (tt, tt)) $
           assigns ! (bin ! (load ! (from ! (stop !)) (look ! 14 refl)) (load ! (from ! (stop !)) (look ! 22 refl)) tt) (from ! (stop !)) (init ! 12 refl (tt, tt)) $
           rewrite ! 12 (λ (z : ℕ). ‵ (fat full_share ty_ptr l₁₄ 0 (vptr l₃ z))) (sym (place_is 16 0 i)) refl $
-          assigns ! (of_opd ! (load ! (from ! (stop !)) (look ! 30 refl))) (from ! (hop ! (look ! 12 refl) (stop !))) (store_in ! 34 (elem ! i (length-values keyVal x.ks ∙ x.good.long) less (whole !)) (typed-key 𝓛 mem run k _ is-k)) $
-          rewrite ! 34 (λ (vs : Vals). ‵ (fat full_share k8 l₃ 0 (vstruct vs))) (set_values keyVal x.ks i k) refl $
+          assigns ! (of_opd ! (load ! (from ! (stop !)) (look ! 30 refl))) (from ! (hop ! (look ! 12 refl) (stop !))) (store_in ! 34 (elem ! i (length_values key_val x.ks ∙ x.good.long) less (whole !)) (typed_key 𝓛 mem run k _ is_k)) $
+          rewrite ! 34 (λ (vs : Vals). ‵ (fat full_share k8 l₃ 0 (vstruct vs))) (set_values key_val x.ks i k) refl $
           assigns_last ! (bin ! (load ! (from ! (stop !)) (look ! 32 refl)) (lit ! tt) (record { fits = next_fits })) (from ! (stop !)) (store ! 32 refl (tt, record { fits = next_fits })) $
           forget ! 12 refl $ forget ! 14 refl $ forget ! 16 refl $ forget ! 18 refl $ forget ! 20 refl $ forget ! 22 refl $ forget ! 24 refl $ forget ! 26 refl $ forget ! 30 refl $
-          again ! Nearer At-head x (going x less k is-k e) (nearer i less)))))
+          again ! Nearer At-head x (going x less k is_k e) (nearer i less)))))
         where
           nearer : (i : ℕ) → i < 8 → 8 - (i + 1) < 8 - i
           nearer i less = omega (arith, less)
 
       finish : (x : Here c h) → 8 ≤ x.i → Sq 𝓛 (At-head x) (runs C Λ En mir_of.t-5 (at_ret En Post))
       finish x past =
-          let whole-keys = fill-out (logins-long h was) x.good past in
+          let whole-keys = fill_out (logins_long h was) x.good past in
           let ks = keys_of c h in
           let is-ks = subst (λ (ks : List Key). Is K8 ks (kvals ks)) whole-keys x.is in
           rewrite ! 34 (λ (ks : List Key). ‵ (fat full_share k8 l₃ 0 (kval ks))) whole-keys refl $
-          assigns ! (of_opd ! (load ! (from ! (hop ! (look ! 38 refl) (fld ! refl (stop !)))) (look_in ! 0 (sub ! 0 refl (whole !))))) (from ! (stop !)) (init ! 10 refl (tt, record { fits = own-fits h was })) $
-          assigns ! (of_opd ! (load ! (from ! (hop ! (look ! 38 refl) (fld ! refl (stop !)))) (look_in ! 0 (unraw ! (sub ! 1 refl (whole !)))))) (from ! (stop !)) (init ! 8 refl (typed-accept 𝓛 h was)) $
-          assigns ! (agg ! (and_then ! (load ! (from ! (stop !)) (look ! 10 refl)) (and_then ! (load ! (from ! (stop !)) (look ! 8 refl)) (no_more !)))) (from ! (stop !)) (init ! 6 refl (typed-own 𝓛 h was)) $
-          assigns ! (of_opd ! (load ! (from ! (stop !)) (look ! 34 refl))) (from ! (stop !)) (init ! 4 refl (typed-keys 𝓛 mem run ks is-ks)) $
+          assigns ! (of_opd ! (load ! (from ! (hop ! (look ! 38 refl) (fld ! refl (stop !)))) (look_in ! 0 (sub ! 0 refl (whole !))))) (from ! (stop !)) (init ! 10 refl (tt, record { fits = own_fits h was })) $
+          assigns ! (of_opd ! (load ! (from ! (hop ! (look ! 38 refl) (fld ! refl (stop !)))) (look_in ! 0 (unraw ! (sub ! 1 refl (whole !)))))) (from ! (stop !)) (init ! 8 refl (typed_accept 𝓛 h was)) $
+          assigns ! (agg ! (and_then ! (load ! (from ! (stop !)) (look ! 10 refl)) (and_then ! (load ! (from ! (stop !)) (look ! 8 refl)) (no_more !)))) (from ! (stop !)) (init ! 6 refl (typed_own 𝓛 h was)) $
+          assigns ! (of_opd ! (load ! (from ! (stop !)) (look ! 34 refl))) (from ! (stop !)) (init ! 4 refl (typed_keys 𝓛 mem run ks is-ks)) $
           -- `sight_from`
-          use0 𝓛 (raw ((E 𝓛 mem run).pre (to-sight 𝓛 mem run c h ks))) (goes-sight 𝓛 mem run c h ks is_c (is-own h was) is-ks) $
-          calls_at ! fm (E 𝓛 mem run) known-sight (to-sight 𝓛 mem run c h ks) (and_then ! (load ! (from ! (stop !)) (look ! 37 refl)) (and_then ! (load ! (from ! (stop !)) (look ! 7 refl)) (and_then ! (load ! (from ! (stop !)) (look ! 5 refl)) (no_more !)))) (λ u.
+          use0 𝓛 (raw ((E 𝓛 mem run).pre (to_sight 𝓛 mem run c h ks))) (goes_sight 𝓛 mem run c h ks is_c (is_own h was) is-ks) $
+          calls_at ! fm (E 𝓛 mem run) known_sight (to_sight 𝓛 mem run c h ks) (and_then ! (load ! (from ! (stop !)) (look ! 37 refl)) (and_then ! (load ! (from ! (stop !)) (look ! 7 refl)) (and_then ! (load ! (from ! (stop !)) (look ! 5 refl)) (no_more !)))) (λ u.
           use1 𝓛 (later (some (λ (k : Sight). (‵ ftrue ⊛ ‵ ((Si.the_row).own_val k (u ∷ []))) ⊛ raw (ensured 𝓛 e.ended (e.clauses 𝓛 mem run) tt (c, (owning h, (ks, tt))) tt k)))) (id⊢ 𝓤 _) $ await ! tt $ pick ! (λ k.
-          split ! $ move ! (1 ∷ []) $ use1 𝓛 (raw (fact 𝓤 (k ≡ sightFrom c (owning h) ks))) (sight-of 𝓛 mem run c (owning h) ks k) $ heard ! (k ≡ sightFrom c (owning h) ks) (λ e-k. split ! $ drop ! $
-          peeks ! Si.the_row (Is Si.the_row) (shows 𝓛 Si.the_row) k (u ∷ []) (λ is-k.
+          split ! $ move ! (1 ∷ []) $ use1 𝓛 (raw (fact 𝓤 (k ≡ sight_from c (owning h) ks))) (sight_of_lem 𝓛 mem run c (owning h) ks k) $ heard ! (k ≡ sight_from c (owning h) ks) (λ e-k. split ! $ drop ! $
+          peeks ! Si.the_row (Is Si.the_row) (shows 𝓛 Si.the_row) k (u ∷ []) (λ is_k.
           -- [the result; the port's cell; the open borrow; obs; auth; _18; …; _0; …]
-          land ! (from ! (stop !)) (init ! 41 refl ((LL.lawful Si.the_type Si'.the_laws 𝓛).typed k _ is-k).0) $
+          land ! (from ! (stop !)) (init ! 41 refl ((LL.lawful Si.the_type Si'.the_laws 𝓛).typed k _ is_k).0) $
           owned ! Po.the_row (Is Po.the_row) (LL.makes Po.the_type Po'.the_plain 𝓛) h _ was $ move ! (2 ∷ 0 ∷ 3 ∷ 4 ∷ 5 ∷ []) $ closes ! tt Po.the_row h (pval h ∷ []) b o $
           -- [obs; the borrow; its token; the result; _18; …; _0; …]
           returns ! (look ! 40 refl) $ forget ! 4 refl $ forget ! 6 refl $ forget ! 8 refl $ forget ! 10 refl $ forget ! 28 refl $ forget ! 32 refl $ forget ! 34 refl $ forget ! 36 refl $ forget ! 38 refl $ forget ! 40 refl $
           move ! (40 ∷ 41 ∷ []) $ free1 ! $ move ! (38 ∷ 39 ∷ []) $ free1 ! $ move ! (36 ∷ 37 ∷ []) $ free1 ! $ move ! (34 ∷ 35 ∷ []) $ free1 ! $ move ! (32 ∷ 33 ∷ []) $ free1 ! $ move ! (30 ∷ 31 ∷ []) $ free1 ! $ move ! (28 ∷ 29 ∷ []) $ free1 ! $ move ! (26 ∷ 27 ∷ []) $ free1 ! $ move ! (24 ∷ 25 ∷ []) $ free1 ! $ move ! (22 ∷ 23 ∷ []) $ free1 ! $ move ! (20 ∷ 21 ∷ []) $ free1 ! $ move ! (18 ∷ 19 ∷ []) $ free1 ! $ move ! (16 ∷ 17 ∷ []) $ free1 ! $ move ! (14 ∷ 15 ∷ []) $ free1 ! $ move ! (12 ∷ 13 ∷ []) $ free1 ! $ move ! (10 ∷ 11 ∷ []) $ free1 ! $ move ! (8 ∷ 9 ∷ []) $ free1 ! $ move ! (6 ∷ 7 ∷ []) $ free1 ! $ move ! (4 ∷ 5 ∷ []) $ free1 ! $ free0 ! $
-          by ! (exits k u (e-k ∙ seen-is c h))))))
+          by ! (exits k u (e-k ∙ seen_is c h))))))
 
       ends : (x : Here c h) → 8 ≤ x.i → Sq 𝓛 (At-head x) (runs C Λ En mir_of.turn-1 (any_q (Turned x)))
       unfolding after_turn
@@ -289,13 +289,13 @@ module _ {M : Type 1} {𝓤 : Ura M} (𝓛 : Logic 𝓤) (mem : Memory → SProp
 
       starts : Sq 𝓛 (Had (‵ (froom k8 l₃ 0)) (‵ (froom word l₄ 0)) (‵ (froom Ke'.mir l₆ 0))) (runs C Λ En mir_of.t-1 (at_ret En Post))
       starts =
-          assigns ! (agg ! (and_then ! (lit ! tt) (and_then ! (lit ! tt) (no_more !)))) (from ! (stop !)) (init ! 28 refl (typed-key 𝓛 mem run noKey _ is_none)) $
-          assigns ! (rep ! 8 (load ! (from ! (stop !)) (look ! 28 refl))) (from ! (stop !)) (init ! 34 refl (typed-keys 𝓛 mem run blank blank-are)) $
+          assigns ! (agg ! (and_then ! (lit ! tt) (and_then ! (lit ! tt) (no_more !)))) (from ! (stop !)) (init ! 28 refl (typed_key 𝓛 mem run no_key _ is_none)) $
+          assigns ! (rep ! 8 (load ! (from ! (stop !)) (look ! 28 refl))) (from ! (stop !)) (init ! 34 refl (typed_keys 𝓛 mem run blank blank_are)) $
           assigns ! (of_opd ! (lit ! tt)) (from ! (stop !)) (init ! 32 refl (tt, record { fits = lit< tt })) $ looped
 
   walk : (𝓣 : Tables 𝓤 H) → Triple 𝓤 (𝓣.C #formed·login-key) (G 𝓛 mem run) → Triple 𝓤 (𝓣.C #calls·sight-from) (E 𝓛 mem run)
       → ent 𝓤 (on_entry 𝓛 f.signature (κ, tt) (q, tt) a vals) (WpFn 𝓤 H 𝓣.C 𝓣.Λ code.function (vptr b o ∷ uval c ∷ []) Post)
-  walk 𝓣 known-key known-sight =
+  walk 𝓣 known_key known_sight =
       qed 𝓛 ((‵ (flft κ q) ⊛ ‵ ftrue) ∷ ‵ (owns (MutRef (named 0) κ Po.the_row ∷ Un.the_row ∷ []) a vals) ∷ []) ∵ split ! $ move ! (2 ∷ []) $ fsplit ! $ fsplit3 ! $ drop ! $ move ! (0 ∷ 1 ∷ 3 ∷ []) $
       -- [obs; the borrow; its token; …]
       enter ! 𝓣.C 𝓣.Λ code.function (vptr b o ∷ uval c ∷ []) _ $
@@ -303,20 +303,20 @@ module _ {M : Type 1} {𝓤 : Ura M} (𝓛 : Logic 𝓤) (mem : Memory → SProp
       pass1 ! (init ! 34 refl (tt, tt)) $ pass1 ! (init ! 32 refl ((LL.lawful Un.the_type Un'.the_laws 𝓛).typed c _ is_c).0) $ pass0 ! $
       move ! (38 ∷ 39 ∷ 40 ∷ []) $ opens ! tt Po.the_row {h = h} b o (λ vs. spelt ! Po.the_row (Is Po.the_row) (shows 𝓛 Po.the_row) (LL.vals Po.the_type Po'.the_laws) (LL.tells Po.the_type Po'.the_laws) full_share h vs b o $
       move ! (1 ∷ []) $ peeks ! Po.the_row (Is Po.the_row) (shows 𝓛 Po.the_row) h (pval h ∷ []) (λ was. drop ! $
-      keep ! (0 ∷ 1 ∷ 2 ∷ 3 ∷ 4 ∷ 5 ∷ 6 ∷ 7 ∷ 8 ∷ 9 ∷ 10 ∷ 11 ∷ 12 ∷ 13 ∷ 14 ∷ 15 ∷ 16 ∷ 17 ∷ 18 ∷ 19 ∷ 20 ∷ 21 ∷ 22 ∷ 23 ∷ 24 ∷ 25 ∷ 26 ∷ 27 ∷ 28 ∷ 29 ∷ 30 ∷ 31 ∷ 32 ∷ 33 ∷ 34 ∷ 35 ∷ 36 ∷ 37 ∷ 38 ∷ 39 ∷ 40 ∷ 41 ∷ []) $ starts was 𝓣 (fm_of 𝓤 H 𝓛.laws 𝓣) known-key known-sight l₀ l₁ l₂ l₃ l₄ l₅ l₆ l₇ l₈ l₉ l₁₀ l₁₁ l₁₂ l₁₃ l₁₄ l₁₅ l₁₆ l₁₇ l₁₈)))))))))))))))))))))
+      keep ! (0 ∷ 1 ∷ 2 ∷ 3 ∷ 4 ∷ 5 ∷ 6 ∷ 7 ∷ 8 ∷ 9 ∷ 10 ∷ 11 ∷ 12 ∷ 13 ∷ 14 ∷ 15 ∷ 16 ∷ 17 ∷ 18 ∷ 19 ∷ 20 ∷ 21 ∷ 22 ∷ 23 ∷ 24 ∷ 25 ∷ 26 ∷ 27 ∷ 28 ∷ 29 ∷ 30 ∷ 31 ∷ 32 ∷ 33 ∷ 34 ∷ 35 ∷ 36 ∷ 37 ∷ 38 ∷ 39 ∷ 40 ∷ 41 ∷ []) $ starts was 𝓣 (fm_of 𝓤 H 𝓛.laws 𝓣) known_key known_sight l₀ l₁ l₂ l₃ l₄ l₅ l₆ l₇ l₈ l₉ l₁₀ l₁₁ l₁₂ l₁₃ l₁₄ l₁₅ l₁₆ l₁₇ l₁₈)))))))))))))))))))))
 
-module _ {M : Type 1} {𝓤 : Ura M} (𝓛 : Logic 𝓤) (mem : Memory → SProp 𝓤) (run : Routine → Fun 𝓤) (𝓣 : Tables 𝓤 𝓛.H) (known-key : Triple 𝓤 (𝓣.C #formed·login-key) (G 𝓛 mem run)) (known-sight : Triple 𝓤 (𝓣.C #calls·sight-from) (E 𝓛 mem run)) where
+module _ {M : Type 1} {𝓤 : Ura M} (𝓛 : Logic 𝓤) (mem : Memory → SProp 𝓤) (run : Routine → Fun 𝓤) (𝓣 : Tables 𝓤 𝓛.H) (known_key : Triple 𝓤 (𝓣.C #formed·login-key) (G 𝓛 mem run)) (known_sight : Triple 𝓤 (𝓣.C #calls·sight-from) (E 𝓛 mem run)) where
   open 𝓛 use {H}
 
-  f-walks : Walks 𝓛 f.ended stayed (WpFn 𝓤 H 𝓣.C 𝓣.Λ code.function) (f.clauses 𝓛 mem run)
-  f-walks = walked 𝓛 f.ended stayed (f.clauses 𝓛 mem run) (WpFn 𝓤 H 𝓣.C 𝓣.Λ code.function)
+  f_walks : Walks 𝓛 f.ended stayed (WpFn 𝓤 H 𝓣.C 𝓣.Λ code.function) (f.clauses 𝓛 mem run)
+  f_walks = walked 𝓛 f.ended stayed (f.clauses 𝓛 mem run) (WpFn 𝓤 H 𝓣.C 𝓣.Λ code.function)
       (λ κs. (mut_vals, (LL.vals Un.the_type Un'.the_laws, tt))) (λ κs. (mut_Tells (named 0) κs.0 Po.the_row, (LL.tells Un.the_type Un'.the_laws, tt)))
-      (λ κs qs bounds a g are. via 𝓤 _ (fst∗ 𝓤 _ (emp 𝓤)) (walk 𝓛 mem run κs.0 qs.0 a.0.ref_ptr.0 a.0.ref_ptr.1 a.0.ghost_name a.0.now a.1.0 are.1.0 𝓣 known-key known-sight))
+      (λ κs qs bounds a g are. via 𝓤 _ (fst∗ 𝓤 _ (emp 𝓤)) (walk 𝓛 mem run κs.0 qs.0 a.0.ref_ptr.0 a.0.ref_ptr.1 a.0.ghost_name a.0.now a.1.0 are.1.0 𝓣 known_key known_sight))
 
   f_meets : Meets 𝓛 f.signature (WpFn 𝓤 H 𝓣.C 𝓣.Λ code.function) (f.spec 𝓛 mem run)
   f_meets =
       walk_Meets 𝓛 f.ended stayed (Goes-ref 𝓛 1 0 tt (plain (λ _. Po.the_row)), (Goes-none 𝓛 1 (λ _. Un.the_row) yes (λ κs x f. refl), tt)) (f.clauses 𝓛 mem run)
-      (WpFn 𝓤 H 𝓣.C 𝓣.Λ code.function) (WpFn-mono 𝓤 H 𝓛.laws 𝓣 code.function) f-walks
+      (WpFn 𝓤 H 𝓣.C 𝓣.Λ code.function) (WpFn-mono 𝓤 H 𝓛.laws 𝓣 code.function) f_walks
 
 pub sight-spec : {M : Type 1} → stated.statement M
 unfolding code.routine tables_of

@@ -1,11 +1,11 @@
 -- `calls::place_for` meets its contract: what the search finds. Assumes nothing.
 use borrow.Author.Rules.{rules}
-use Rattle.calls.specs.View.{placeFor}
+use Rattle.calls.specs.View.{place_for}
 use Rattle.calls.proofs.place_for.Statement.{statement}
 use Rattle.calls.proofs.place_for.Tie as tie
 
 returns : tie.Need-returns
-unfolding placeFor
+unfolding place_for
 returns c = c.find-any.ensures
 
 pub place-for-spec : {M : Type 1} → statement M

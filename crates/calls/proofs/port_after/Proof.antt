@@ -3,14 +3,14 @@ use Prim.Native.Nat.{ℕ}
 use mathlib.Core.Path.{◌≡◌, ◌∙◌}
 use Rattle.tables.specs.declared.Found.TheVariants.{At}
 use Rattle.state.specs.declared.Port.{Port}
-use Rattle.state.specs.Changes.{withLogin, changedAll}
+use Rattle.state.specs.Changes.{with_login, changed_all}
 use Rattle.calls.specs.declared.Turn.{Turn}
-use Rattle.calls.specs.Turn.{portAfter}
+use Rattle.calls.specs.Turn.{port_after}
 use borrow.Author.Rules.{rules}
 use Rattle.calls.proofs.port_after.Statement.{statement}
 use Rattle.calls.proofs.port_after.Tie as tie
 
-stored : (p : Port) (t : Turn) {q r : Port} {i : ℕ} → t.at ≡ At i → q ≡ changedAll t.change p → r ≡ withLogin q i t.login → r ≡ portAfter p t
+stored : (p : Port) (t : Turn) {q r : Port} {i : ℕ} → t.at ≡ At i → q ≡ changed_all t.change p → r ≡ with_login q i t.login → r ≡ port_after p t
 stored p t a q r = r ∙ rw (a, q)
 
 returns : tie.Need-returns

@@ -1,21 +1,21 @@
 -- `calls::see` meets its contract: a law for each way through it. Assumes nothing.
 use mathlib.Core.Path.{◌≡◌}
 use Rattle.tables.specs.declared.Found.{Found}
-use Rattle.tables.specs.Lists.{onFound}
+use Rattle.tables.specs.Lists.{on_found}
 use Rattle.state.specs.declared.Login.{Login}
 use Rattle.state.specs.declared.Own.{Own}
 use Rattle.state.specs.declared.Unit.{Unit}
-use Rattle.state.specs.Changes.{emptyLogin}
+use Rattle.state.specs.Changes.{empty_login}
 use Rattle.calls.specs.declared.Sight.{Sight}
 use Rattle.calls.specs.declared.View.{View}
-use Rattle.calls.specs.View.{viewFrom}
+use Rattle.calls.specs.View.{view_from}
 use borrow.Author.Rules.{rules}
 use Rattle.calls.proofs.see.Statement.{statement}
 use Rattle.calls.proofs.see.Tie as tie
 
-seen : (u : Unit) (o : Own) (s : Sight) (seat : Found) (l m : Login) → m ≡ onFound seat (λ _. l) emptyLogin
-    → ◌≡◌ {A = View} (record { unit = u; own = o; keys = s.keys; seat = seat; login = m; fine = s.fine }) (viewFrom u o s seat l)
-unfolding viewFrom
+seen : (u : Unit) (o : Own) (s : Sight) (seat : Found) (l m : Login) → m ≡ on_found seat (λ _. l) empty_login
+    → ◌≡◌ {A = View} (record { unit = u; own = o; keys = s.keys; seat = seat; login = m; fine = s.fine }) (view_from u o s seat l)
+unfolding view_from
 seen u o s seat l m e = rw e
 
 returns : tie.Need-returns

@@ -2,16 +2,16 @@
 use mathlib.Core.Path.{sym, ◌∙◌}
 use native.Mathlib.Omega.{arith}
 use borrow.Author.Tests.{ltb-false}
-use Rattle.cover.proofs.Covers.{lent-too-long, lent-too-many, lent_is}
+use Rattle.cover.proofs.Covers.{lent_too_long, lent_too_many, lent_is}
 use borrow.Author.Rules.{rules}
 use Rattle.cover.proofs.lent_place.Statement.{statement}
 use Rattle.cover.proofs.lent_place.Tie as tie
 
 returns : tie.Need-returns
-returns c = lent-too-long _ _ _ _ (sym c.before.too_long.ensures ∙ c.if1.true)
+returns c = lent_too_long _ _ _ _ (sym c.before.too_long.ensures ∙ c.if1.true)
 
 returns-2 : tie.Need-returns-2
-returns-2 c = lent-too-many _ _ _ _ (sym c.before.before.before.too_long.ensures ∙ c.before.before.if1.false) (sym c.before.too-long2.ensures ∙ c.if2.true)
+returns-2 c = lent_too_many _ _ _ _ (sym c.before.before.before.too_long.ensures ∙ c.before.before.if1.false) (sym c.before.too-long2.ensures ∙ c.if2.true)
 
 returns-3 : tie.Need-returns-3
 returns-3 c = lent_is _ _ _ _ (sym c.before.before.before.before.too_long.ensures ∙ c.before.before.before.if1.false) c.covered.ensures

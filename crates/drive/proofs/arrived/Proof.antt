@@ -1,17 +1,17 @@
 -- `drive::arrived` meets its contract: the tests on what is seen. Assumes nothing.
 use mathlib.Core.Path.{ap, ◌∙◌}
 use mathlib.Core.Bool.{Bool}
-use Rattle.arrival.specs.Arrival.{judgedBy}
-use Rattle.drive.specs.Turn.{arrivedIn}
+use Rattle.arrival.specs.Arrival.{judged_by}
+use Rattle.drive.specs.Turn.{arrived_in}
 use borrow.Author.Rules.{rules}
 use Rattle.drive.proofs.arrived.Statement.{statement}
 use Rattle.drive.proofs.arrived.Tie as tie
 
 returns : tie.Need-returns
-unfolding arrivedIn
+unfolding arrived_in
 returns c =
     let a = c.before.before.before.before.before.args in
-    c.judge.ensures ∙ ap (λ (b : Bool). judgedBy a.v.fine b a.v.own.address a.h a.frame.now) c.before.unproven-at.ensures
+    c.judge.ensures ∙ ap (λ (b : Bool). judged_by a.v.fine b a.v.own.address a.h a.frame.now) c.before.unproven-at.ensures
 
 pub arrived-spec : {M : Type 1} → statement M
 arrived-spec =

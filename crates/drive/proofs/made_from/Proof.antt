@@ -3,13 +3,13 @@ use mathlib.Core.Path.{ap}
 use lib.ListN.{replicate}
 use Rattle.state.specs.declared.Login.{Login}
 use Rattle.drive.specs.declared.Drive.{Drive}
-use Rattle.drive.specs.Drive.{madeFrom}
+use Rattle.drive.specs.Drive.{made_from}
 use borrow.Author.Rules.{rules}
 use Rattle.drive.proofs.made_from.Statement.{statement}
 use Rattle.drive.proofs.made_from.Tie as tie
 
 returns : tie.Need-returns
-unfolding madeFrom
+unfolding made_from
 returns c =
     let s = c.before.before.before.args.s in
     ap {B = Drive}

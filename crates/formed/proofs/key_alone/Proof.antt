@@ -5,14 +5,14 @@ use native.Mathlib.Omega.{arith}
 use lib.ListN.{length, drop}
 use borrow.Author.Rules.{rules}
 use Rattle.tables.specs.Lists.{all}
-use Rattle.tables.proofs.Loops.{Tested, test_on, test-fails, test-out}
-use Rattle.formed.specs.Keys.{apartKey}
-use Rattle.formed.proofs.Keys.{noKey}
+use Rattle.tables.proofs.Loops.{Tested, test_on, test_fails, test_out}
+use Rattle.formed.specs.Keys.{apart_key}
+use Rattle.formed.proofs.Keys.{no_key}
 use Rattle.formed.proofs.key_alone.Statement.{statement}
 use Rattle.formed.proofs.key_alone.Tie as tie
 
 abbrev invariant-loop : tie.invariant-loop
-invariant-loop k from t i₀ i = Tested noKey (all (apartKey k) (drop from t)) (λ n _. apartKey k n) t 8 i
+invariant-loop k from t i₀ i = Tested no_key (all (apart_key k) (drop from t)) (λ n _. apart_key k n) t 8 i
 
 abbrev decreases-loop : tie.decreases-loop
 decreases-loop k from t i₀ i = 8 - i
@@ -28,10 +28,10 @@ loop-again c =
 returns : tie.Need-returns invariant-loop decreases-loop
 returns c =
     let t = c.before.before.before in
-    test-fails (len t.before.before) t.before.loop.invariant t.loop-test.true c.before.apart-key.ensures c.if1.false
+    test_fails (len t.before.before) t.before.loop.invariant t.loop-test.true c.before.apart-key.ensures c.if1.false
 
 returns-2 : tie.Need-returns-2 invariant-loop decreases-loop
-returns-2 c = test-out (len c.before.before) c.before.loop.invariant c.loop-test.false
+returns-2 c = test_out (len c.before.before) c.before.loop.invariant c.loop-test.false
 
 pub key-alone-spec : {M : Type 1} → statement M
 key-alone-spec =

@@ -1,20 +1,20 @@
 -- `formed::key_fine` meets its contract: each test that was made is one of the definition. Assumes nothing.
 use borrow.Author.Tests.{eq-eqb, ne_eqb}
-use Rattle.formed.specs.Keys.{keyFine}
+use Rattle.formed.specs.Keys.{key_fine}
 use borrow.Author.Rules.{rules}
 use Rattle.formed.proofs.key_fine.Statement.{statement}
 use Rattle.formed.proofs.key_fine.Tie as tie
 
 returns : tie.Need-returns
-unfolding keyFine
+unfolding key_fine
 returns c = rw (eq-eqb _ _ c.if1.true)
 
 returns-2 : tie.Need-returns-2
-unfolding keyFine
+unfolding key_fine
 returns-2 c = rw (ne_eqb _ _ c.before.before.if1.false, eq-eqb _ _ c.if2.true)
 
 returns-3 : tie.Need-returns-3
-unfolding keyFine
+unfolding key_fine
 returns-3 c = rw (ne_eqb _ _ c.before.before.before.if1.false, ne_eqb _ _ c.before.if2.false) c.key-alone.ensures
 
 pub key-fine-spec : {M : Type 1} → statement M

@@ -4,7 +4,7 @@ use Rattle.frame.proofs.write_header.Statement.{statement}
 use Rattle.frame.proofs.write_header.Tie as tie
 
 returns : tie.Need-returns
-returns c = rw c.before.before.before.before.before.header-bytes.ensures at c.before.before.put_front.ensures
+returns c = rw c.before.before.before.before.before.header_bytes_lem.ensures at c.before.before.put_front.ensures
 
 pub write-header-spec : {M : Type 1} → statement M
 write-header-spec =

@@ -1,16 +1,16 @@
 -- `judging::hex_digit` meets its contract. Assumes nothing.
 use borrow.Author.Tests.{lt-ltb, le-ltb}
-use Rattle.judging.specs.Text.{hexDigit}
+use Rattle.judging.specs.Text.{hex_digit}
 use borrow.Author.Rules.{rules}
 use Rattle.judging.proofs.hex_digit.Statement.{statement}
 use Rattle.judging.proofs.hex_digit.Tie as tie
 
 returns : tie.Need-returns
-unfolding hexDigit
+unfolding hex_digit
 returns c = rw (lt-ltb _ _ c.if1.true)
 
 returns-2 : tie.Need-returns-2
-unfolding hexDigit
+unfolding hex_digit
 returns-2 c = rw (le-ltb _ _ c.if1.false)
 
 pub hex-digit-spec : {M : Type 1} → statement M

@@ -5,7 +5,7 @@ use Prim.Native.Nat.{◌-◌}
 use lib.ListN.{length, replicate}
 use lib.Seq.{length-take-le}
 use borrow.Rule.Slice.PartMut.{put_mid}
-use Rattle.wire.proofs.Fronts.{length-onto}
+use Rattle.wire.proofs.Fronts.{length_onto}
 use Rattle.wire.proofs.Parts.{wrote_then}
 use Rattle.judging.specs.Judgement.{line_of}
 use borrow.Author.Rules.{rules}
@@ -19,7 +19,7 @@ returns c =
     let d = t.before.before.before in
     let w = wrote_then 96 refl (omega arith) d.put-decimal.ensures t.put-text.ensures in
     let text = line_of d.before.before.args.number d.before.before.args.j in
-    let long : length (put_mid d.put-decimal.result (96 - d.put-decimal.result) d.put-decimal.new.1.0 t.put-text.new.1.0) ≡ 96 = ap length w.is ∙ length-onto text (replicate 96 0) in
+    let long : length (put_mid d.put-decimal.result (96 - d.put-decimal.result) d.put-decimal.new.1.0 t.put-text.new.1.0) ≡ 96 = ap length w.is ∙ length_onto text (replicate 96 0) in
     record {
       is = λ i. record { bytes = w.is i; len = w.long i };
       fits = (omega arith, sym (length-take-le _ _ (omega arith)));

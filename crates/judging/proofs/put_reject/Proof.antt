@@ -1,13 +1,13 @@
 -- `judging::put_reject` meets its contract: fourteen bytes, copied. Assumes nothing.
 use mathlib.Core.Path.{refl}
 use native.Mathlib.Omega.{arith}
-use Rattle.judging.specs.Text.{rejectText}
+use Rattle.judging.specs.Text.{reject_text}
 use borrow.Author.Rules.{rules}
 use Rattle.judging.proofs.put_reject.Statement.{statement}
 use Rattle.judging.proofs.put_reject.Tie as tie
 
 returns : tie.Need-returns
-unfolding rejectText
+unfolding reject_text
 returns c =
     let f = c.before.before in
     let h = f.before.before.before in

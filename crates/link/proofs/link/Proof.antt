@@ -1,7 +1,7 @@
 -- `link::link` meets its contract: a law for each way through the dispatch. Assumes nothing.
 use mathlib.Core.Path.{ap, ◌∙◌}
-use Rattle.link.specs.Turn.{plogiTurn, logoTurn}
-use Rattle.link.proofs.Ways.{other-code, wrong_size, plogi-way, logo-way, no-seat, at-seat}
+use Rattle.link.specs.Turn.{plogi_turn, logo_turn}
+use Rattle.link.proofs.Ways.{other_code, wrong_size, plogi_way, logo_way, no_seat, at_seat}
 use borrow.Author.Rules.{rules}
 use Rattle.link.proofs.link.Statement.{statement}
 use Rattle.link.proofs.link.Tie as tie
@@ -11,7 +11,7 @@ returns c =
     let k = c.before.before in
     let b = k.before in
     let a = b.before.before.args in
-    other-code a.v a.h a.frame.now _ _ b.byte_at.ensures k.type_size.ensures.0 _ c.before.if1.true c.answer-only.ensures
+    other_code a.v a.h a.frame.now _ _ b.byte_at.ensures k.type_size.ensures.0 _ c.before.if1.true c.answer-only.ensures
 
 returns-2 : tie.Need-returns-2
 returns-2 c =
@@ -26,8 +26,8 @@ returns-3 c =
     let k = w.before.before.before in
     let b = k.before in
     let a = b.before.before.args in
-    plogi-way a.v a.h a.frame.now _ _ b.byte_at.ensures k.type_size.ensures.0 _ w.before.before.if1.false w.before.if2.false w.if3.true
-    (c.plogi.ensures ∙ ap (plogiTurn a.v.keys a.h.s_id) c.before.read.ensures)
+    plogi_way a.v a.h a.frame.now _ _ b.byte_at.ensures k.type_size.ensures.0 _ w.before.before.if1.false w.before.if2.false w.if3.true
+    (c.plogi.ensures ∙ ap (plogi_turn a.v.keys a.h.s_id) c.before.read.ensures)
 
 returns-4 : tie.Need-returns-4
 returns-4 c =
@@ -35,8 +35,8 @@ returns-4 c =
     let k = w.before.before.before.before in
     let b = k.before in
     let a = b.before.before.args in
-    logo-way a.v a.h a.frame.now _ _ b.byte_at.ensures k.type_size.ensures.0 _ w.before.before.before.if1.false w.before.before.if2.false w.before.if3.false w.if4.true
-    (c.logo.ensures ∙ ap (logoTurn a.h.s_id) c.before.be24.ensures)
+    logo_way a.v a.h a.frame.now _ _ b.byte_at.ensures k.type_size.ensures.0 _ w.before.before.before.if1.false w.before.before.if2.false w.before.if3.false w.if4.true
+    (c.logo.ensures ∙ ap (logo_turn a.h.s_id) c.before.be24.ensures)
 
 returns-5 : tie.Need-returns-5
 returns-5 c =
@@ -44,7 +44,7 @@ returns-5 c =
     let k = w.before.before.before.before in
     let b = k.before in
     let a = b.before.before.args in
-    no-seat a.v a.h a.frame.now _ _ b.byte_at.ensures k.type_size.ensures.0 _ w.before.before.before.if1.false w.before.before.if2.false w.before.if3.false w.if4.false
+    no_seat a.v a.h a.frame.now _ _ b.byte_at.ensures k.type_size.ensures.0 _ w.before.before.before.if1.false w.before.before.if2.false w.before.if3.false w.if4.false
     c.before.enum_told.given.1 c.answer-only3.ensures
 
 returns-6 : tie.Need-returns-6
@@ -53,7 +53,7 @@ returns-6 c =
     let k = w.before.before.before.before in
     let b = k.before in
     let a = b.before.before.args in
-    at-seat a.v a.h a.frame.now _ _ b.byte_at.ensures k.type_size.ensures.0 _ w.before.before.before.if1.false w.before.before.if2.false w.before.if3.false w.if4.false
+    at_seat a.v a.h a.frame.now _ _ b.byte_at.ensures k.type_size.ensures.0 _ w.before.before.before.if1.false w.before.before.if2.false w.before.if3.false w.if4.false
     _ _ c.before.before.before.before.seat.given.1 c.before.service.ensures c.serve-at.ensures
 
 pub link-spec : {M : Type 1} → statement M

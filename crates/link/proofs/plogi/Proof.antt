@@ -1,6 +1,6 @@
 -- `link::plogi` meets its contract: a law for each outcome. Assumes nothing.
 use mathlib.Core.Path.{◌∙◌}
-use Rattle.link.proofs.Ways.{plogi-rejected, plogi-placed}
+use Rattle.link.proofs.Ways.{plogi_rejected, plogi_placed}
 use borrow.Author.Rules.{rules}
 use Rattle.link.proofs.plogi.Statement.{statement}
 use Rattle.link.proofs.plogi.Tie as tie
@@ -14,7 +14,7 @@ returns c =
     let n = v.before in
     let a = n.before.before.args in
     c.change-logins.ensures
-    ∙ plogi-rejected a.keys _ a.q _ _ _ _ _ n.name-number.ensures v.verdict.ensures e.ends-for.ensures o.judged.ensures r.outcome-reply.ensures _ _ c.before.enum_told.given.1
+    ∙ plogi_rejected a.keys _ a.q _ _ _ _ _ n.name_number.ensures v.verdict.ensures e.ends-for.ensures o.judged.ensures r.outcome-reply.ensures _ _ c.before.enum_told.given.1
 
 returns-2 : tie.Need-returns-2
 returns-2 c =
@@ -24,7 +24,7 @@ returns-2 c =
     let v = e.before in
     let n = v.before in
     let a = n.before.before.args in
-    plogi-placed a.keys _ a.q _ _ _ _ _ n.name-number.ensures v.verdict.ensures e.ends-for.ensures o.judged.ensures r.outcome-reply.ensures _ _ c.before.before.o.given.1 c.new-login.ensures
+    plogi_placed a.keys _ a.q _ _ _ _ _ n.name_number.ensures v.verdict.ensures e.ends-for.ensures o.judged.ensures r.outcome-reply.ensures _ _ c.before.before.o.given.1 c.new-login.ensures
 
 pub plogi-spec : {M : Type 1} → statement M
 plogi-spec =

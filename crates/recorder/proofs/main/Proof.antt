@@ -25,18 +25,18 @@ there n l y k e =
     let m : n ≡ length (take n l) = k.1 in
     simp length-append (omega arith)
 
-sub-say : tie.Need-overflow-sub-say invariant-loop decreases-loop
-sub-say c =
+sub_say : tie.Need-overflow-sub-say invariant-loop decreases-loop
+sub_say c =
     let n = c.before.before.before.before.before.before.before in
     within _ n.next.result.len n.next.new.0 c.before.before.before.rest_of.ensures.1 n.next.ensures
 
-part-say-start : tie.Need-slice-bounds-say-start invariant-loop decreases-loop
-part-say-start c =
+part_say_start : tie.Need-slice-bounds-say-start invariant-loop decreases-loop
+part_say_start c =
     let n = c.before.before.before.before.before.before.before.before in
     within _ n.next.result.len n.next.new.0 c.before.before.before.before.rest_of.ensures.1 n.next.ensures
 
-part-say-end : tie.Need-slice-bounds-say-end invariant-loop decreases-loop
-part-say-end c =
+part_say_end : tie.Need-slice-bounds-say-end invariant-loop decreases-loop
+part_say_end c =
     let n = c.before.before.before.before.before.before.before.before in
     there n.next.result.len n.next.new.0 c.before.before.tell.new.1.1.0 n.next.ensures (search rules)
 
@@ -59,9 +59,9 @@ main_spec =
     (λ c. search rules)
     (λ c. search rules)
     (λ c κs. tt)
-    sub-say
-    part-say-start
-    part-say-end
+    sub_say
+    part_say_start
+    part_say_end
     (λ c κs. search rules)
     (λ c κs. tt)
     (λ c. tt)

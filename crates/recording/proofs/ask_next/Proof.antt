@@ -3,9 +3,9 @@ use mathlib.Core.Path.{sym}
 use native.Mathlib.Omega.{arith}
 use lib.ListN.{length-take}
 use lib.Seq.{length-take-le}
-use Rattle.drive.specs.Entry.{nextFrame, nextFrameBuffer}
+use Rattle.drive.specs.Entry.{next_frame, next_frame_buffer}
 use Rattle.recording.specs.Calls.{asked}
-use Rattle.recording.proofs.Laws.{lent_fits, told-lent}
+use Rattle.recording.proofs.Laws.{lent_fits, told_lent}
 use borrow.Author.Rules.{rules}
 use Rattle.recording.proofs.ask_next.Statement.{statement}
 use Rattle.recording.proofs.ask_next.Tie as tie
@@ -34,7 +34,7 @@ returns c =
     let f = c.before.before.before in
     let s = f.before.before in
     let a = s.before.before.before.args in
-    told-lent a.s (nextFrame a.s.drive a.address a.ox-id a.start a.window.now) (nextFrameBuffer a.s.drive a.address a.ox-id a.start a.window.now) a.room s.filled.result f.next-frame.new.1.1.1.1.1.0 f.next-frame.result _ (search rules)
+    told_lent a.s (next_frame a.s.drive a.address a.ox-id a.start a.window.now) (next_frame_buffer a.s.drive a.address a.ox-id a.start a.window.now) a.room s.filled.result f.next-frame.new.1.1.1.1.1.0 f.next-frame.result _ (search rules)
     s.filled.ensures.0 f.next-frame.ensures.0 f.next-frame.ensures.1 (search rules) c.answered.ensures
 
 pub ask-next-spec : {M : Type 1} → statement M

@@ -3,9 +3,9 @@ use mathlib.Core.Path.{sym}
 use native.Mathlib.Omega.{arith}
 use lib.ListN.{length-take}
 use lib.Seq.{length-take-le}
-use Rattle.drive.specs.Entry.{frameIn, frameInBuffer, frameInWindow}
+use Rattle.drive.specs.Entry.{frame_in, frame_in_buffer, frame_in_window}
 use Rattle.recording.specs.Calls.{handed}
-use Rattle.recording.proofs.Laws.{lent-long, by-room, lent_fits, told-lent}
+use Rattle.recording.proofs.Laws.{lent_long, by_room, lent_fits, told_lent}
 use borrow.Author.Rules.{rules}
 use Rattle.recording.proofs.hand_frame.Statement.{statement}
 use Rattle.recording.proofs.hand_frame.Tie as tie
@@ -13,19 +13,19 @@ use Rattle.recording.proofs.hand_frame.Tie as tie
 slice-aggregate-frame-in : tie.Need-slice-aggregate-frame-in
 slice-aggregate-frame-in c =
     let s = c.before.before in
-    sym (lent-long _ s.filled.result (search rules) s.filled.ensures.1)
+    sym (lent_long _ s.filled.result (search rules) s.filled.ensures.1)
 
 array-share-prefix-space : tie.Need-array-share-prefix-space
 array-share-prefix-space c =
     let f = c.before.before.before in
     let s = f.before.before.before in
-    lent_fits _ s.filled.result f.frame-in.new.1.1.1.1.0 (search rules) s.filled.ensures.1 (search rules)
+    lent_fits _ s.filled.result f.frame_in_lem.new.1.1.1.1.0 (search rules) s.filled.ensures.1 (search rules)
 
 slice-aggregate-answered : tie.Need-slice-aggregate-answered
 slice-aggregate-answered c =
     let f = c.before.before.before.before in
     let s = f.before.before.before in
-    sym (length-take-le _ _ (lent_fits _ s.filled.result f.frame-in.new.1.1.1.1.0 (search rules) s.filled.ensures.1 (search rules)))
+    sym (length-take-le _ _ (lent_fits _ s.filled.result f.frame_in_lem.new.1.1.1.1.0 (search rules) s.filled.ensures.1 (search rules)))
 
 answered-requires : tie.Need-answered-requires
 answered-requires c κs = simp length-take (omega arith)
@@ -36,9 +36,9 @@ returns c =
     let f = c.before.before.before.before.before in
     let s = f.before.before.before in
     let a = s.before.before.before.before.args in (
-      told-lent a.s (frameIn a.s.drive a.frame.now a.start a.window.now) (frameInBuffer a.s.drive a.frame.now a.start a.window.now) a.room s.filled.result f.frame-in.new.1.1.1.1.0 f.frame-in.result _ (search rules)
-          s.filled.ensures.0 f.frame-in.ensures.0 f.frame-in.ensures.1.0 (search rules) c.answered.ensures,
-      by-room (frameInWindow a.s.drive a.frame.now a.start a.window.now) a.room s.filled.result f.frame-in.new.1.1.1.0 (search rules) s.filled.ensures.1 f.frame-in.ensures.1.1,
+      told_lent a.s (frame_in a.s.drive a.frame.now a.start a.window.now) (frame_in_buffer a.s.drive a.frame.now a.start a.window.now) a.room s.filled.result f.frame_in_lem.new.1.1.1.1.0 f.frame_in_lem.result _ (search rules)
+          s.filled.ensures.0 f.frame_in_lem.ensures.0 f.frame_in_lem.ensures.1.0 (search rules) c.answered.ensures,
+      by_room (frame_in_window a.s.drive a.frame.now a.start a.window.now) a.room s.filled.result f.frame_in_lem.new.1.1.1.0 (search rules) s.filled.ensures.1 f.frame_in_lem.ensures.1.1,
     )
 
 pub hand-frame-spec : {M : Type 1} → statement M

@@ -7,7 +7,7 @@ use Rattle.recording.proofs.start.Tie as tie
 
 returns : tie.Need-returns
 unfolding unmade
-returns c = λ i. record { made = false; drive = c.no-drive.ensures i }
+returns c = λ i. record { made = false; drive = c.no_drive_lem.ensures i }
 
 pub start_spec : {M : Type 1} → statement M
 start_spec =

@@ -4,31 +4,31 @@ use mathlib.Core.List.{List}
 use Prim.Native.Nat.{ℕ, ◌≤◌}
 use lib.ListN.{length, replicate, length-replicate}
 use lib.Seq.{length-take-le}
-use Rattle.recording.specs.Calls.{windowFrom}
-use Rattle.recording.proofs.Data.{window-at, data-told, data-body}
+use Rattle.recording.specs.Calls.{window_from}
+use Rattle.recording.proofs.Data.{window_at, data_told, data_body}
 use borrow.Author.Rules.{rules}
 use Rattle.recording.proofs.tell_data.Statement.{statement}
 use Rattle.recording.proofs.tell_data.Tie as tie
 
-part-put-front-end : tie.Need-slice-bounds-put-front-end
-part-put-front-end c =
+part_put_front_end : tie.Need-slice-bounds-put-front-end
+part_put_front_end c =
     let n = c.before.before in
-    window-at n.before.before.before.args.body.now n.be16.result n.be16.ensures (search rules)
+    window_at n.before.before.before.args.body.now n.be16.result n.be16.ensures (search rules)
 
 slice-aggregate-hand-frame : tie.Need-slice-aggregate-hand-frame
 slice-aggregate-hand-frame c = sym (length-take-le _ _ (search rules))
 
-sub-hand-frame : tie.Need-overflow-sub-hand-frame
-sub-hand-frame c =
+sub_hand_frame : tie.Need-overflow-sub-hand-frame
+sub_hand_frame c =
     let p = c.before.before.before.before.before.before in
     let n = p.before.before.before.before in
-    window-at n.before.before.before.args.body.now n.be16.result n.be16.ensures (search rules)
+    window_at n.before.before.before.args.body.now n.be16.result n.be16.ensures (search rules)
 
-part-hand-frame-start : tie.Need-slice-bounds-hand-frame-start
-part-hand-frame-start c =
+part_hand_frame_start : tie.Need-slice-bounds-hand-frame-start
+part_hand_frame_start c =
     let p = c.before.before.before.before.before.before in
     let n = p.before.before.before.before in
-    window-at n.before.before.before.args.body.now n.be16.result n.be16.ensures (search rules)
+    window_at n.before.before.before.args.body.now n.be16.result n.be16.ensures (search rules)
 
 returns : tie.Need-returns
 returns c =
@@ -39,12 +39,12 @@ returns c =
     let n = p.before.before.before.before in
     let a = n.before.before.before.args in
     let b = a.body.now in
-    let fits : windowFrom b ≤ length b = search rules in
+    let fits : window_from b ≤ length b = search rules in
     let most : n.be16.result ≤ 65535 = search rules in
     let z : List ℕ = replicate 65535 0 in
     let room : n.be16.result ≤ length z = rw (length-replicate {A = ℕ} 65535 0) most in (
-      data-told b z p.put_front.new.0 n.be16.result n.be16.ensures fits room p.put_front.ensures a.s k.be162.ensures e.be64.ensures h.hand-frame.ensures.0,
-      data-body b z p.put_front.new.0 n.be16.result n.be16.ensures fits room p.put_front.ensures a.s k.be162.ensures e.be64.ensures h.hand-frame.ensures.1,
+      data_told b z p.put_front.new.0 n.be16.result n.be16.ensures fits room p.put_front.ensures a.s k.be162.ensures e.be64.ensures h.hand-frame.ensures.0,
+      data_body b z p.put_front.new.0 n.be16.result n.be16.ensures fits room p.put_front.ensures a.s k.be162.ensures e.be64.ensures h.hand-frame.ensures.1,
     )
 
 pub tell-data-spec : {M : Type 1} → statement M
@@ -57,15 +57,15 @@ tell-data-spec =
     (λ c. search rules)
     (λ c. search rules)
     (λ c. search rules)
-    part-put-front-end
+    part_put_front_end
     (λ c κs. search rules)
     (λ c κs. search rules)
     (λ c. search rules)
     (λ c. search rules)
     slice-aggregate-hand-frame
     (λ c κs. search rules)
-    sub-hand-frame
-    part-hand-frame-start
+    sub_hand_frame
+    part_hand_frame_start
     (λ c. search rules)
     (λ c κs. search rules)
     (λ c. search rules)

@@ -1,11 +1,11 @@
 -- `recording::window_from` meets its contract. Assumes nothing.
-use Rattle.recording.specs.Calls.{windowFrom}
+use Rattle.recording.specs.Calls.{window_from}
 use borrow.Author.Rules.{rules}
 use Rattle.recording.proofs.window_from.Statement.{statement}
 use Rattle.recording.proofs.window_from.Tie as tie
 
 returns : tie.Need-returns
-unfolding windowFrom
+unfolding window_from
 returns c = rw c.be16.ensures
 
 pub window-from-spec : {M : Type 1} → statement M

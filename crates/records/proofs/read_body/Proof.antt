@@ -11,8 +11,8 @@ use borrow.Author.Rules.{rules}
 use Rattle.records.proofs.read_body.Statement.{statement}
 use Rattle.records.proofs.read_body.Tie as tie
 
-counts-in : (r : ℕ) (a b : List ℕ) → r ≤ length a → IsPrefixLen r (a ++ b)
-counts-in r a b h =
+counts_in : (r : ℕ) (a b : List ℕ) → r ≤ length a → IsPrefixLen r (a ++ b)
+counts_in r a b h =
     let long : length (a ++ b) ≡ length a + length b = length-append a b in
     prefix_len_of_le r (a ++ b) (omega arith)
 
@@ -24,7 +24,7 @@ returns c =
     let f = c.before.before in
     let m = f.before.before in
     let a = m.before.before.args in
-    counts-in f.fill.result.len f.fill.new.0 (drop m.least.result a.body.now) f.fill.ensures.0.0
+    counts_in f.fill.result.len f.fill.new.0 (drop m.least.result a.body.now) f.fill.ensures.0.0
 
 pub read-body-spec : {M : Type 1} → statement M
 read-body-spec =

@@ -1,13 +1,13 @@
 -- `reply::put_payload` meets its contract: a writer for each reply. Assumes nothing.
 use mathlib.Core.Path.{refl, sym}
 use native.Mathlib.Omega.{arith}
-use Rattle.wire.proofs.Fronts.{onto-nil}
+use Rattle.wire.proofs.Fronts.{onto_nil}
 use borrow.Author.Rules.{rules}
 use Rattle.reply.proofs.put_payload.Statement.{statement}
 use Rattle.reply.proofs.put_payload.Tie as tie
 
 returns : tie.Need-returns
-returns c = rw c.enum_told.given.1 (record { long = refl; fits = omega arith; is = sym (onto-nil _) })
+returns c = rw c.enum_told.given.1 (record { long = refl; fits = omega arith; is = sym (onto_nil _) })
 
 returns-2 : tie.Need-returns-2
 returns-2 c = rw c.before.before.before.before.before.r.given.1 c.before.before.put-accepted.ensures

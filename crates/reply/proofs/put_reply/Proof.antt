@@ -1,7 +1,7 @@
 -- `reply::put_reply` meets its contract: nothing, or the header before the payload and its fill. Assumes nothing.
 use mathlib.Core.Path.{refl, sym, ◌∙◌}
 use native.Mathlib.Omega.{arith}
-use Rattle.wire.proofs.Fronts.{onto-nil}
+use Rattle.wire.proofs.Fronts.{onto_nil}
 use Rattle.reply.proofs.Laws.{framed}
 use Rattle.reply.specs.Reply.{bytes_of}
 use borrow.Author.Rules.{rules}
@@ -10,7 +10,7 @@ use Rattle.reply.proofs.put_reply.Tie as tie
 
 returns : tie.Need-returns
 unfolding bytes_of
-returns c = rw (sym c.before.is-silent.ensures ∙ c.if1.true) (refl, sym (onto-nil _))
+returns c = rw (sym c.before.is-silent.ensures ∙ c.if1.true) (refl, sym (onto_nil _))
 
 returns-2 : tie.Need-returns-2
 returns-2 c =

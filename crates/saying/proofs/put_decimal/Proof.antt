@@ -2,7 +2,7 @@
 use mathlib.Core.Path.{◌≡◌, sym, ap, ◌∙◌}
 use Prim.Native.Nat.{◌≤◌, ◌<◌, ◌^◌}
 use lib.ListN.{length}
-use Rattle.saying.proofs.Decimal.{length_digits, at-most-20, decimal-is}
+use Rattle.saying.proofs.Decimal.{length_digits, at_most_20, decimal_is}
 use Rattle.saying.specs.Text.{decimal}
 use Rattle.io.specs.Digits.{last_digits}
 use borrow.Author.Rules.{rules}
@@ -16,8 +16,8 @@ returns c =
     let n = d.before.before.before.args.n in
     let k = d.decimal.result in
     let fits : n < 2 ^ 64 = search rules in
-    let small : k ≤ 20 = at-most-20 k n fits d.decimal.ensures.1.0 in
-    let e : last_digits 10 k n ≡ decimal n = decimal-is k n small d.decimal.ensures.1.0 in
+    let small : k ≤ 20 = at_most_20 k n fits d.decimal.ensures.1.0 in
+    let e : last_digits 10 k n ≡ decimal n = decimal_is k n small d.decimal.ensures.1.0 in
     record {
       long = sym (length_digits k n) ∙ ap length e;
       fits = small;

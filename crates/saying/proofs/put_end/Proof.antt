@@ -1,13 +1,13 @@
 -- `saying::put_end` meets its contract: nothing where the input is over, and a reason for each other end. Assumes nothing.
 use mathlib.Core.Path.{refl, sym}
 use native.Mathlib.Omega.{arith}
-use Rattle.wire.proofs.Fronts.{onto-nil}
+use Rattle.wire.proofs.Fronts.{onto_nil}
 use borrow.Author.Rules.{rules}
 use Rattle.saying.proofs.put_end.Statement.{statement}
 use Rattle.saying.proofs.put_end.Tie as tie
 
 returns : tie.Need-returns
-returns c = rw c.enum_told.given.1 (record { long = refl; fits = omega arith; is = sym (onto-nil _) })
+returns c = rw c.enum_told.given.1 (record { long = refl; fits = omega arith; is = sym (onto_nil _) })
 
 returns-2 : tie.Need-returns-2
 returns-2 c = rw c.before.before.before.before.before.enum-told2.given.1 c.before.before.put-why.ensures

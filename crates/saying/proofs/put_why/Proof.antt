@@ -5,17 +5,17 @@ use native.Mathlib.Omega.{arith}
 use Prim.Native.Nat.{◌-◌}
 use lib.ListN.{length}
 use borrow.Rule.Slice.PartMut.{put_mid}
-use Rattle.wire.proofs.Fronts.{length-onto}
+use Rattle.wire.proofs.Fronts.{length_onto}
 use Rattle.wire.proofs.Parts.{wrote_then}
 use Rattle.wire.specs.Bytes.{Wrote}
 use Rattle.saying.specs.Text.{decimal}
-use Rattle.saying.specs.Ends.{nameText, whyText}
+use Rattle.saying.specs.Ends.{name_text, why_text}
 use borrow.Author.Rules.{rules}
 use Rattle.saying.proofs.put_why.Statement.{statement}
 use Rattle.saying.proofs.put_why.Tie as tie
 
 returns : tie.Need-returns
-unfolding whyText
+unfolding why_text
 returns c =
     let e = c.before.before in
     let d = e.before.before.before.before in
@@ -24,9 +24,9 @@ returns c =
     let l = a.out.now in
     let n = w.put-name.result in
     let l₁ = w.put-name.new.1.0 in
-    let same : length l ≡ length l₁ = sym (ap length w.put-name.ensures.is ∙ length-onto (nameText a.name.now) l) in
+    let same : length l ≡ length l₁ = sym (ap length w.put-name.ensures.is ∙ length_onto (name_text a.name.now) l) in
     let two = wrote_then (length l₁) same (omega arith) w.put-name.ensures d.put-decimal.ensures in
-    let whole : length l ≡ length (put_mid n (length l₁ - n) l₁ d.put-decimal.new.1.0) = sym (ap length two.is ∙ length-onto (nameText a.name.now ++ decimal a.number) l) in
+    let whole : length l ≡ length (put_mid n (length l₁ - n) l₁ d.put-decimal.new.1.0) = sym (ap length two.is ∙ length_onto (name_text a.name.now ++ decimal a.number) l) in
     let reason : Wrote a.why.now _ e.put_front.new.0 (length a.why.now) 36 = record { long = refl; fits = search rules; is = e.put_front.ensures } in
     wrote_then _ whole (omega arith) two reason
 

@@ -1,6 +1,6 @@
 -- `serve::next` meets its contract: a law for each way through it. Assumes nothing.
 use mathlib.Core.Path.{refl}
-use Rattle.serve.proofs.Ways.{no-login, no-exchange, not-proven, no-window, frame-given}
+use Rattle.serve.proofs.Ways.{no_login_lem, no_exchange_lem, not_proven, no_window, frame_given}
 use borrow.Author.Rules.{rules}
 use Rattle.serve.proofs.next.Statement.{statement}
 use Rattle.serve.proofs.next.Tie as tie
@@ -8,14 +8,14 @@ use Rattle.serve.proofs.next.Tie as tie
 returns : tie.Need-returns
 returns c =
     let a = c.before.before.before.before.before.before.args in
-    no-login a.v a.address a.ox-id a.start a.window.now a.reply.now _ c.before.enum_told.given.1 c.refuse-turn.ensures
+    no_login_lem a.v a.address a.ox-id a.start a.window.now a.reply.now _ c.before.enum_told.given.1 c.refuse-turn.ensures
 
 returns-2 : tie.Need-returns-2
 returns-2 c =
     let f = c.before.before.before in
     let s = f.before.before in
     let a = s.before.before.before.before.before.args in
-    no-exchange a.v a.address a.ox-id a.start a.window.now a.reply.now _ _ s.seat.given.1 _ f.find-exchange.ensures.is c.before.enum-told2.given.1 c.refuse-turn2.ensures
+    no_exchange_lem a.v a.address a.ox-id a.start a.window.now a.reply.now _ _ s.seat.given.1 _ f.find-exchange.ensures.is c.before.enum-told2.given.1 c.refuse-turn2.ensures
 
 returns-3 : tie.Need-returns-3
 returns-3 c =
@@ -23,7 +23,7 @@ returns-3 c =
     let f = j.before.before in
     let s = f.before.before in
     let a = s.before.before.before.before.before.args in
-    not-proven a.v a.address a.ox-id a.start a.window.now a.reply.now _ _ s.seat.given.1 _ f.find-exchange.ensures.is _ j.j.given.1 c.before.if1.true c.refuse-turn3.ensures
+    not_proven a.v a.address a.ox-id a.start a.window.now a.reply.now _ _ s.seat.given.1 _ f.find-exchange.ensures.is _ j.j.given.1 c.before.if1.true c.refuse-turn3.ensures
 
 returns-4 : tie.Need-returns-4
 returns-4 c =
@@ -33,7 +33,7 @@ returns-4 c =
     let f = j.before.before in
     let s = f.before.before in
     let a = s.before.before.before.before.before.args in
-    no-window a.v a.address a.ox-id a.start a.window.now a.reply.now _ _ s.seat.given.1 _ f.find-exchange.ensures.is _ j.j.given.1 e.before.if1.false _ e.exchange-at.ensures
+    no_window a.v a.address a.ox-id a.start a.window.now a.reply.now _ _ s.seat.given.1 _ f.find-exchange.ensures.is _ j.j.given.1 e.before.if1.false _ e.exchange-at.ensures
     _ w.window-place.ensures c.before.enum-told3.given.1 c.refuse-turn4.ensures
 
 returns-5 : tie.Need-returns-5
@@ -47,8 +47,8 @@ returns-5 c =
     let f = j.before.before in
     let s = f.before.before in
     let a = s.before.before.before.before.before.args in
-    frame-given a.v a.address a.ox-id a.start a.window.now a.reply.now _ _ s.seat.given.1 _ f.find-exchange.ensures.is _ j.j.given.1 e.before.if1.false _ e.exchange-at.ensures
-    _ w.window-place.ensures _ _ _ _ _ _ k.k.given.1 h.asked_by.ensures p.put-frame.ensures.0 p.put-frame.ensures.1 c.before.next-exchange.ensures c.put-exchange.ensures refl
+    frame_given a.v a.address a.ox-id a.start a.window.now a.reply.now _ _ s.seat.given.1 _ f.find-exchange.ensures.is _ j.j.given.1 e.before.if1.false _ e.exchange-at.ensures
+    _ w.window-place.ensures _ _ _ _ _ _ k.k.given.1 h.asked_by.ensures p.put-frame.ensures.0 p.put-frame.ensures.1 c.before.next_exchange_lem.ensures c.put-exchange.ensures refl
 
 pub next-spec : {M : Type 1} → statement M
 next-spec =

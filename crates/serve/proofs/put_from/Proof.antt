@@ -6,7 +6,7 @@ use native.Mathlib.Decide.{dec_le}
 use native.Mathlib.Omega.{arith}
 use lib.ListN.{length, drop, drop_of_length-le}
 use borrow.Rule.Slice.PartMut.{mid_of}
-use Rattle.wire.proofs.Parts.{rest-is}
+use Rattle.wire.proofs.Parts.{rest_is}
 use borrow.Author.Rules.{rules}
 use Rattle.serve.proofs.put_from.Statement.{statement}
 use Rattle.serve.proofs.put_from.Tie as tie
@@ -15,8 +15,8 @@ use Rattle.serve.proofs.put_from.Tie as tie
 rest_from : (s : List ℕ) (a k : ℕ) → a ≡ min k (length s) → mid_of a (length s - a) s ≡ drop k s
 rest_from s a k e =
     elim (dec_le k (length s)) [
-      | yes h ↦ (let f : a ≡ k = omega arith in rest-is a s ∙ ap (λ (m : ℕ). drop m s) f)
-      | no h ↦ (let f : length s ≤ a = omega arith in let g : length s ≤ k = omega arith in rest-is a s ∙ drop_of_length-le s f ∙ sym (drop_of_length-le s g))
+      | yes h ↦ (let f : a ≡ k = omega arith in rest_is a s ∙ ap (λ (m : ℕ). drop m s) f)
+      | no h ↦ (let f : length s ≤ a = omega arith in let g : length s ≤ k = omega arith in rest_is a s ∙ drop_of_length-le s f ∙ sym (drop_of_length-le s g))
     ]
 
 returns : tie.Need-returns

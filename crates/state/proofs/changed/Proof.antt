@@ -19,7 +19,7 @@ returns-5 : tie.Need-returns-5
 returns-5 c = rw c.before.enum-told3.given.1 c.unproved.ensures
 
 returns-6 : tie.Need-returns-6
-returns-6 c = rw c.before.enum-told4.given.1 c.time-over.ensures
+returns-6 c = rw c.before.enum-told4.given.1 c.time_over.ensures
 
 returns-7 : tie.Need-returns-7
 returns-7 c = rw c.before.before.c3.given.1 c.aborted.ensures

@@ -1,18 +1,18 @@
 -- `taking::find_write` meets its contract: a law for each way. Assumes nothing.
 use mathlib.Core.Path.{sym, ◌∙◌}
-use Rattle.taking.proofs.Ways.{write-none, write-found, write-other}
+use Rattle.taking.proofs.Ways.{write_none, write_found, write_other}
 use borrow.Author.Rules.{rules}
 use Rattle.taking.proofs.find_write.Statement.{statement}
 use Rattle.taking.proofs.find_write.Tie as tie
 
 returns : tie.Need-returns
-returns c = write-none _ _ (sym c.before.before.find-exchange.ensures.is ∙ c.enum_told.given.1)
+returns c = write_none _ _ (sym c.before.before.find-exchange.ensures.is ∙ c.enum_told.given.1)
 
 returns-2 : tie.Need-returns-2
-returns-2 c = write-found _ _ (sym c.before.before.before.before.before.before.find-exchange.ensures.is ∙ c.before.before.before.before.j.given.1) c.before.before.exchange-at.ensures c.if1.true
+returns-2 c = write_found _ _ (sym c.before.before.before.before.before.before.find-exchange.ensures.is ∙ c.before.before.before.before.j.given.1) c.before.before.exchange-at.ensures c.if1.true
 
 returns-3 : tie.Need-returns-3
-returns-3 c = write-other _ _ (sym c.before.before.before.before.before.before.find-exchange.ensures.is ∙ c.before.before.before.before.j.given.1) c.before.before.exchange-at.ensures c.if1.false
+returns-3 c = write_other _ _ (sym c.before.before.before.before.before.before.find-exchange.ensures.is ∙ c.before.before.before.before.j.given.1) c.before.before.exchange-at.ensures c.if1.false
 
 pub find-write-spec : {M : Type 1} → statement M
 find-write-spec =

@@ -3,7 +3,7 @@ use mathlib.Core.Path.{sym}
 use Prim.Native.Nat.{◌+◌}
 use native.Mathlib.Omega.{arith}
 use borrow.Author.Tests.{lt-ltb}
-use Rattle.taking.proofs.Ways.{past-less}
+use Rattle.taking.proofs.Ways.{past_less}
 use Rattle.taking.proofs.is_past.Statement.{statement}
 use Rattle.taking.proofs.is_past.Tie as tie
 
@@ -13,7 +13,7 @@ returns c =
     sym (lt-ltb a.end (a.offset + a.n) (omega arith))
 
 returns-2 : tie.Need-returns-2
-returns-2 c = past-less _ _ _ c.if1.false
+returns-2 c = past_less _ _ _ c.if1.false
 
 pub is-past-spec : {M : Type 1} → statement M
 is-past-spec =

@@ -40,7 +40,7 @@ use denote.Triple.Table.{entered, cited}
 use denote.Triple.Walked.{says, Stays, stay_none, stay_none_slice, gave_slice, walk_of, Goes-none, Goes-none_slice, Goes-gave_slice, Walks, ends_at, walked, walk_Meets}
 use denote.Exit.{yes}
 use denote.Signature.{plain}
-use Rattle.taking.specs.Taking.{takingTurn, takingBuffer, takingWindow}
+use Rattle.taking.specs.Taking.{taking_turn, taking_buffer, taking_window}
 use Rattle.frame.specs.declared.Header.{Header}
 use Rattle.frame.specs.contracts.Header as He
 use Rattle.frame.proofs.Header.TheLaws as He'
@@ -76,7 +76,7 @@ hval d = LL.val He.the_type He'.the_laws d
 abbrev G : {M : Type 1} {𝓤 : Ura M} (𝓛 : Logic 𝓤) (mem : Memory → SProp 𝓤) (run : Routine → Fun 𝓤) → Contract 𝓤
 G 𝓛 mem run = triple_of 𝓛 g.signature (g.spec 𝓛 mem run)
 
-module _ {M : Type 1} {𝓤 : Ura M} (𝓛 : Logic 𝓤) (mem : Memory → SProp 𝓤) (run : Routine → Fun 𝓤) (κ₀ κ₁ κ₂ : Lft) (q₀ q₁ q₂ : Share) (c : View) (e : Header) (y : MutBor (List ℕ)) (n : ℕ) (b o : ℕ) (γ : GName) (ws : List ℕ) (b' o' : ℕ) (γ' : GName) (ys : List ℕ) (is_c : Is Vw.the_row c (vval c ∷ [])) (is-e : Is He.the_row e (hval e ∷ [])) (n-fits : n < 2 ^ 64) where
+module _ {M : Type 1} {𝓤 : Ura M} (𝓛 : Logic 𝓤) (mem : Memory → SProp 𝓤) (run : Routine → Fun 𝓤) (κ₀ κ₁ κ₂ : Lft) (q₀ q₁ q₂ : Share) (c : View) (e : Header) (y : MutBor (List ℕ)) (n : ℕ) (b o : ℕ) (γ : GName) (ws : List ℕ) (b' o' : ℕ) (γ' : GName) (ys : List ℕ) (is_c : Is Vw.the_row c (vval c ∷ [])) (is_e : Is He.the_row e (hval e ∷ [])) (n_fits : n < 2 ^ 64) where
   open 𝓛 use {H}
 
   abbrev κs : Lfts 3
@@ -144,20 +144,20 @@ module _ {M : Type 1} {𝓤 : Ura M} (𝓛 : Logic 𝓤) (mem : Memory → SProp
       -- [what frame owns, twice; what the block, bytes and reply own; the tokens]
       move ! (2 ∷ []) $ fsplit ! $ drop ! $ fsplit ! $
       -- [what bytes owns; what reply owns; what frame owns, twice; the tokens]
-      nothing ! $ move ! (1 ∷ 0 ∷ []) $ fjoin ! $ owned ! u64 (Is u64) (uint_Makes 𝓛 w64) n _ (refl, n-fits) $ fjoin ! $
-      use1 𝓛 (‵ ((T.the_row α).own_val d (mach ∷ []))) (own_shut 𝓛 (T.the_type α) (T'.the_laws α) (n, (w, tt))) $ fjoin ! $ move ! (1 ∷ 0 ∷ []) $ fjoin ! $ owned ! He.the_row (Is He.the_row) (LL.makes He.the_type He'.the_plain 𝓛) e _ is-e $ fjoin ! $ owned ! Vw.the_row (Is Vw.the_row) (LL.makes Vw.the_type Vw'.the_plain 𝓛) c _ is_c $ fjoin ! $
+      nothing ! $ move ! (1 ∷ 0 ∷ []) $ fjoin ! $ owned ! u64 (Is u64) (uint_Makes 𝓛 w64) n _ (refl, n_fits) $ fjoin ! $
+      use1 𝓛 (‵ ((T.the_row α).own_val d (mach ∷ []))) (own_shut 𝓛 (T.the_type α) (T'.the_laws α) (n, (w, tt))) $ fjoin ! $ move ! (1 ∷ 0 ∷ []) $ fjoin ! $ owned ! He.the_row (Is He.the_row) (LL.makes He.the_type He'.the_plain 𝓛) e _ is_e $ fjoin ! $ owned ! Vw.the_row (Is Vw.the_row) (LL.makes Vw.the_type Vw'.the_plain 𝓛) c _ is_c $ fjoin ! $
       -- [what the callee's parameters own; what frame owns; the tokens]
       move ! (2 ∷ 0 ∷ []) $ use2 𝓛 (raw ((G 𝓛 mem run).pre to)) asked $ frame ! $ done !
 
   -- what the answer is, what reply holds at the end, and what the lent bytes are
   abbrev Gives : Turn → Type 0
-  Gives r = r ≡ takingTurn c e (length y.now) n (length ws) (length ys)
+  Gives r = r ≡ taking_turn c e (length y.now) n (length ws) (length ys)
 
   abbrev Leaves : List ℕ → Type 0
-  Leaves ls = ls ≡ takingBuffer c e (length y.now) n (length ws) ys
+  Leaves ls = ls ≡ taking_buffer c e (length y.now) n (length ws) ys
 
   abbrev Stores : List ℕ → Type 0
-  Stores zs = zs ≡ takingWindow c e y.now n ws
+  Stores zs = zs ≡ taking_window c e y.now n ws
 
   abbrev Said : Turn → List ℕ → List ℕ → Type 0
   Said r ls zs = Gives r × Leaves ls × Stores zs
@@ -167,18 +167,18 @@ module _ {M : Type 1} {𝓤 : Ura M} (𝓛 : Logic 𝓤) (mem : Memory → SProp
       qed 𝓛 (tokens ∷ ‵ (finally u8 γ' ls) ∷ ‵ (finally u8 γ zs) ∷ ‵ Own ∷ ‵ ((Tn.the_row).own_val r (u ∷ [])) ∷ []) ∵
       suffices ! _ (ends_at 𝓛 f.ended stayed (f.clauses 𝓛 mem run) ((κs, (q₀, (q₁, (q₂, tt))), tt, a, vals), tt) u r (tt, (tt, (tt, (tt, (zs, (ls, tt)))))) (tt, (tt, (tt, (tt, (lz, (ll, tt))))))) $ says ! told $ frame ! $
       -- [reply's last list; the last list of the bytes; what frame owns; the result]
-      nothing ! $ move ! (1 ∷ 0 ∷ []) $ fjoin ! $ move ! (1 ∷ 0 ∷ []) $ fjoin ! $ owned ! u64 (Is u64) (uint_Makes 𝓛 w64) n _ (refl, n-fits) $ fjoin ! $ move ! (1 ∷ 0 ∷ []) $ fjoin ! $ owned ! He.the_row (Is He.the_row) (LL.makes He.the_type He'.the_plain 𝓛) e _ is-e $ fjoin ! $ owned ! Vw.the_row (Is Vw.the_row) (LL.makes Vw.the_type Vw'.the_plain 𝓛) c _ is_c $ fjoin ! $ done !
+      nothing ! $ move ! (1 ∷ 0 ∷ []) $ fjoin ! $ move ! (1 ∷ 0 ∷ []) $ fjoin ! $ owned ! u64 (Is u64) (uint_Makes 𝓛 w64) n _ (refl, n_fits) $ fjoin ! $ move ! (1 ∷ 0 ∷ []) $ fjoin ! $ owned ! He.the_row (Is He.the_row) (LL.makes He.the_type He'.the_plain 𝓛) e _ is_e $ fjoin ! $ owned ! Vw.the_row (Is Vw.the_row) (LL.makes Vw.the_type Vw'.the_plain 𝓛) c _ is_c $ fjoin ! $ done !
 
   module _ (C : Calls 𝓤 H) (Λ : Loops 𝓤 H) (fm : FmC 𝓤 H 𝓛.laws C) (known : Triple 𝓤 (C #window·data-turn-into) (G 𝓛 mem run)) where
     walk : Is (ShrSlice (named 0) κ₀ u8) y (v ∷ []) → Room u8 (length ws) → Room u8 (length ys) → ent 𝓤 (on_entry 𝓛 f.signature κs (q₀, (q₁, (q₂, tt))) a vals) (WpFn 𝓤 H C Λ code.function (vval c ∷ hval e ∷ v ∷ vint w64 n ∷ t ∷ s ∷ []) Post)
     walk is_y place room =
         qed 𝓛 (raw (on_entry 𝓛 f.signature κs (q₀, (q₁, (q₂, tt))) a vals) ∷ []) ∵ enter ! C Λ code.function (vval c ∷ hval e ∷ v ∷ vint w64 n ∷ t ∷ s ∷ []) _ $
         alloc1 ! (λ l₀. alloc1 ! (λ l₁. alloc1 ! (λ l₂. alloc1 ! (λ l₃. alloc1 ! (λ l₄. alloc1 ! (λ l₅. alloc1 ! (λ l₆. alloc1 ! (λ l₇. alloc1 ! (λ l₈. alloc1 ! (λ l₉. alloc1 ! (λ l₁₀. alloc1 ! (λ l₁₁. alloc0 ! $ params1 ! $
-        pass1 ! (init ! 20 refl ((LL.lawful Vw.the_type Vw'.the_laws 𝓛).typed c _ is_c).0) $ pass1 ! (init ! 18 refl ((LL.lawful He.the_type He'.the_laws 𝓛).typed e _ is-e).0) $ pass1 ! (init ! 16 refl ((shr_slice_Lawful 𝓛 (named 0) κ₀ u8).typed y (v ∷ []) is_y).0) $ pass1 ! (init ! 14 refl (tt, record { fits = n-fits })) $ pass1 ! (init ! 12 refl (tt, (tt, (record { fits = place.0 }, tt)))) $ pass1 ! (init ! 10 refl (tt, (tt, (record { fits = room.0 }, tt)))) $ pass0 ! $
+        pass1 ! (init ! 20 refl ((LL.lawful Vw.the_type Vw'.the_laws 𝓛).typed c _ is_c).0) $ pass1 ! (init ! 18 refl ((LL.lawful He.the_type He'.the_laws 𝓛).typed e _ is_e).0) $ pass1 ! (init ! 16 refl ((shr_slice_Lawful 𝓛 (named 0) κ₀ u8).typed y (v ∷ []) is_y).0) $ pass1 ! (init ! 14 refl (tt, record { fits = n_fits })) $ pass1 ! (init ! 12 refl (tt, (tt, (record { fits = place.0 }, tt)))) $ pass1 ! (init ! 10 refl (tt, (tt, (record { fits = room.0 }, tt)))) $ pass0 ! $
         -- [_11; …; _10; …; _9; …; _8; …; _7; …; _6; …; _5; …; _4; …; _3; …; _2; …; _1; …; room for _0; …; what is had at entry]
         assigns ! (addr ! (from ! (fld ! refl (hop ! (look_in ! 12 (sub ! 0 refl (whole !))) (stop !))))) (from ! (stop !)) (init ! 8 refl (tt, tt)) $
         assigns ! (agg ! (and_then ! (load ! (from ! (stop !)) (look ! 8 refl)) (and_then ! (load ! (from ! (fld ! refl (stop !))) (look_in ! 12 (sub ! 1 refl (whole !)))) (no_more !)))) (from ! (stop !)) (init ! 6 refl (tt, (tt, (record { fits = place.0 }, tt)))) $
-        assigns ! (agg ! (and_then ! (load ! (from ! (stop !)) (look ! 14 refl)) (and_then ! (load ! (from ! (stop !)) (look ! 6 refl)) (no_more !)))) (from ! (stop !)) (init ! 4 refl (tt, (record { fits = n-fits }, ((tt, (record { fits = place.0 }, tt)), tt)))) $
+        assigns ! (agg ! (and_then ! (load ! (from ! (stop !)) (look ! 14 refl)) (and_then ! (load ! (from ! (stop !)) (look ! 6 refl)) (no_more !)))) (from ! (stop !)) (init ! 4 refl (tt, (record { fits = n_fits }, ((tt, (record { fits = place.0 }, tt)), tt)))) $
         assigns ! (addr ! (from ! (fld ! refl (hop ! (look_in ! 10 (sub ! 0 refl (whole !))) (stop !))))) (from ! (stop !)) (init ! 2 refl (tt, tt)) $
         assigns ! (agg ! (and_then ! (load ! (from ! (stop !)) (look ! 2 refl)) (and_then ! (load ! (from ! (fld ! refl (stop !))) (look_in ! 10 (sub ! 1 refl (whole !)))) (no_more !)))) (from ! (stop !)) (init ! 0 refl (tt, (tt, (record { fits = room.0 }, tt)))) $
         move ! (24 ∷ []) $ use1 𝓛 (raw ((G 𝓛 mem run).pre to) ⊛ ‵ Own) apart $ split ! $
@@ -201,8 +201,8 @@ module _ {M : Type 1} {𝓤 : Ura M} (𝓛 : Logic 𝓤) (mem : Memory → SProp
 module _ {M : Type 1} {𝓤 : Ura M} (𝓛 : Logic 𝓤) (mem : Memory → SProp 𝓤) (run : Routine → Fun 𝓤) (𝓣 : Tables 𝓤 𝓛.H) (known : Triple 𝓤 (𝓣.C #window·data-turn-into) (G 𝓛 mem run)) where
   open 𝓛 use {H}
 
-  f-walks : Walks 𝓛 f.ended stayed (WpFn 𝓤 H 𝓣.C 𝓣.Λ code.function) (f.clauses 𝓛 mem run)
-  f-walks = walked 𝓛 f.ended stayed (f.clauses 𝓛 mem run) (WpFn 𝓤 H 𝓣.C 𝓣.Λ code.function)
+  f_walks : Walks 𝓛 f.ended stayed (WpFn 𝓤 H 𝓣.C 𝓣.Λ code.function) (f.clauses 𝓛 mem run)
+  f_walks = walked 𝓛 f.ended stayed (f.clauses 𝓛 mem run) (WpFn 𝓤 H 𝓣.C 𝓣.Λ code.function)
       (λ κs. (LL.vals Vw.the_type Vw'.the_laws, (LL.vals He.the_type He'.the_laws, (shr_slice_vals, (uint_vals w64, (shr_slice_vals, (shr_slice_vals, tt)))))))
       (λ κs. (LL.tells Vw.the_type Vw'.the_laws, (LL.tells He.the_type He'.the_laws, (shr_slice_Tells (named 0) κs.0 u8, (uint_Tells w64, (mut_slice_Tells (named 1) κs.1.0 u8, (mut_slice_Tells (named 2) κs.1.1.0 u8, tt)))))))
       (λ κs qs bounds a g are. via 𝓤 _ (fst∗ 𝓤 _ (emp 𝓤)) (
@@ -212,7 +212,7 @@ module _ {M : Type 1} {𝓤 : Ura M} (𝓛 : Logic 𝓤) (mem : Memory → SProp
   f_meets : Meets 𝓛 f.signature (WpFn 𝓤 H 𝓣.C 𝓣.Λ code.function) (f.spec 𝓛 mem run)
   f_meets =
       walk_Meets 𝓛 f.ended stayed (Goes-none 𝓛 3 (λ _. Vw.the_row) yes (λ κs x f. refl), (Goes-none 𝓛 3 (λ _. He.the_row) yes (λ κs x f. refl), (Goes-none_slice 𝓛 3 (0 ∷ []) tt (plain (λ _. u8)) yes, (Goes-none 𝓛 3 (λ _. u64) yes (λ κs x f. refl), (Goes-gave_slice 𝓛 3 1 tt (plain (λ _. u8)), (Goes-gave_slice 𝓛 3 2 tt (plain (λ _. u8)), tt)))))) (f.clauses 𝓛 mem run)
-      (WpFn 𝓤 H 𝓣.C 𝓣.Λ code.function) (WpFn-mono 𝓤 H 𝓛.laws 𝓣 code.function) f-walks
+      (WpFn 𝓤 H 𝓣.C 𝓣.Λ code.function) (WpFn-mono 𝓤 H 𝓛.laws 𝓣 code.function) f_walks
 
 pub data-turn-spec : {M : Type 1} → stated.statement M
 unfolding code.routine tables_of

@@ -4,9 +4,9 @@ use borrow.Author.Rules.{rules}
 use borrow.Author.Tests.{lt-ltb, le-ltb}
 use lib.ListN.{length}
 use Rattle.calls.specs.declared.View.{View}
-use Rattle.drive.specs.Turn.{nextOutTurn, nextOutBuffer, answerTo}
-use Rattle.drive.proofs.Turns.{next-out-turn, next-out-buffer}
-use Rattle.drive.proofs.Ways.{next-short, next-short-buffer}
+use Rattle.drive.specs.Turn.{next_out_turn, next_out_buffer, answer_to}
+use Rattle.drive.proofs.Turns.{next_out_turn_lem, next_out_buffer_lem}
+use Rattle.drive.proofs.Ways.{next_short, next_short_buffer}
 use Rattle.window.proofs.next_frame.Statement.{statement}
 use Rattle.window.proofs.next_frame.Tie as tie
 
@@ -15,7 +15,7 @@ returns c =
     let a = c.before.before.before.before.args in
     let l = a.reply.now in
     let s = lt-ltb (length l) 2136 c.before.if1.true in
-    (c.refuse.ensures ∙ sym (next-short a.d a.address a.ox-id a.start a.bytes.now (length l) s), sym (next-short-buffer a.d a.address a.ox-id a.start a.bytes.now l s))
+    (c.refuse.ensures ∙ sym (next_short a.d a.address a.ox-id a.start a.bytes.now (length l) s), sym (next_short_buffer a.d a.address a.ox-id a.start a.bytes.now l s))
 
 returns-2 : tie.Need-returns-2
 returns-2 c =
@@ -23,10 +23,10 @@ returns-2 c =
     let l = a.reply.now in
     let room = le-ltb (length l) 2136 c.before.before.before.before.before.before.before.before.if1.false in
     let v = c.before.before.before.before.before.look.ensures in
-    let t = c.before.before.before.next-turn.ensures in
-    let turn = t.0 ∙ ap (λ (w : View). nextOutTurn w a.address a.ox-id a.start a.bytes.now (length l)) v in
-    let left = t.1 ∙ ap (λ (w : View). nextOutBuffer w a.address a.ox-id a.start a.bytes.now l) v in
-    (c.after.ensures ∙ ap (answerTo a.d) turn ∙ next-out-turn a.d a.address a.ox-id a.start a.bytes.now (length l) room, left ∙ next-out-buffer a.d a.address a.ox-id a.start a.bytes.now l room)
+    let t = c.before.before.before.next_turn_lem.ensures in
+    let turn = t.0 ∙ ap (λ (w : View). next_out_turn w a.address a.ox-id a.start a.bytes.now (length l)) v in
+    let left = t.1 ∙ ap (λ (w : View). next_out_buffer w a.address a.ox-id a.start a.bytes.now l) v in
+    (c.after.ensures ∙ ap (answer_to a.d) turn ∙ next_out_turn_lem a.d a.address a.ox-id a.start a.bytes.now (length l) room, left ∙ next_out_buffer_lem a.d a.address a.ox-id a.start a.bytes.now l room)
 
 pub next-frame-spec : {M : Type 1} → statement M
 next-frame-spec =

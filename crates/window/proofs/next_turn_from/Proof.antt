@@ -43,7 +43,7 @@ use denote.Triple.Table.{entered, cited}
 use denote.Triple.Walked.{says, Stays, stay_none, gave_slice, walk_of, Goes-none, Goes-gave_slice, Walks, ends_at, walked, walk_Meets}
 use denote.Exit.{yes}
 use denote.Triple.Clauses.{ensured, lasts}
-use Rattle.drive.specs.Turn.{nextOutTurn, nextOutBuffer}
+use Rattle.drive.specs.Turn.{next_out_turn, next_out_buffer}
 use Rattle.calls.specs.declared.View.{View}
 use Rattle.calls.specs.declared.Turn.{Turn}
 use Rattle.calls.specs.contracts.View as Vw
@@ -84,7 +84,7 @@ module _ {M : Type 1} {𝓤 : Ura M} (𝓛 : Logic 𝓤) (mem : Memory → SProp
   abbrev G : Contract 𝓤
   G = triple_of 𝓛 g.signature (g.spec 𝓛 mem run)
 
-module _ {M : Type 1} {𝓤 : Ura M} (𝓛 : Logic 𝓤) (mem : Memory → SProp 𝓤) (run : Routine → Fun 𝓤) (κ κ' : Lft) (q q' : Share) (c : View) (i j : ℕ) (d : Window) (b o : ℕ) (γ : GName) (ys : List ℕ) (is_c : Is Vw.the_row c (vval c ∷ [])) (i-fits : i < 2 ^ 32) (j-fits : j < 2 ^ 16) where
+module _ {M : Type 1} {𝓤 : Ura M} (𝓛 : Logic 𝓤) (mem : Memory → SProp 𝓤) (run : Routine → Fun 𝓤) (κ κ' : Lft) (q q' : Share) (c : View) (i j : ℕ) (d : Window) (b o : ℕ) (γ : GName) (ys : List ℕ) (is_c : Is Vw.the_row c (vval c ∷ [])) (i_fits : i < 2 ^ 32) (j_fits : j < 2 ^ 16) where
   open 𝓛 use {H}
 
   abbrev κs : Lfts 2
@@ -146,16 +146,16 @@ module _ {M : Type 1} {𝓤 : Ura M} (𝓛 : Logic 𝓤) (mem : Memory → SProp
       use1 𝓛 (given (mach ∷ [] ≡ mach ∷ []) (‵ (all_own (D κs).parts (L κs) vd))) (own_open 𝓛 (D κs) (L κs) vd mach) $ learn ! (λ _. use1 𝓛 (‵ (field_own (D κs).parts (L κs) 1 d.bytes) ⊛ ‵ (rest (D κs).parts (L κs) 1 vd)) (own_out 𝓛 (D κs).parts (L κs) 1 vd) $ split ! $
       -- [what bytes owns; what start owns; what the window owns; what reply owns; the tokens]
       move ! (1 ∷ []) $ drop ! $ move ! (0 ∷ 2 ∷ []) $ fjoin ! $ owned ! u64 (Is u64) (uint_Makes 𝓛 w64) d.start _ (refl, fits) $ fjoin ! $
-      owned ! u16 (Is u16) (uint_Makes 𝓛 w16) j _ (refl, j-fits) $ fjoin ! $ owned ! u32 (Is u32) (uint_Makes 𝓛 w32) i _ (refl, i-fits) $ fjoin ! $ owned ! Vw.the_row (Is Vw.the_row) (LL.makes Vw.the_type Vw'.the_plain 𝓛) c _ is_c $ fjoin ! $
+      owned ! u16 (Is u16) (uint_Makes 𝓛 w16) j _ (refl, j_fits) $ fjoin ! $ owned ! u32 (Is u32) (uint_Makes 𝓛 w32) i _ (refl, i_fits) $ fjoin ! $ owned ! Vw.the_row (Is Vw.the_row) (LL.makes Vw.the_type Vw'.the_plain 𝓛) c _ is_c $ fjoin ! $
       -- [what the callee's parameters own; what the window owns; the tokens]
       move ! (2 ∷ 0 ∷ []) $ use2 𝓛 (raw ((G 𝓛 mem run).pre to)) asked $ frame ! $ done !)
 
   -- what the answer is, and what reply holds at the end
   abbrev Gives : Turn → Type 0
-  Gives r = r ≡ nextOutTurn c i j d.start d.bytes.now (length ys)
+  Gives r = r ≡ next_out_turn c i j d.start d.bytes.now (length ys)
 
   abbrev Leaves : List ℕ → Type 0
-  Leaves zs = zs ≡ nextOutBuffer c i j d.start d.bytes.now ys
+  Leaves zs = zs ≡ next_out_buffer c i j d.start d.bytes.now ys
 
   exits : (r : Turn) (u : Val) (zs : List ℕ) → Gives r × Leaves zs → length zs ≡ length ys
       → ent 𝓤 (⋆ 𝓛 ((‵ (flft κ q) ⊛ ‵ (flft κ' q') ⊛ ‵ ftrue) ∷ ‵ (finally u8 γ zs) ∷ ‵ Own ∷ ‵ ((Tn.the_row).own_val r (u ∷ [])) ∷ [])) (Post u)
@@ -163,7 +163,7 @@ module _ {M : Type 1} {𝓤 : Ura M} (𝓛 : Logic 𝓤) (mem : Memory → SProp
       qed 𝓛 ((‵ (flft κ q) ⊛ ‵ (flft κ' q') ⊛ ‵ ftrue) ∷ ‵ (finally u8 γ zs) ∷ ‵ Own ∷ ‵ ((Tn.the_row).own_val r (u ∷ [])) ∷ []) ∵
       suffices ! _ (ends_at 𝓛 f.ended stayed (f.clauses 𝓛 mem run) ((κs, (q, (q', tt)), tt, a, vals), tt) u r (tt, (tt, (tt, (tt, (zs, tt))))) (tt, (tt, (tt, (tt, (l, tt)))))) $ says ! e $ frame ! $
       -- [the last list; what the window owns; the result]
-      nothing ! $ move ! (1 ∷ 0 ∷ []) $ fjoin ! $ move ! (1 ∷ 0 ∷ []) $ fjoin ! $ owned ! u16 (Is u16) (uint_Makes 𝓛 w16) j _ (refl, j-fits) $ fjoin ! $ owned ! u32 (Is u32) (uint_Makes 𝓛 w32) i _ (refl, i-fits) $ fjoin ! $
+      nothing ! $ move ! (1 ∷ 0 ∷ []) $ fjoin ! $ move ! (1 ∷ 0 ∷ []) $ fjoin ! $ owned ! u16 (Is u16) (uint_Makes 𝓛 w16) j _ (refl, j_fits) $ fjoin ! $ owned ! u32 (Is u32) (uint_Makes 𝓛 w32) i _ (refl, i_fits) $ fjoin ! $
       owned ! Vw.the_row (Is Vw.the_row) (LL.makes Vw.the_type Vw'.the_plain 𝓛) c _ is_c $ fjoin ! $ done !
 
   module _ (C : Calls 𝓤 H) (Λ : Loops 𝓤 H) (fm : FmC 𝓤 H 𝓛.laws C) (known : Triple 𝓤 (C #drive·next-turn) (G 𝓛 mem run)) where
@@ -171,7 +171,7 @@ module _ {M : Type 1} {𝓤 : Ura M} (𝓛 : Logic 𝓤) (mem : Memory → SProp
     walk wt room =
         qed 𝓛 (raw (on_entry 𝓛 f.signature κs (q, (q', tt)) a vals) ∷ []) ∵ enter ! C Λ code.function (vval c ∷ vint w32 i ∷ vint w16 j ∷ mach ∷ s ∷ []) _ $
         alloc1 ! (λ l₀. alloc1 ! (λ l₁. alloc1 ! (λ l₂. alloc1 ! (λ l₃. alloc1 ! (λ l₄. alloc1 ! (λ l₅. alloc1 ! (λ l₆. alloc1 ! (λ l₇. alloc1 ! (λ l₈. alloc1 ! (λ l₉. alloc0 ! $ params1 ! $
-        pass1 ! (init ! 16 refl ((LL.lawful Vw.the_type Vw'.the_laws 𝓛).typed c _ is_c).0) $ pass1 ! (init ! 14 refl (tt, record { fits = i-fits })) $ pass1 ! (init ! 12 refl (tt, record { fits = j-fits })) $ pass1 ! (init ! 10 refl wt) $ pass1 ! (init ! 8 refl (tt, (tt, (record { fits = room.0 }, tt)))) $ pass0 ! $
+        pass1 ! (init ! 16 refl ((LL.lawful Vw.the_type Vw'.the_laws 𝓛).typed c _ is_c).0) $ pass1 ! (init ! 14 refl (tt, record { fits = i_fits })) $ pass1 ! (init ! 12 refl (tt, record { fits = j_fits })) $ pass1 ! (init ! 10 refl wt) $ pass1 ! (init ! 8 refl (tt, (tt, (record { fits = room.0 }, tt)))) $ pass0 ! $
         -- [_9; …; _8; …; _7; …; _6; …; _5; …; _4; …; _3; …; _2; …; _1; …; room for _0; …; what is had at entry]
         assigns ! (of_opd ! (load ! (from ! (fld ! refl (stop !))) (look_in ! 10 (sub ! 0 refl (whole !))))) (from ! (stop !)) (init ! 6 refl (tt, wt.1.0)) $
         assigns ! (of_opd ! (load ! (from ! (fld ! refl (stop !))) (look_in ! 10 (sub ! 1 refl (whole !))))) (from ! (stop !)) (init ! 4 refl (tt, wt.1.1.0)) $
@@ -195,9 +195,9 @@ module _ {M : Type 1} {𝓤 : Ura M} (𝓛 : Logic 𝓤) (mem : Memory → SProp
 module _ {M : Type 1} {𝓤 : Ura M} (𝓛 : Logic 𝓤) (mem : Memory → SProp 𝓤) (run : Routine → Fun 𝓤) where
   open 𝓛 use {H}
 
-  f-walks : (C : Calls 𝓤 H) (Λ : Loops 𝓤 H) → FmC 𝓤 H 𝓛.laws C → Triple 𝓤 (C #drive·next-turn) (G 𝓛 mem run)
+  f_walks : (C : Calls 𝓤 H) (Λ : Loops 𝓤 H) → FmC 𝓤 H 𝓛.laws C → Triple 𝓤 (C #drive·next-turn) (G 𝓛 mem run)
       → Walks 𝓛 f.ended stayed (WpFn 𝓤 H C Λ code.function) (f.clauses 𝓛 mem run)
-  f-walks C Λ fm known = walked 𝓛 f.ended stayed (f.clauses 𝓛 mem run) (WpFn 𝓤 H C Λ code.function)
+  f_walks C Λ fm known = walked 𝓛 f.ended stayed (f.clauses 𝓛 mem run) (WpFn 𝓤 H C Λ code.function)
       (λ κs. (LL.vals Vw.the_type Vw'.the_laws, (uint_vals w32, (uint_vals w16, (LL.vals (D κs) (L κs), (mut_slice_vals, tt)))))) (λ κs. (LL.tells Vw.the_type Vw'.the_laws, (uint_Tells w32, (uint_Tells w16, (LL.tells (D κs) (L κs), (mut_slice_Tells (named 1) κs.1.0 u8, tt))))))
       (λ κs qs bounds a g are. via 𝓤 _ (fst∗ 𝓤 _ (emp 𝓤)) (walk 𝓛 mem run κs.0 κs.1.0 qs.0 qs.1.0 a.0 a.1.0 a.1.1.0 a.1.1.1.0 a.1.1.1.1.0.ref_ptr.0 a.1.1.1.1.0.ref_ptr.1 a.1.1.1.1.0.ghost_name a.1.1.1.1.0.now are.0 are.1.0.1 are.1.1.0.1 C Λ fm known
       ((LL.lawful (D κs) (L κs) 𝓛).typed a.1.1.1.0 _ are.1.1.1.0).0 are.1.1.1.1.0.0.1))
@@ -206,7 +206,7 @@ f_meets : {M : Type 1} {𝓤 : Ura M} (𝓛 : Logic 𝓤) (mem : Memory → SPro
     → Triple 𝓤 (𝓣.C #drive·next-turn) (G 𝓛 mem run)
     → Meets 𝓛 f.signature (WpFn 𝓤 𝓛.H 𝓣.C 𝓣.Λ code.function) (f.spec 𝓛 mem run)
 f_meets {𝓤 = 𝓤} 𝓛 mem run 𝓣 known = walk_Meets 𝓛 f.ended stayed (Goes-none 𝓛 2 (λ _. Vw.the_row) yes (λ κs x f. refl), (Goes-none 𝓛 2 (λ _. u32) yes (λ κs x f. refl), (Goes-none 𝓛 2 (λ _. u16) yes (λ κs x f. refl), (Goes-none 𝓛 2 B yes (λ κs x f. refl), (Goes-gave_slice 𝓛 2 1 tt (plain (λ _. u8)), tt))))) (f.clauses 𝓛 mem run) (WpFn 𝓤 𝓛.H 𝓣.C 𝓣.Λ code.function) (WpFn-mono 𝓤 𝓛.H 𝓛.laws 𝓣 code.function)
-    (f-walks 𝓛 mem run 𝓣.C 𝓣.Λ (fm_of 𝓤 𝓛.H 𝓛.laws 𝓣) known)
+    (f_walks 𝓛 mem run 𝓣.C 𝓣.Λ (fm_of 𝓤 𝓛.H 𝓛.laws 𝓣) known)
 
 pub next-turn-from-spec : {M : Type 1} → stated.statement M
 unfolding code.routine tables_of

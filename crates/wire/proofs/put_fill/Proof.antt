@@ -3,8 +3,8 @@ use mathlib.Core.Path.{refl, sym}
 use mathlib.Core.List.{[], ◌∷◌}
 use native.Mathlib.Omega.{arith}
 use lib.Seq.{length-take-le}
-use Rattle.wire.specs.Bytes.{fillCount}
-use Rattle.wire.proofs.Fronts.{take-replicate}
+use Rattle.wire.specs.Bytes.{fill_count}
+use Rattle.wire.proofs.Fronts.{take_replicate}
 use borrow.Author.Rules.{rules}
 use Rattle.wire.proofs.put_fill.Statement.{statement}
 use Rattle.wire.proofs.put_fill.Tie as tie
@@ -16,7 +16,7 @@ returns : tie.Need-returns
 returns c =
     let f = c.before.before in
     let s = f.before.before.before.before.args.size in
-    (refl, rw (take-replicate (fillCount s) 3 0 (omega arith)) at f.put_front.ensures)
+    (refl, rw (take_replicate (fill_count s) 3 0 (omega arith)) at f.put_front.ensures)
 
 pub put-fill-spec : {M : Type 1} → statement M
 put-fill-spec =

@@ -1,16 +1,16 @@
 -- `command::tests::inquiry_field` meets its contract: each test that was made is one of the definition. Assumes nothing.
 use mathlib.Core.Path.{sym, ◌∙◌}
-use Rattle.command.specs.Cdb.{inquiryField}
+use Rattle.command.specs.Cdb.{inquiry_field}
 use borrow.Author.Rules.{rules}
 use Rattle.command.proofs.tests.inquiry_field.Statement.{statement}
 use Rattle.command.proofs.tests.inquiry_field.Tie as tie
 
 returns : tie.Need-returns
-unfolding inquiryField
+unfolding inquiry_field
 returns c = rw (sym c.before.low_bit.ensures ∙ c.if1.true)
 
 returns-2 : tie.Need-returns-2
-unfolding inquiryField
+unfolding inquiry_field
 returns-2 c = rw (sym c.before.low_bit.ensures ∙ c.if1.false)
 
 pub inquiry-field-spec : {M : Type 1} → statement M

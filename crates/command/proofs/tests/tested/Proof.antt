@@ -1,14 +1,14 @@
 -- `command::tests::tested` meets its contract: each test that was made is one of the definition. Assumes nothing.
 use mathlib.Core.Path.{sym, ap, ◌∙◌}
 use Rattle.command.specs.declared.Asked.TheVariants.{Wants}
-use Rattle.command.specs.Tests.{testedBy}
+use Rattle.command.specs.Tests.{tested_by}
 use Rattle.command.proofs.Ways.{asked_is}
 use borrow.Author.Rules.{rules}
 use Rattle.command.proofs.tests.tested.Statement.{statement}
 use Rattle.command.proofs.tests.tested.Tie as tie
 
 returns : tie.Need-returns
-unfolding testedBy
+unfolding tested_by
 returns c =
     let d = c.before.before in
     let a = d.before.before.args in
@@ -16,7 +16,7 @@ returns c =
     (rw (sym c.before.other-unit.ensures ∙ c.if1.true))
 
 returns-2 : tie.Need-returns-2
-unfolding testedBy
+unfolding tested_by
 returns-2 c =
     let i₁ = c.before.before in
     let d = i₁.before.before in
@@ -25,7 +25,7 @@ returns-2 c =
     (rw (sym i₁.before.other-unit.ensures ∙ i₁.if1.false, sym c.before.attention-stands.ensures ∙ c.if2.true))
 
 returns-3 : tie.Need-returns-3
-unfolding testedBy
+unfolding tested_by
 returns-3 c =
     let i₂ = c.before.before in
     let i₁ = i₂.before.before in
@@ -35,7 +35,7 @@ returns-3 c =
     (rw (sym i₁.before.other-unit.ensures ∙ i₁.if1.false, sym i₂.before.attention-stands.ensures ∙ i₂.if2.false, sym c.before.is-unknown.ensures ∙ c.if3.true))
 
 returns-4 : tie.Need-returns-4
-unfolding testedBy
+unfolding tested_by
 returns-4 c =
     let i₃ = c.before.before in
     let i₂ = i₃.before.before in
@@ -46,7 +46,7 @@ returns-4 c =
     (rw (sym i₁.before.other-unit.ensures ∙ i₁.if1.false, sym i₂.before.attention-stands.ensures ∙ i₂.if2.false, sym i₃.before.is-unknown.ensures ∙ i₃.if3.false, sym c.before.write-protected.ensures ∙ c.if4.true))
 
 returns-5 : tie.Need-returns-5
-unfolding testedBy
+unfolding tested_by
 returns-5 c =
     let i₄ = c.before in
     let i₃ = i₄.before.before in
@@ -58,7 +58,7 @@ returns-5 c =
     (rw (sym i₁.before.other-unit.ensures ∙ i₁.if1.false, sym i₂.before.attention-stands.ensures ∙ i₂.if2.false, sym i₃.before.is-unknown.ensures ∙ i₃.if3.false, sym i₄.before.write-protected.ensures ∙ i₄.if4.false, c.if5.true))
 
 returns-6 : tie.Need-returns-6
-unfolding testedBy
+unfolding tested_by
 returns-6 c =
     let i₅ = c.before.before in
     let i₄ = i₅.before in
@@ -71,7 +71,7 @@ returns-6 c =
     (rw (sym i₁.before.other-unit.ensures ∙ i₁.if1.false, sym i₂.before.attention-stands.ensures ∙ i₂.if2.false, sym i₃.before.is-unknown.ensures ∙ i₃.if3.false, sym i₄.before.write-protected.ensures ∙ i₄.if4.false, i₅.if5.false, sym c.before.is-outside.ensures ∙ c.if6.true))
 
 returns-7 : tie.Need-returns-7
-unfolding testedBy
+unfolding tested_by
 returns-7 c =
     let i₆ = c.before in
     let i₅ = i₆.before.before in

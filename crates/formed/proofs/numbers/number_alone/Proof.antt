@@ -6,13 +6,13 @@ use lib.ListN.{length, drop}
 use borrow.Author.Rules.{rules}
 use borrow.Author.Tests.{eq-eqb, ne_eqb}
 use Rattle.tables.specs.Lists.{all}
-use Rattle.tables.proofs.Loops.{Tested, test_on, test-fails, test-out}
-use Rattle.formed.specs.Keys.{apartNumber}
+use Rattle.tables.proofs.Loops.{Tested, test_on, test_fails, test_out}
+use Rattle.formed.specs.Keys.{apart_number}
 use Rattle.formed.proofs.numbers.number_alone.Statement.{statement}
 use Rattle.formed.proofs.numbers.number_alone.Tie as tie
 
 abbrev invariant-loop : tie.invariant-loop
-invariant-loop n from t i₀ i = Tested 0 (all (apartNumber n) (drop from t)) (λ m _. apartNumber n m) t 8 i
+invariant-loop n from t i₀ i = Tested 0 (all (apart_number n) (drop from t)) (λ m _. apart_number n m) t 8 i
 
 abbrev decreases-loop : tie.decreases-loop
 decreases-loop n from t i₀ i = 8 - i
@@ -28,10 +28,10 @@ loop-again c =
 returns : tie.Need-returns invariant-loop decreases-loop
 returns c =
     let t = c.before in
-    test-fails (len t.before.before) t.before.loop.invariant t.loop-test.true (sym (rw (eq-eqb _ _ c.if1.true))) refl
+    test_fails (len t.before.before) t.before.loop.invariant t.loop-test.true (sym (rw (eq-eqb _ _ c.if1.true))) refl
 
 returns-2 : tie.Need-returns-2 invariant-loop decreases-loop
-returns-2 c = test-out (len c.before.before) c.before.loop.invariant c.loop-test.false
+returns-2 c = test_out (len c.before.before) c.before.loop.invariant c.loop-test.false
 
 pub number-alone-spec : {M : Type 1} → statement M
 number-alone-spec =

@@ -4,13 +4,13 @@ use mathlib.Core.Path.{◌≡◌, refl}
 use native.Mathlib.Omega.{arith}
 use lib.ListN.{length}
 use borrow.Author.Rules.{rules}
-use Rattle.tables.proofs.Loops.{Tested, test_on, test-fails, test-out}
-use Rattle.formed.specs.Keys.{numberFine, numbersFine}
+use Rattle.tables.proofs.Loops.{Tested, test_on, test_fails, test_out}
+use Rattle.formed.specs.Keys.{number_fine, numbers_fine}
 use Rattle.formed.proofs.numbers.numbers_fine.Statement.{statement}
 use Rattle.formed.proofs.numbers.numbers_fine.Tie as tie
 
 abbrev invariant-loop : tie.invariant-loop
-invariant-loop t i₀ i = Tested 0 (numbersFine t) numberFine t 8 i
+invariant-loop t i₀ i = Tested 0 (numbers_fine t) number_fine t 8 i
 
 abbrev decreases-loop : tie.decreases-loop
 decreases-loop t i₀ i = 8 - i
@@ -26,10 +26,10 @@ loop-again c =
 returns : tie.Need-returns invariant-loop decreases-loop
 returns c =
     let t = c.before.before in
-    test-fails (len t.before.before) t.before.loop.invariant t.loop-test.true c.before.number-fine.ensures c.if1.false
+    test_fails (len t.before.before) t.before.loop.invariant t.loop-test.true c.before.number-fine.ensures c.if1.false
 
 returns-2 : tie.Need-returns-2 invariant-loop decreases-loop
-returns-2 c = test-out (len c.before.before) c.before.loop.invariant c.loop-test.false
+returns-2 c = test_out (len c.before.before) c.before.loop.invariant c.loop-test.false
 
 pub numbers-fine-spec : {M : Type 1} → statement M
 numbers-fine-spec =

@@ -5,7 +5,7 @@ use native.Mathlib.Omega.{arith}
 use lib.ListN.{length}
 use borrow.Author.Rules.{rules}
 use Rattle.tables.specs.Lists.{same}
-use Rattle.tables.proofs.Loops.{Compared, same-on, same-fails, same_out}
+use Rattle.tables.proofs.Loops.{Compared, same_on, same_fails, same_out}
 use Rattle.link.proofs.on_login.same_name.Statement.{statement}
 use Rattle.link.proofs.on_login.same_name.Tie as tie
 
@@ -25,13 +25,13 @@ returns : tie.Need-returns invariant-loop decreases-loop
 returns c =
     let t = c.before in
     let s = t.before.before in
-    same-fails (la s) (lb s) t.before.loop.invariant t.loop-test.true c.if1.true
+    same_fails (la s) (lb s) t.before.loop.invariant t.loop-test.true c.if1.true
 
 loop-again : tie.Need-loop-preserved invariant-loop decreases-loop
 loop-again c =
     let t = c.before in
     let s = t.before.before in
-    same-on (la s) (lb s) t.before.loop.invariant t.loop-test.true c.if1.false
+    same_on (la s) (lb s) t.before.loop.invariant t.loop-test.true c.if1.false
 
 returns-2 : tie.Need-returns-2 invariant-loop decreases-loop
 returns-2 c = let s = c.before.before in same_out (la s) (lb s) c.before.loop.invariant c.loop-test.false

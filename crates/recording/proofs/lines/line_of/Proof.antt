@@ -3,7 +3,7 @@ use mathlib.Core.Path.{◌≡◌, sym}
 use native.Mathlib.Omega.{arith}
 use lib.ListN.{length, take}
 use lib.Seq.{length-take-le}
-use Rattle.recording.proofs.Laws.{line-sent, line_refused}
+use Rattle.recording.proofs.Laws.{line_sent, line_refused}
 use borrow.Author.Rules.{rules}
 use Rattle.recording.proofs.lines.line_of.Statement.{statement}
 use Rattle.recording.proofs.lines.line_of.Tie as tie
@@ -20,7 +20,7 @@ written-requires c κs =
 returns : tie.Need-returns
 returns c =
     let l = c.before.before.before.before in
-    line-sent _ l.before.before.said.given.1 l.least.ensures.0 c.before.untouched.ensures c.written.ensures
+    line_sent _ l.before.before.said.given.1 l.least.ensures.0 c.before.untouched.ensures c.written.ensures
 
 returns-2 : tie.Need-returns-2
 returns-2 c =

@@ -5,25 +5,25 @@ use native.Mathlib.Omega.{arith}
 use lib.Dec.{eqb}
 use lib.ListN.{length}
 use borrow.Author.Tests.{eq-eqb, ne_eqb}
-use Rattle.tables.proofs.Loops.{Tested, test_on, test-fails, test-out}
-use Rattle.recording.specs.Answers.{allFill}
+use Rattle.tables.proofs.Loops.{Tested, test_on, test_fails, test_out}
+use Rattle.recording.specs.Answers.{all_fill}
 use Rattle.recording.proofs.lines.untouched.Statement.{statement}
 use Rattle.recording.proofs.lines.untouched.Tie as tie
 
 abbrev invariant-loop : tie.invariant-loop
-invariant-loop lent i₀ i = Tested 0 (allFill lent) (λ b rest. eqb b 0x5a) lent (length lent) i
+invariant-loop lent i₀ i = Tested 0 (all_fill lent) (λ b rest. eqb b 0x5a) lent (length lent) i
 
 abbrev decreases-loop : tie.decreases-loop
 decreases-loop lent i₀ i = length lent - i
 
 loop-holds : tie.Need-loop-init invariant-loop decreases-loop
-unfolding allFill
+unfolding all_fill
 loop-holds c = record { bound = omega arith; rest = refl }
 
 returns : tie.Need-returns invariant-loop decreases-loop
 returns c =
     let l = c.before.before in
-    test-fails refl l.before.loop.invariant l.loop-test.true refl (ne_eqb _ _ c.if1.true)
+    test_fails refl l.before.loop.invariant l.loop-test.true refl (ne_eqb _ _ c.if1.true)
 
 loop-again : tie.Need-loop-preserved invariant-loop decreases-loop
 loop-again c =
@@ -31,7 +31,7 @@ loop-again c =
     test_on refl l.before.loop.invariant l.loop-test.true refl (eq-eqb _ _ c.if1.false)
 
 returns-2 : tie.Need-returns-2 invariant-loop decreases-loop
-returns-2 c = test-out refl c.before.loop.invariant c.loop-test.false
+returns-2 c = test_out refl c.before.loop.invariant c.loop-test.false
 
 pub untouched-spec : {M : Type 1} → statement M
 untouched-spec =

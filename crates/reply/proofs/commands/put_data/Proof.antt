@@ -4,7 +4,7 @@ use Prim.Native.Nat.{min}
 use native.Mathlib.Omega.{arith}
 use lib.ListN.{length, take, length-take}
 use lib.Seq.{length-take-le}
-use Rattle.reply.proofs.Laws.{take-least}
+use Rattle.reply.proofs.Laws.{take_least}
 use borrow.Author.Rules.{rules}
 use Rattle.reply.proofs.commands.put_data.Statement.{statement}
 use Rattle.reply.proofs.commands.put_data.Tie as tie
@@ -18,7 +18,7 @@ returns c =
     let k = c.before.before.before.before.before in
     let a = c.before.before.before.before.before.before.before.before.before.args in
     let e : k.least2.result ≡ min (min a.size 2048) (length a.source.now) = k.least2.ensures.0 ∙ ap (λ m. min m (length a.source.now)) k.before.least.ensures.0 in
-    let t : take k.least2.result a.source.now ≡ take (min a.size 2048) a.source.now = rw e (take-least (min a.size 2048) a.source.now) in
+    let t : take k.least2.result a.source.now ≡ take (min a.size 2048) a.source.now = rw e (take_least (min a.size 2048) a.source.now) in
     record {
       long = e ∙ sym (length-take (min a.size 2048) a.source.now);
       fits = omega arith;

@@ -1,13 +1,13 @@
 -- `reply::commands::put_sense` meets its contract: an array of its bytes, copied. Assumes nothing.
 use mathlib.Core.Path.{refl}
 use native.Mathlib.Omega.{arith}
-use Rattle.reply.specs.Payload.{senseBytes}
+use Rattle.reply.specs.Payload.{sense_bytes}
 use borrow.Author.Rules.{rules}
 use Rattle.reply.proofs.commands.put_sense.Statement.{statement}
 use Rattle.reply.proofs.commands.put_sense.Tie as tie
 
 returns : tie.Need-returns
-unfolding senseBytes
+unfolding sense_bytes
 returns c =
     let f = c.before.before in
     record { long = refl; fits = omega arith; is = rw f.before.before.before.bytes4.ensures at f.put_front.ensures }

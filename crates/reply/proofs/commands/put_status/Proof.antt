@@ -1,13 +1,13 @@
 -- `reply::commands::put_status` meets its contract: an array of its bytes, copied. Assumes nothing.
 use mathlib.Core.Path.{refl}
 use native.Mathlib.Omega.{arith}
-use Rattle.reply.specs.Payload.{statusBytes}
+use Rattle.reply.specs.Payload.{status_bytes}
 use borrow.Author.Rules.{rules}
 use Rattle.reply.proofs.commands.put_status.Statement.{statement}
 use Rattle.reply.proofs.commands.put_status.Tie as tie
 
 returns : tie.Need-returns
-unfolding statusBytes
+unfolding status_bytes
 returns c =
     let f = c.before.before in
     record { long = refl; fits = omega arith; is = rw (f.before.before.before.bytes43.ensures, f.before.before.before.before.bytes42.ensures, f.before.before.before.before.before.bytes4.ensures) at f.put_front.ensures }

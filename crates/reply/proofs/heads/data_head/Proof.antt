@@ -1,11 +1,11 @@
 -- `reply::heads::data_head` meets its contract. Assumes nothing.
-use Rattle.reply.specs.Reply.{answerHead, dataHead}
+use Rattle.reply.specs.Reply.{answer_head, data_head}
 use borrow.Author.Rules.{rules}
 use Rattle.reply.proofs.heads.data_head.Statement.{statement}
 use Rattle.reply.proofs.heads.data_head.Tie as tie
 
 returns : tie.Need-returns
-unfolding answerHead dataHead
+unfolding answer_head data_head
 returns c = rw (c.answer-head.ensures, c.before.data-control.ensures.0)
 
 pub data-head-spec : {M : Type 1} → statement M

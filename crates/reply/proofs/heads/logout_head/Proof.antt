@@ -1,11 +1,11 @@
 -- `reply::heads::logout_head` meets its contract. Assumes nothing.
-use Rattle.reply.specs.Reply.{answerHead, logoutHead}
+use Rattle.reply.specs.Reply.{answer_head, logout_head}
 use borrow.Author.Rules.{rules}
 use Rattle.reply.proofs.heads.logout_head.Statement.{statement}
 use Rattle.reply.proofs.heads.logout_head.Tie as tie
 
 returns : tie.Need-returns
-unfolding answerHead logoutHead
+unfolding answer_head logout_head
 returns c = rw c.answer-head.ensures
 
 pub logout-head-spec : {M : Type 1} → statement M

@@ -1,13 +1,13 @@
 -- `reply::services::put_pair` meets its contract: an array of its bytes, copied. Assumes nothing.
 use mathlib.Core.Path.{refl}
 use native.Mathlib.Omega.{arith}
-use Rattle.reply.specs.Payload.{pairBytes}
+use Rattle.reply.specs.Payload.{pair_bytes}
 use borrow.Author.Rules.{rules}
 use Rattle.reply.proofs.services.put_pair.Statement.{statement}
 use Rattle.reply.proofs.services.put_pair.Tie as tie
 
 returns : tie.Need-returns
-unfolding pairBytes
+unfolding pair_bytes
 returns c =
     record { long = refl; fits = omega arith; is = c.before.before.put_front.ensures }
 

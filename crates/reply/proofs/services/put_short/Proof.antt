@@ -1,13 +1,13 @@
 -- `reply::services::put_short` meets its contract: an array of its bytes, copied. Assumes nothing.
 use mathlib.Core.Path.{refl}
 use native.Mathlib.Omega.{arith}
-use Rattle.reply.specs.Payload.{shortBytes}
+use Rattle.reply.specs.Payload.{short_bytes}
 use borrow.Author.Rules.{rules}
 use Rattle.reply.proofs.services.put_short.Statement.{statement}
 use Rattle.reply.proofs.services.put_short.Tie as tie
 
 returns : tie.Need-returns
-unfolding shortBytes
+unfolding short_bytes
 returns c =
     record { long = refl; fits = omega arith; is = c.before.before.put_front.ensures }
 

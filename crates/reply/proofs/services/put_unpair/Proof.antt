@@ -1,13 +1,13 @@
 -- `reply::services::put_unpair` meets its contract: an array of its bytes, copied. Assumes nothing.
 use mathlib.Core.Path.{refl}
 use native.Mathlib.Omega.{arith}
-use Rattle.reply.specs.Payload.{unpairBytes}
+use Rattle.reply.specs.Payload.{unpair_bytes}
 use borrow.Author.Rules.{rules}
 use Rattle.reply.proofs.services.put_unpair.Statement.{statement}
 use Rattle.reply.proofs.services.put_unpair.Tie as tie
 
 returns : tie.Need-returns
-unfolding unpairBytes
+unfolding unpair_bytes
 returns c =
     record { long = refl; fits = omega arith; is = c.before.before.put_front.ensures }
 

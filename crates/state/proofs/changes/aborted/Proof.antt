@@ -1,15 +1,15 @@
 -- `state::changes::aborted` meets its contract. Assumes nothing.
 use Rattle.std.proofs.Common.{sym, ◌∙◌, rules}
-use Rattle.state.specs.Changes.{abortedOf}
+use Rattle.state.specs.Changes.{aborted_of}
 use Rattle.state.proofs.changes.aborted.Statement.{statement}
 use Rattle.state.proofs.changes.aborted.Tie as tie
 
 returns : tie.Need-returns
-unfolding abortedOf
+unfolding aborted_of
 returns c = rw (sym c.before.before.has_address.ensures ∙ c.before.if1.true) c.end-exchanges.ensures
 
 returns-2 : tie.Need-returns-2
-unfolding abortedOf
+unfolding aborted_of
 returns-2 c = rw (sym c.before.has_address.ensures ∙ c.if1.false)
 
 pub aborted-spec : {M : Type 1} → statement M

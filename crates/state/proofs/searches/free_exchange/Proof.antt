@@ -1,39 +1,39 @@
 -- `state::searches::free_exchange` meets its contract: a search, by the laws of one. Assumes nothing.
 use Rattle.std.proofs.Common.{◌≡◌, ◌-◌, length, rules}
-use Rattle.tables.proofs.Loops.{Searched, search-starts, search-on, search-here, search-out}
+use Rattle.tables.proofs.Loops.{Searched, search_starts, search_on, search_here, search_out}
 use Rattle.tables.proofs.Searches.{within}
-use Rattle.state.specs.Changes.{emptyExchange, isClosed}
-use Rattle.state.specs.Tables.{freeExchange}
-use Rattle.state.proofs.Shape.{places-8}
+use Rattle.state.specs.Changes.{empty_exchange, is_closed}
+use Rattle.state.specs.Tables.{free_exchange}
+use Rattle.state.proofs.Shape.{places_8}
 use Rattle.state.proofs.searches.free_exchange.Statement.{statement}
 use Rattle.state.proofs.searches.free_exchange.Tie as tie
 
 abbrev invariant-loop : tie.invariant-loop
-invariant-loop t i₀ i = Searched emptyExchange (isClosed) t 8 i
+invariant-loop t i₀ i = Searched empty_exchange (is_closed) t 8 i
 
 abbrev decreases-loop : tie.decreases-loop
 decreases-loop t i₀ i = 8 - i
 
 len : (c : tie.At-loop invariant-loop decreases-loop) → length c.before.before.args.l.places ≡ 8
-len c = places-8 c.before.before.args.l _ c.before.before.well-formed.0
+len c = places_8 c.before.before.args.l _ c.before.before.well-formed.0
 
 returns : tie.Need-returns invariant-loop decreases-loop
-unfolding freeExchange
+unfolding free_exchange
 returns c =
     let t = c.before.before.before in
     let s = t.before.before.before.args in
-    within emptyExchange isClosed s.l.places 8 (len t.before) (search-here (len t.before) t.before.loop.invariant t.loop-test.true c.before.is-closed.ensures c.if1.true)
+    within empty_exchange is_closed s.l.places 8 (len t.before) (search_here (len t.before) t.before.loop.invariant t.loop-test.true c.before.is-closed.ensures c.if1.true)
 
 loop-again : tie.Need-loop-preserved invariant-loop decreases-loop
 loop-again c =
     let t = c.before.before.before in
-    search-on (len t.before) t.before.loop.invariant t.loop-test.true c.before.is-closed.ensures c.if1.false
+    search_on (len t.before) t.before.loop.invariant t.loop-test.true c.before.is-closed.ensures c.if1.false
 
 returns-2 : tie.Need-returns-2 invariant-loop decreases-loop
-unfolding freeExchange
+unfolding free_exchange
 returns-2 c =
     let s = c.before.before.before.args in
-    within emptyExchange isClosed s.l.places 8 (len c.before) (search-out (len c.before) c.before.loop.invariant c.loop-test.false)
+    within empty_exchange is_closed s.l.places 8 (len c.before) (search_out (len c.before) c.before.loop.invariant c.loop-test.false)
 
 pub free-exchange-spec : {M : Type 1} → statement M
 free-exchange-spec =
@@ -41,7 +41,7 @@ free-exchange-spec =
     (tie.spec
     invariant-loop
     decreases-loop
-    (λ c. search-starts)
+    (λ c. search_starts)
     (λ c. search rules)
     (λ c. search rules)
     (λ c κs. search rules)
