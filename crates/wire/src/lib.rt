@@ -1,4 +1,6 @@
 // Big-endian numbers read from a lent slice, their bytes, and bytes copied into one. Reading past the end gives 0, and what does not fit is not written.
+#![tactic(auto)]
+
 ghost use Rattle.std.specs.Prelude.{◌≡◌, ◌-◌, ◌%◌, ◌≤◌, ◌<◌, min, get_or};
 ghost use Rattle.wire.specs.Bytes.{num, bytes, part, name_of, onto, over, fill_count, fill_of};
 
