@@ -1,4 +1,6 @@
 // The address test of the loop.
+#![tactic(auto)]
+
 ghost use Rattle.std.specs.Prelude.{◌≡◌};
 ghost use Rattle.address.specs.Address.{valid_address};
 

@@ -1,4 +1,6 @@
 // Where bytes of the unit stand in a lent window.
+#![tactic(auto)]
+
 ghost use Rattle.std.specs.Prelude.{◌≡◌, cond, ◌+◌, ◌-◌, ◌*◌, leb};
 ghost use Rattle.tables.specs.declared.Found.TheVariants.{Nothing};
 ghost use Rattle.cover.specs.Cover.{position_of, fits_at, cover_of, too_long, lent_place};

@@ -1,4 +1,6 @@
 // The frame header, read and written.
+#![tactic(auto)]
+
 ghost use Rattle.std.specs.Prelude.{◌≡◌};
 ghost use Rattle.wire.specs.Bytes.{onto};
 ghost use Rattle.frame.specs.Head.{header_of, header_bytes};

@@ -1,4 +1,6 @@
 // The word tests of a login's parameters: what PLOGI and PDISC carry, and the words of the login accept that a setup gives.
+#![tactic(auto)]
+
 ghost use Rattle.std.specs.Prelude.{◌≡◌};
 ghost use Rattle.params.specs.Words.{params_of, size_fails, zero_name, verdict_of, accepts, setup_passes, reason_of};
 

@@ -1,4 +1,6 @@
 // Why a call is refused, by the numbers of document 01, and what a call answers.
+#![tactic(auto)]
+
 ghost use Rattle.std.specs.Prelude.{◌≡◌};
 ghost use Rattle.refusal.specs.Refusal.{number_of};
 

@@ -1,5 +1,7 @@
 // The drive's state by value: one loop's side of it with a table of logins, each with a table of exchanges, and the logical unit.
 // Everything stored is an unsigned integer or an array, so that any bytes are a state.
+#![tactic(auto)]
+
 mod changes;
 mod searches;
 mod stored;
