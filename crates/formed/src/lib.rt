@@ -1,4 +1,6 @@
 // Whether a state is well formed: every field is tested, so that any bytes may be handed in.
+#![tactic(auto)]
+
 mod exchange;
 mod login;
 mod numbers;
