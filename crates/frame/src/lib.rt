@@ -8,7 +8,7 @@ ghost use Rattle.frame.specs.Head.{header_of, header_bytes};
 use wire::{be16, be24, be32, byte_at, bytes2, bytes3, bytes4, put_front};
 
 // The fields of a header in their order. The three fields of 24 bits stand in 32; protocol is TYPE.
-#[derive(Drop)]
+#[derive(Clone, Copy)]
 pub struct Header {
     pub r_ctl: u8,
     pub d_id: u32,
