@@ -1,5 +1,5 @@
 -- How the tables of a port change: each change says what is new, and all else stays.
-use Rattle.std.specs.Prelude.{ℕ, ◌+◌, ◌%◌, Bool, cond, not, ◌&&◌, ◌||◌, List, [], map, set, replicate, ◌==◌, slice_index_or, slice_set}
+use Rattle.std.specs.Prelude.{ℕ, ◌+◌, ◌%◌, Bool, cond, not, ◌&&◌, ◌||◌, List, [], map, replicate, ◌==◌, slice_index_or, slice_set}
 use Rattle.tables.specs.Lists.{all}
 use Rattle.wire.specs.Bytes.{name_of}
 use Rattle.state.specs.declared.Exchange.{Exchange}

@@ -1,4 +1,6 @@
 // What each change makes of one login (document 01, the events of "Link services" and the task flags of "Commands").
+#![tactic(auto, unfolding(crate::specs::Changes::freed_of, crate::specs::Changes::ended_of, crate::specs::Changes::host_ended, crate::specs::Changes::unproven, crate::specs::Changes::verified, crate::specs::Changes::aborted_of, crate::specs::Changes::reset_of, crate::specs::Changes::loses_to, crate::specs::Changes::cleared_by))]
+
 ghost use Rattle.std.specs.Prelude.{◌≡◌};
 ghost use Rattle.state.specs.Changes.{freed_of, ended_of, host_ended, unproven, verified, aborted_of, reset_of, loses_to, cleared_by};
 

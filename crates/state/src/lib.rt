@@ -19,7 +19,7 @@ use tables::Found;
 
 // A place for an open exchange of a login. What its data are is told by kind; a free place has kind 0.
 #[repr(C)]
-#[derive(Drop)]
+#[derive(Clone, Copy)]
 pub struct Exchange {
     // READ and WRITE: the first block, and how many
     pub start: u64,
@@ -69,7 +69,7 @@ impl Exchange {
 
 // A place for a login. Flags are 0 or 1; attention is 0, 29h or 2Fh.
 #[repr(C)]
-#[derive(Drop)]
+#[derive(Clone, Copy)]
 pub struct Login {
     pub used: u8,
     pub proven: u8,
@@ -97,7 +97,7 @@ impl Login {
 
 // One loop's side of the drive: its address, words 1 to 28 of its login accept, and its logins.
 #[repr(C)]
-#[derive(Drop)]
+#[derive(Clone, Copy)]
 pub struct Port {
     pub address: u32,
     pub accept: [u8; 112],
@@ -109,7 +109,7 @@ impl Port {
 }
 
 // What a reply and the rules take from a port: its address and accept words.
-#[derive(Drop)]
+#[derive(Clone, Copy)]
 pub struct Own {
     pub address: u32,
     pub accept: [u8; 112],
@@ -117,7 +117,7 @@ pub struct Own {
 
 // The logical unit: its capacity in blocks of 512 bytes, its 28 identity bytes, and whether hosts may write it, 0 or 1.
 #[repr(C)]
-#[derive(Drop)]
+#[derive(Clone, Copy)]
 pub struct Unit {
     pub capacity: u64,
     pub identity: [u8; 28],
@@ -126,7 +126,7 @@ pub struct Unit {
 
 // What a drive is made from.
 #[repr(C)]
-#[derive(Drop)]
+#[derive(Clone, Copy)]
 pub struct Setup {
     pub capacity: u64,
     pub address: u32,
@@ -142,7 +142,7 @@ impl Setup {
 }
 
 // What may happen to every login of a table at once.
-#[derive(Drop)]
+#[derive(Clone, Copy)]
 pub enum Change {
     // every login stays as it is
     Keep,
@@ -165,6 +165,7 @@ pub enum Change {
 }
 
 // What a reply and the rules take from a port.
+#[tactic(auto, unfolding(crate::specs::Changes::own_of))]
 pub fn own_of(p: Port) -> Own
     ensures { result ≡ own_of p }
 {

@@ -1,4 +1,6 @@
 // Which places are free, and where a login or an exchange stands.
+#![tactic(auto, unfolding(crate::specs::Changes::has_address, crate::specs::Changes::has_name, crate::specs::Tables::has_id, crate::specs::Tables::find_exchange, crate::specs::Tables::free_exchange))]
+
 ghost use Rattle.std.specs.Prelude.{◌≡◌};
 ghost use Rattle.tables.specs.Lists.{Within, all};
 ghost use Rattle.state.specs.Tables.{is_free, has_id, find_exchange, free_exchange};

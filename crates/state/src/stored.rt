@@ -1,4 +1,6 @@
 // What stands at a place, and what is stored there: logins and their exchanges, opened, advanced and ended.
+#![tactic(auto, unfolding(crate::specs::Changes::login_at, crate::specs::Changes::exchange_at, crate::specs::Changes::with_login, crate::specs::Changes::with_exchange, crate::specs::Changes::without_exchanges))]
+
 ghost use Rattle.std.specs.Prelude.{◌≡◌};
 ghost use Rattle.state.specs.Changes.{empty_exchange, empty_login, login_at, exchange_at, with_login, with_exchange, without_exchanges, with_attention, advanced, asked, taken, ended_at};
 
