@@ -1,4 +1,6 @@
 // What a call sees of the drive, and what it does, told by what changes: every service decides on the one and answers the other.
+#![tactic(auto)]
+
 ghost use Rattle.std.specs.Prelude.{◌≡◌};
 ghost use Rattle.tables.specs.Lists.{Within};
 ghost use Rattle.state.specs.Tables.{login_in};

@@ -107,6 +107,7 @@ fn within(n: u32, most: u32) -> bool
 }
 
 // One quotient serves both: the frames that were full, and whether bytes are left past them.
+#[tactic(auto, using(crate::proofs::Advance::sent_whole, crate::proofs::Advance::sent_short, crate::proofs::Advance::sent_all), unfolding(crate::specs::Formed::sent_fits))]
 fn sent_fits(full: u32, e: Exchange) -> bool
     requires { (0 < full) × (full ≤ 2048) }
     ensures { result ≡ sent_fits full e }

@@ -35,6 +35,7 @@ pub fn setup_rules(s: Setup) -> bool
 }
 
 // The rules of a setup, by the parts of it that they look at, so that none is made of a unit and a port for them.
+#[tactic(auto, unfolding(crate::specs::Formed::setup_rules))]
 fn rules_keep(capacity: u64, writable: u8, address: u32, accept: &[u8; 112]) -> bool
     ensures { (identity : List ℕ) → result ≡ setup_rules (record { capacity = capacity; address = address; identity = identity; accept = accept.now; writable = writable }) }
 {
