@@ -1,14 +1,14 @@
 -- What is found by the keys of logins that are fine is what is found in the table. Assumes nothing.
 use Prim.Native.Nat.{ℕ, suc, ◌+◌}
-use mathlib.Core.Path.{◌≡◌, refl, sym, ap, ◌∙◌}
+use mathlib.Core.Path.{◌≡◌, refl, sym, ◌∙◌}
 use mathlib.Core.List.{List, [], ◌∷◌, map}
-use mathlib.Core.Bool.{Bool, true, false, cond, not, ◌&&◌, ◌||◌}
+use mathlib.Core.Bool.{Bool, true, false, cond, ◌&&◌, ◌||◌}
 use lib.Dec.{eqb}
 use Rattle.tables.specs.Lists.{first_from, first, all}
 use Rattle.tables.proofs.Bools.{and_left, and_right}
 use Rattle.state.specs.declared.Login.{Login}
 use Rattle.state.specs.declared.Unit.{Unit}
-use Rattle.state.specs.Changes.{empty_login, is_used, has_address, has_name, is_host, host_ended}
+use Rattle.state.specs.Changes.{empty_login, is_used, has_address, has_name, host_ended}
 use Rattle.state.specs.Tables.{is_free}
 use Rattle.formed.specs.Formed.{login_fine}
 use Rattle.formed.specs.Keys.{key_of, key_named, login_key}

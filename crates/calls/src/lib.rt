@@ -1,4 +1,6 @@
 // What a call sees of the drive, and what it does, told by what changes: every service decides on the one and answers the other.
+#![tactic(auto, unfolding(crate::specs::View::find_any, crate::specs::View::seat_of, crate::specs::View::place_for, crate::specs::View::view_from, crate::specs::View::view_of))]
+
 ghost use Rattle.std.specs.Prelude.{◌≡◌};
 ghost use Rattle.tables.specs.Lists.{Within};
 ghost use Rattle.state.specs.Tables.{login_in};
@@ -12,7 +14,7 @@ use state::{Change, Login, Own, Port, Unit, change_all, empty_login, login_at, o
 use tables::Found;
 
 // What every call sees of a port's logins: their keys, and whether the state is well formed.
-#[derive(Drop)]
+#[derive(Clone, Copy)]
 pub struct Sight {
     pub keys: [Key; 8],
     pub fine: bool,
@@ -20,7 +22,7 @@ pub struct Sight {
 
 // What a call of one port sees: the unit, its own address and accept words, the keys of all logins, the place of the caller's login, that login,
 // which is an empty one where it has none, and whether the state is well formed.
-#[derive(Drop)]
+#[derive(Clone, Copy)]
 pub struct View {
     pub unit: Unit,
     pub own: Own,
@@ -31,14 +33,14 @@ pub struct View {
 }
 
 // A service's reply, and the login after it.
-#[derive(Drop)]
+#[derive(Clone, Copy)]
 pub struct Served {
     pub reply: Reply,
     pub login: Login,
 }
 
 // A reply, and what changes: a change of every login, and then a login at a place, or at none.
-#[derive(Drop)]
+#[derive(Clone, Copy)]
 pub struct Decision {
     pub reply: Reply,
     pub change: Change,
@@ -47,7 +49,7 @@ pub struct Decision {
 }
 
 // The same once the reply is written, or the call refused.
-#[derive(Drop)]
+#[derive(Clone, Copy)]
 pub struct Turn {
     pub said: Said,
     pub change: Change,

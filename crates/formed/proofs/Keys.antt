@@ -13,7 +13,6 @@ use Rattle.tables.proofs.Keeping.{all_always}
 use Rattle.wire.specs.Bytes.{name_of}
 use Rattle.params.specs.Words.{size_fails, zero_name}
 use Rattle.params.proofs.Names.{name_number}
-use Rattle.state.specs.declared.Exchange.{Exchange}
 use Rattle.state.specs.declared.Login.{Login}
 use Rattle.state.specs.declared.Port.{Port}
 use Rattle.state.specs.declared.Unit.{Unit}

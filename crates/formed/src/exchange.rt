@@ -1,4 +1,6 @@
 // Whether an exchange is one that an accepted command could open, with what is sent of it, and the numbers of a login's exchanges (document 01, "Well formed").
+#![tactic(auto, unfolding(crate::specs::Formed::blocks_fit, crate::specs::Formed::direction_fits, crate::specs::Formed::made_fits, crate::specs::Formed::wanted_fits, crate::specs::Formed::taken_fits, crate::specs::Formed::moved_fits, crate::specs::Formed::exchange_fine, crate::specs::Keys::exchange_number))]
+
 ghost use Rattle.std.specs.Prelude.{◌≡◌, ◌≤◌, ◌<◌, ◌&&◌, map, leb};
 ghost use Rattle.formed.specs.Formed.{full_frame, total, blocks_fit, made_fits, direction_fits, wanted_fits, sent_fits, taken_fits, moved_fits, exchange_fine};
 ghost use Rattle.formed.specs.Keys.{exchange_number};
@@ -105,6 +107,7 @@ fn within(n: u32, most: u32) -> bool
 }
 
 // One quotient serves both: the frames that were full, and whether bytes are left past them.
+#[tactic(auto, using(crate::proofs::Advance::sent_whole, crate::proofs::Advance::sent_short, crate::proofs::Advance::sent_all), unfolding(crate::specs::Formed::sent_fits))]
 fn sent_fits(full: u32, e: Exchange) -> bool
     requires { (0 < full) × (full ≤ 2048) }
     ensures { result ≡ sent_fits full e }

@@ -1,5 +1,5 @@
 // Whether a state is well formed: every field is tested, so that any bytes may be handed in.
-#![tactic(auto)]
+#![tactic(auto, unfolding(crate::specs::Keys::key_of, crate::specs::Keys::key_named, crate::specs::Keys::apart_key, crate::specs::Keys::key_fine, crate::specs::Keys::keys_of, crate::specs::Keys::fine_by, crate::specs::Formed::setup_of))]
 
 mod exchange;
 mod login;
@@ -20,7 +20,7 @@ use wire::name_number;
 
 // What a place for a login is known by: `id` is 0 where the place is not fine, 1 where it is free, and from 2 on 2 plus the address of its login;
 // `name` is the number of its port name, and 0 where the place is free. The table is read once, for its keys, and the test of each two places is made on these.
-#[derive(Drop)]
+#[derive(Clone, Copy)]
 pub struct Key {
     pub id: u64,
     pub name: u64,
@@ -35,6 +35,7 @@ pub fn setup_rules(s: Setup) -> bool
 }
 
 // The rules of a setup, by the parts of it that they look at, so that none is made of a unit and a port for them.
+#[tactic(auto, unfolding(crate::specs::Formed::setup_rules))]
 fn rules_keep(capacity: u64, writable: u8, address: u32, accept: &[u8; 112]) -> bool
     ensures { (identity : List ℕ) → result ≡ setup_rules (record { capacity = capacity; address = address; identity = identity; accept = accept.now; writable = writable }) }
 {
@@ -167,6 +168,7 @@ pub fn keys_fine(t: [Key; 8]) -> bool
 }
 
 // The key of a place for a login.
+#[tactic(auto, unfolding(crate::specs::Keys::login_key, crate::specs::Keys::key_of, crate::specs::Formed::login_fine))]
 pub fn login_key(u: Unit, own: u32, l: Login) -> Key
     ensures { result ≡ login_key u own l }
 {

@@ -1,4 +1,6 @@
 // Whether a login keeps the rules: its flags, its address, its stored parameters and its exchanges (document 01, "Well formed").
+#![tactic(auto, unfolding(crate::specs::Formed::flags_fine, crate::specs::Formed::address_fine, crate::specs::Formed::params_fine, crate::specs::Formed::used_fine))]
+
 ghost use Rattle.std.specs.Prelude.{◌≡◌, ◌&&◌, eqb};
 ghost use Rattle.tables.specs.Lists.{all};
 ghost use Rattle.state.specs.Changes.{is_closed};

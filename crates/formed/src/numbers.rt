@@ -1,4 +1,6 @@
 // A table's test by a number for each place: 0 where the place is not fine, 1 where it is free, and from 2 on that of what stands there.
+#![tactic(auto, unfolding(crate::specs::Keys::number_fine))]
+
 ghost use Rattle.std.specs.Prelude.{◌≡◌, ◌<◌, drop};
 ghost use Rattle.tables.specs.Lists.{all};
 ghost use Rattle.formed.specs.Keys.{number_of, apart_number, number_fine, numbers_fine};

@@ -5,7 +5,7 @@ ghost use Rattle.std.specs.Prelude.{◌≡◌};
 ghost use Rattle.refusal.specs.Refusal.{number_of};
 
 // The refusals, in the order of their numbers.
-#[derive(Drop)]
+#[derive(Clone, Copy)]
 pub enum Refusal {
     ShortBuffer,
     IllFormed,
@@ -21,7 +21,7 @@ pub enum Refusal {
 }
 
 // What a call answers: the bytes of its reply, 0 for nothing to send, or the refusal.
-#[derive(Drop)]
+#[derive(Clone, Copy)]
 pub enum Said {
     Sent(usize),
     Refused(Refusal),
