@@ -25,7 +25,7 @@ USED = re.compile(r"^\s*(?:pub |ghost )*use ([^\s{}]+?)(?:\.\{([^}]*)\})?(?: as 
 MADE = re.compile(r"^(returns|loop|invariant|decreases|overflow|slice|array|frame|if|in|else|then|statement)(-|$).*|^.*-(spec|requires|ensures|preserved|invariant)(-[0-9]+)?$")
 
 # lemmas that the general rule would let fall together with a definition
-APART = ["moved_here", "header_of", "moved_on", "turn_in", "on_step", "host-header", "header-bytes", "awaits-fit"]
+APART = ["data_head", "moved_here", "header_of", "moved_on", "turn_in", "on_step", "host-header", "header-bytes", "awaits-fit"]
 
 
 def snake(name):

@@ -102,8 +102,8 @@ module _ (u : Unit) (p : Port) (a x i j k : ℕ) (W : List ℕ) where
   abbrev reply_payload : List ℕ
   reply_payload = payload_at u p a x i j k W
 
-  data_head : DataFrame → Header
-  data_head f = data_head asked f (fill_count (length reply_payload))
+  data_head_lem : DataFrame → Header
+  data_head_lem f = data_head asked f (fill_count (length reply_payload))
 
   pub ready_head : Header
   ready_head = answer_head asked 0x05 0x08 0x890000 0x00
@@ -111,8 +111,8 @@ module _ (u : Unit) (p : Port) (a x i j k : ℕ) (W : List ℕ) where
   response_head : Header
   response_head = answer_head asked 0x07 0x08 0x990000 0x00
 
-  data_bytes_lem : (f : DataFrame) → next_reply (full_of p i) (exchange_of p i j) ≡ Data f → frame_bytes u p a x i j k W ≡ header_bytes (data_head f) ++ filled reply_payload
-  unfolding frame_bytes bytes_of data_head
+  data_bytes_lem : (f : DataFrame) → next_reply (full_of p i) (exchange_of p i j) ≡ Data f → frame_bytes u p a x i j k W ≡ header_bytes (data_head_lem f) ++ filled reply_payload
+  unfolding frame_bytes bytes_of data_head_lem
   data_bytes_lem f e = rw e
 
   pub ready_bytes_lem : (offset burst : ℕ) → next_reply (full_of p i) (exchange_of p i j) ≡ Ready offset burst → frame_bytes u p a x i j k W ≡ header_bytes ready_head ++ ready_bytes offset burst
@@ -132,7 +132,7 @@ module _ (u : Unit) (p : Port) (a x i j k : ℕ) (W : List ℕ) where
   pub data_frame_lem : has_more (exchange_of p i j) ≡ true → is_write (exchange_of p i j) ≡ false
       → frame_bytes u p a x i j k W
       ≡ framed (data_header p.address a x (eqb ((exchange_of p i j).sent + next_bytes (full_of p i) (exchange_of p i j)) (total (exchange_of p i j))) (exchange_of p i j).count (exchange_of p i j).sent) (payload_at u p a x i j k W)
-  unfolding data_head data_head asked_by frame_of filled
+  unfolding data_head_lem data_head asked_by frame_of filled
   data_frame_lem more to = data_bytes_lem (frame_of (full_of p i) (exchange_of p i j)) (sends_reply (full_of p i) (exchange_of p i j) more to)
 
   pub response_frame : (r : Residual) → next_reply (full_of p i) (exchange_of p i j) ≡ Respond (Status 0x00 r)
@@ -142,7 +142,7 @@ module _ (u : Unit) (p : Port) (a x i j k : ℕ) (W : List ℕ) where
 
   -- R_CTL and TYPE tell them apart
   pub data_kind : (f : DataFrame) → next_reply (full_of p i) (exchange_of p i j) ≡ Data f → ((header_of (frame_bytes u p a x i j k W)).r_ctl ≡ 0x01) × ((header_of (frame_bytes u p a x i j k W)).protocol ≡ 0x08)
-  unfolding header_of header_bytes data_head data_head
+  unfolding header_of header_bytes data_head_lem data_head
   data_kind f e = rw (data_bytes_lem f e) (refl, refl)
 
   pub ready_kind : (offset burst : ℕ) → next_reply (full_of p i) (exchange_of p i j) ≡ Ready offset burst
@@ -177,7 +177,7 @@ module _ (u : Unit) (p : Port) (a x i j k : ℕ) (W : List ℕ) where
       by : Kind (exchange_of p i j) → length (frame_bytes u p a x i j k W) ≤ 2072
       by (sends more to) =
           let e = sends_reply (full_of p i) (exchange_of p i j) more to in
-          let n = ap length (data_bytes_lem _ e) ∙ framed_long (data_head _) reply_payload in
+          let n = ap length (data_bytes_lem _ e) ∙ framed_long (data_head_lem _) reply_payload in
           let m = payload_few _ e in
           omega arith
       by (asks more from h) =
@@ -218,8 +218,8 @@ module _ (u : Unit) (p : Port) (a x i j k : ℕ) (W : List ℕ) where
         let s = setup_passes (params_of p.accept 0) in
         small_address p.address (and_right (c && d) v (and_left (c && d && v) s (and_left (c && d && v && s) (leb u.writable 1) (formed_parts w).setup)))
 
-    data_fits : (f : DataFrame) → next_reply (full_of p i) (exchange_of p i j) ≡ Data f → Fits (data_head f)
-    unfolding data_head data_head asked_by frame_of
+    data_fits : (f : DataFrame) → next_reply (full_of p i) (exchange_of p i j) ≡ Data f → Fits (data_head_lem f)
+    unfolding data_head_lem data_head asked_by frame_of
     data_fits f e =
         let own = own_small in
         let to = named_small w o in
@@ -237,8 +237,8 @@ module _ (u : Unit) (p : Port) (a x i j k : ℕ) (W : List ℕ) where
           p = omega arith;
         }
 
-    data_header_lem : (f : DataFrame) → next_reply (full_of p i) (exchange_of p i j) ≡ Data f → header_of (frame_bytes u p a x i j k W) ≡ data_head f
-    data_header_lem f e = ap header_of (data_bytes_lem f e) ∙ read_write (data_head f) (filled reply_payload) (data_fits f e)
+    data_header_lem : (f : DataFrame) → next_reply (full_of p i) (exchange_of p i j) ≡ Data f → header_of (frame_bytes u p a x i j k W) ≡ data_head_lem f
+    data_header_lem f e = ap header_of (data_bytes_lem f e) ∙ read_write (data_head_lem f) (filled reply_payload) (data_fits f e)
 
     -- a header without data: FCP_XFER_RDY's and FCP_RSP's
     answer_fits : (rctl fctl : ℕ) → fctl < 256 ^ 3 → Fits (answer_head asked rctl 0x08 fctl 0x00)
@@ -255,15 +255,15 @@ module _ (u : Unit) (p : Port) (a x i j k : ℕ) (W : List ℕ) where
 
     -- OFFSET and SEQ_CNT of a data frame
     pub data_offset : (f : DataFrame) → next_reply (full_of p i) (exchange_of p i j) ≡ Data f → (header_of (frame_bytes u p a x i j k W)).offset ≡ f.offset
-    unfolding data_head data_head
+    unfolding data_head_lem data_head
     data_offset f e = ap (λ (h : Header). h.offset) (data_header_lem f e)
 
     pub data_count : (f : DataFrame) → next_reply (full_of p i) (exchange_of p i j) ≡ Data f → (header_of (frame_bytes u p a x i j k W)).seq_cnt ≡ f.count
-    unfolding data_head data_head
+    unfolding data_head_lem data_head
     data_count f e = ap (λ (h : Header). h.seq_cnt) (data_header_lem f e)
 
     data_fill : (f : DataFrame) → next_reply (full_of p i) (exchange_of p i j) ≡ Data f → (header_of (frame_bytes u p a x i j k W)).f_ctl % 4 ≡ fill_count (length reply_payload)
-    unfolding data_head data_head
+    unfolding data_head_lem data_head
     data_fill f e = ap (λ (h : Header). h.f_ctl % 4) (data_header_lem f e) ∙ control_fill f.last (fill_count (length reply_payload)) (few_fill (length reply_payload))
 
     -- its payload
@@ -271,12 +271,12 @@ module _ (u : Unit) (p : Port) (a x i j k : ℕ) (W : List ℕ) where
         → take (length (frame_bytes u p a x i j k W) - 24 - (header_of (frame_bytes u p a x i j k W)).f_ctl % 4) (drop 24 (frame_bytes u p a x i j k W)) ≡ payload_at u p a x i j k W
     data_payload f e =
         let fill = (header_of (frame_bytes u p a x i j k W)).f_ctl % 4 in
-        ap (λ (b : List ℕ). take (length b - 24 - fill) (drop 24 b)) (data_bytes_lem f e) ∙ framed_payload (data_head f) reply_payload fill (data_fill f e)
+        ap (λ (b : List ℕ). take (length b - 24 - fill) (drop 24 b)) (data_bytes_lem f e) ∙ framed_payload (data_head_lem f) reply_payload fill (data_fill f e)
 
     -- whatever is sent: D_ID is the address that was named, S_ID ours, and OX_ID the one that was named
     pub frame_addressed : (frame_bytes u p a x i j k W ≡ [] → ⊥)
         → ((header_of (frame_bytes u p a x i j k W)).d_id ≡ a) × ((header_of (frame_bytes u p a x i j k W)).s_id ≡ p.address) × ((header_of (frame_bytes u p a x i j k W)).ox_id ≡ x)
-    unfolding data_head data_head ready_head response_head answer_head asked_by
+    unfolding data_head_lem data_head ready_head response_head answer_head asked_by
     frame_addressed some = by (kind_of (exchange_of p i j))
       where
         by : Kind (exchange_of p i j)
