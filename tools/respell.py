@@ -24,7 +24,7 @@ USED = re.compile(r"^\s*(?:pub |ghost )*use ([^\s{}]+?)(?:\.\{([^}]*)\})?(?: as 
 # what Rattle generates for a function's goals and loops
 MADE = re.compile(r"^(returns|loop|invariant|decreases|overflow|slice|array|frame|if|in|else|then|statement)(-|$).*|^.*-(spec|requires|ensures|preserved|invariant)(-[0-9]+)?$")
 
-# lemmas that the general rule would let fall together with a definition
+# lemmas that the general rule would let fall together with a definition; each is renamed in the crate that declares it alone
 APART = ["data_head", "moved_here", "header_of", "moved_on", "turn_in", "on_step", "host-header", "header-bytes", "awaits-fit"]
 
 
@@ -33,6 +33,10 @@ def snake(name):
         return name
     name = re.sub(r"(?<=[a-z0-9])([A-Z])", lambda m: "_" + m[1].lower(), name) if name[0].islower() else name
     return name.replace("-", "_")
+
+
+def crate_of(path):
+    return path.relative_to(root).parts[1]
 
 
 def texts():
@@ -91,14 +95,16 @@ def main():
     if clash:
         return 1
 
-    def turned(t):
-        return TOKEN.sub(lambda m: rename.get(m[0], m[0]), t)
+    at_home = {(crate_of(p), n) for p in declared for n in declared[p] if n in APART}
+
+    def turned(t, crate):
+        return TOKEN.sub(lambda m: m[0] if m[0] in APART and (crate, m[0]) not in at_home else rename.get(m[0], m[0]), t)
 
     for path, t in text.items():
-        if turned(t) != t:
-            path.write_text(turned(t))
+        if turned(t, crate_of(path)) != t:
+            path.write_text(turned(t, crate_of(path)))
     for path in sorted([*root.glob("wrong/*/*.edit"), *root.glob("crates/*/must-fail/*.edit")]):
-        path.write_text(turned(path.read_text()))
+        path.write_text(turned(path.read_text(), crate_of(path)))
     for path in sorted([root / "README.md", *(root / "docs").rglob("*.md")]):
         t = path.read_text()
         # what port.py has respelled in the code stands in the pages as it was
