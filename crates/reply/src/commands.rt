@@ -1,4 +1,6 @@
 // The payload of FCP_DATA, FCP_XFER_RDY and FCP_RSP, and sense (document 01, "Commands").
+#![tactic(auto, unfolding(crate::specs::Payload::status_bytes, crate::specs::Payload::code_bytes, crate::specs::Payload::sense_bytes, crate::specs::Payload::ready_bytes))]
+
 ghost use Rattle.std.specs.Prelude.{◌≡◌, ◌≤◌, ◌<◌, length};
 ghost use Rattle.wire.specs.Bytes.{Wrote};
 ghost use Rattle.reply.specs.Payload.{residual_flag, residual_size, status_bytes, sense_with, sense_bytes, response_bytes, data_bytes, ready_bytes};

@@ -1,4 +1,6 @@
 // The header of each reply (document 01, "Header and reply headers").
+#![tactic(auto, unfolding(crate::specs::Reply::answer_head, crate::specs::Reply::logout_head, crate::specs::Reply::data_head))]
+
 ghost use Rattle.std.specs.Prelude.{◌≡◌, ◌<◌, cond};
 ghost use Rattle.reply.specs.Reply.{answer_head, logout_head, data_head, head_of};
 

@@ -1,4 +1,6 @@
 // What the drive answers, as numbers, and the one writer of it.
+#![tactic(auto)]
+
 mod commands;
 mod heads;
 mod services;
@@ -17,7 +19,7 @@ use state::Own;
 use wire::put_fill;
 
 // The kinds of ACC: of 4 bytes, to PLOGI and PDISC, to ADISC, to PRLI, to PRLO.
-#[derive(Drop)]
+#[derive(Clone, Copy)]
 pub enum Accepted {
     Short,
     Login,
@@ -27,14 +29,14 @@ pub enum Accepted {
 }
 
 // How far the bytes wanted are from those that the host expects: as many, more, or fewer by a size.
-#[derive(Drop)]
+#[derive(Clone, Copy)]
 pub enum Residual {
     Exact,
     Over(u32),
     Under(u32),
 }
 
-#[derive(Drop)]
+#[derive(Clone, Copy)]
 pub struct Sense {
     pub first: u8,
     pub key: u8,
@@ -44,7 +46,7 @@ pub struct Sense {
 }
 
 // FCP_RSP: a response code, a status, or a status with sense.
-#[derive(Drop)]
+#[derive(Clone, Copy)]
 pub enum Response {
     Code(u8),
     Status(u8, Residual),
@@ -52,7 +54,7 @@ pub enum Response {
 }
 
 // A data frame: its place among the exchange's bytes and frames, how many bytes it takes from the source.
-#[derive(Drop)]
+#[derive(Clone, Copy)]
 pub struct DataFrame {
     pub offset: u32,
     pub count: u16,
@@ -60,7 +62,7 @@ pub struct DataFrame {
     pub last: bool,
 }
 
-#[derive(Drop)]
+#[derive(Clone, Copy)]
 pub enum Reply {
     Nothing,
     Accept(Accepted),
@@ -78,7 +80,7 @@ pub enum Reply {
 }
 
 // The bytes of a payload, and of the zeros after it.
-#[derive(Drop)]
+#[derive(Clone, Copy)]
 pub struct Sizes {
     pub payload: usize,
     pub fill: usize,
@@ -86,6 +88,7 @@ pub struct Sizes {
 
 // Writes a reply to the frame with header h at the front of the buffer, its data taken from the source, and answers its length.
 // A buffer under 2,136 bytes is left alone.
+#[tactic(auto, unfolding(crate::specs::Reply::sent_of, crate::specs::Reply::written_of))]
 pub fn write(o: Own, h: Header, r: Reply, source: &[u8], reply: &mut [u8]) -> usize
     ensures value { result ≡ sent_of o h r source.now (length reply.old) }
     ensures reply_after { reply.new ≡ written_of o h r source.now reply.old }

@@ -1,4 +1,6 @@
 // The payload of each answer to a link service and to ABTS (document 01, "Link services").
+#![tactic(auto, unfolding(crate::specs::Payload::short_bytes, crate::specs::Payload::login_bytes, crate::specs::Payload::address_bytes, crate::specs::Payload::pair_bytes, crate::specs::Payload::unpair_bytes, crate::specs::Payload::reject_bytes, crate::specs::Payload::logout_bytes, crate::specs::Payload::abort_accept_bytes, crate::specs::Payload::abort_reject_bytes))]
+
 ghost use Rattle.std.specs.Prelude.{◌≤◌, length};
 ghost use Rattle.wire.specs.Bytes.{Wrote};
 ghost use Rattle.reply.specs.Payload.{short_bytes, login_bytes, address_bytes, pair_bytes, unpair_bytes, accepted_bytes, reject_bytes, logout_bytes, abort_accept_bytes, abort_reject_bytes};
