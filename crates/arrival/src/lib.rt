@@ -1,4 +1,6 @@
 // What arrived: a frame in is refused by the first of the numbers 2 to 7 that fits it, or it is of one of five forms.
+#![tactic(auto)]
+
 ghost use Rattle.std.specs.Prelude.{◌≡◌, ◌&&◌, not};
 ghost use Rattle.arrival.specs.Arrival.{bad_size, bad_source, known_pair, bad_sequence, unknown_form, spared, form_of, judged_by};
 

@@ -1,5 +1,7 @@
 // What an FCP_CMND answers and what it stores: no paired login, the task flags, and the tests of a command in their order.
 // Values are decided here, no byte is written.
+#![tactic(auto)]
+
 mod opened;
 mod tasks;
 mod tests;

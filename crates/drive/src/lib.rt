@@ -1,4 +1,6 @@
 // The drive: made from a setup, handed frames, asked for the next ones, told of events. Every entry answers what it said beside the drive, which a refusal leaves as it was.
+#![tactic(auto)]
+
 ghost use Rattle.std.specs.Prelude.{◌≡◌, length};
 ghost use Rattle.drive.specs.Drive.{refused, made_from, no_drive, new_answer, change_of, event_answer};
 ghost use Rattle.drive.specs.Entry.{frame_in, frame_in_buffer, frame_in_window};

@@ -1,4 +1,6 @@
 // What each link service answers and what it stores. Values are decided here, no byte is written.
+#![tactic(auto)]
+
 mod on_login;
 
 ghost use Rattle.std.specs.Prelude.{◌≡◌, ◌<◌};

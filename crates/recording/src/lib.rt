@@ -1,4 +1,6 @@
 // What the program recorder makes of a record: the call that it is, told to the drive, and the bytes of the answer.
+#![tactic(auto)]
+
 mod lines;
 
 ghost use Rattle.std.specs.Prelude.{◌≡◌, ◌≤◌, length};

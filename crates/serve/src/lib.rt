@@ -1,4 +1,6 @@
 // The next frame of an open exchange: its data frames one after the other, of a WRITE its FCP_XFER_RDYs, and then its FCP_RSP.
+#![tactic(auto)]
+
 ghost use Rattle.std.specs.Prelude.{◌≡◌, ◌-◌, ◌≤◌, length, drop};
 ghost use Rattle.state.specs.Kinds.{is_write};
 ghost use Rattle.reply.specs.Payload.{sense_bytes};

@@ -1,4 +1,6 @@
 // What a data frame comes to, for an open WRITE of its sender (document 02, request 2): it is refused, a fault ends the exchange, or its bytes go into the lent window.
+#![tactic(auto)]
+
 ghost use Rattle.std.specs.Prelude.{◌≡◌, [], ◌+◌, ◌<◌, cond, eqb, ltb, length};
 ghost use Rattle.wire.specs.Bytes.{over};
 ghost use Rattle.state.specs.Changes.{exchange_at, with_exchange};
