@@ -1,5 +1,5 @@
 // What arrived: a frame in is refused by the first of the numbers 2 to 7 that fits it, or it is of one of five forms.
-#![tactic(auto)]
+#![tactic(auto, unfolding(crate::specs::Arrival::bad_size, crate::specs::Arrival::bad_source, crate::specs::Arrival::known_pair, crate::specs::Arrival::bad_sequence, crate::specs::Arrival::unknown_form, crate::specs::Arrival::spared, crate::specs::Arrival::form_of, crate::specs::Arrival::judged_by))]
 
 ghost use Rattle.std.specs.Prelude.{◌≡◌, ◌&&◌, not};
 ghost use Rattle.arrival.specs.Arrival.{bad_size, bad_source, known_pair, bad_sequence, unknown_form, spared, form_of, judged_by};
@@ -10,7 +10,7 @@ use refusal::Refusal;
 use wire::{byte_at, less};
 
 // The forms of the frames that are taken: a request to the link services, the answer to one, ABTS, FCP_CMND, and FCP_DATA.
-#[derive(Drop)]
+#[derive(Clone, Copy)]
 pub enum Form {
     Link,
     Done,
@@ -19,7 +19,7 @@ pub enum Form {
     Data,
 }
 
-#[derive(Drop)]
+#[derive(Clone, Copy)]
 pub enum Judged {
     Refused(Refusal),
     Passed(Form),
