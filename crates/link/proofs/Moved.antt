@@ -11,7 +11,6 @@ use Rattle.frame.specs.declared.Header.{Header}
 use Rattle.params.specs.declared.Verdict.{Verdict}
 use Rattle.params.specs.declared.Verdict.TheVariants as verdict
 use Rattle.params.specs.Words.{params_of, verdict_of}
-use Rattle.state.specs.declared.Login.{Login}
 use Rattle.state.specs.declared.Port.{Port}
 use Rattle.state.specs.declared.Change.TheVariants.{EndLogin, EndHost}
 use Rattle.state.specs.Changes.{empty_login, is_used, has_address, has_name, with_login, ended_of, host_ended}

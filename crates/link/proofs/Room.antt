@@ -14,7 +14,7 @@ use Rattle.tables.proofs.Searches.{found_below, missed}
 use Rattle.state.specs.declared.Login.{Login}
 use Rattle.state.specs.declared.Port.{Port}
 use Rattle.state.specs.declared.Change.TheVariants.{EndHost}
-use Rattle.state.specs.Changes.{empty_login, is_used, has_address, has_name, is_host, login_at, host_ended, with_logins, changed_all}
+use Rattle.state.specs.Changes.{empty_login, has_address, has_name, is_host, login_at, host_ended, with_logins, changed_all}
 use Rattle.state.specs.Tables.{is_free, find_login, free_login, login_in, login_of}
 
 module _ (a n : ℕ) where

@@ -1,5 +1,5 @@
 // What each link service answers and what it stores. Values are decided here, no byte is written.
-#![tactic(auto)]
+#![tactic(auto, unfolding(crate::specs::Link::size_of, crate::specs::Link::new_login, crate::specs::Turn::outcome_in, crate::specs::Turn::logo_turn, crate::specs::Turn::aborted_login, crate::specs::Turn::abts_turn))]
 
 mod on_login;
 
@@ -18,13 +18,14 @@ use tables::Found;
 use wire::{be24, byte_at, name_number};
 
 // What becomes of a PLOGI: the place of its login, or why it is rejected.
-#[derive(Drop)]
+#[derive(Clone, Copy)]
 pub enum Outcome {
     Place(usize),
     Rejected(u8, u8),
 }
 
 // A request to the link services: other code, wrong size, PLOGI, LOGO, no login, and then the services on the sender's login.
+#[tactic(auto, using(crate::proofs::Ways::other_code, crate::proofs::Ways::wrong_size, crate::proofs::Ways::plogi_way, crate::proofs::Ways::logo_way, crate::proofs::Ways::no_seat))]
 pub fn link(v: View, h: Header, frame: &[u8]) -> Decision
     ensures { result ≡ link_turn v h frame.now }
 {
@@ -97,6 +98,7 @@ fn size_of(code: u8) -> usize
 
 // PLOGI: ends the sender's login first, accepted or not; the word tests in their order; where they pass the login of its port name ends, wherever it stands;
 // then the room test.
+#[tactic(auto, using(crate::proofs::Ways::plogi_rejected, crate::proofs::Ways::plogi_placed))]
 fn plogi(keys: [Key; 8], from: u32, q: Params) -> Decision
     ensures { result ≡ plogi_turn keys from q }
 {

@@ -1,4 +1,6 @@
 // The services on the sender's login: PDISC, ADISC, PRLI, PRLO and RRQ (document 01, "Link services").
+#![tactic(auto, unfolding(crate::specs::Link::names_differ, crate::specs::Link::pdisc_of, crate::specs::Link::adisc_of, crate::specs::Link::page_fine, crate::specs::Link::pair_fine, crate::specs::Link::prli_of, crate::specs::Link::prlo_of, crate::specs::Link::rrq_of, crate::specs::Link::service_of))]
+
 ghost use Rattle.std.specs.Prelude.{◌≡◌};
 ghost use Rattle.tables.specs.Lists.{same};
 ghost use Rattle.state.specs.Tables.{find_exchange};
