@@ -20,7 +20,7 @@ use Rattle.state.specs.Kinds.{kind_blocks, is_write}
 use Rattle.state.specs.Tables.{lookup_of}
 use Rattle.formed.specs.Formed.{total, next_bytes, well_formed}
 use Rattle.formed.proofs.Advance.{Reads, sending, is_read, then_sent}
-use Rattle.serve.specs.Next.{has_more, reads_more, position, place_of, frame_of, next_reply, exchange_of, full_of, Frame, step_of, next_of}
+use Rattle.serve.specs.Next.{has_more, reads_more, position, place_of, frame_of, exchange_of, full_of, Frame, step_of, next_of}
 use Rattle.serve.specs.Whole.{piece, ends, Ends}
 use Rattle.serve.proofs.Steps.{Passed, given}
 use Rattle.serve.proofs.Asking.{sends_reply, ends_reply}

@@ -1,5 +1,5 @@
 // The next frame of an open exchange: its data frames one after the other, of a WRITE its FCP_XFER_RDYs, and then its FCP_RSP.
-#![tactic(auto)]
+#![tactic(auto, unfolding(crate::specs::Made::inquiry_first, crate::specs::Made::capacity_bytes, crate::specs::Made::sense_of, crate::specs::Made::made_bytes, crate::specs::Next::has_more, crate::specs::Next::reads_more, crate::specs::Next::place_of, crate::specs::Next::window_place, crate::specs::Next::frame_of, crate::specs::Next::ready_reply, crate::specs::Next::next_reply, crate::specs::Next::next_exchange, crate::specs::Next::source_of, crate::specs::Next::asked_by))]
 
 ghost use Rattle.std.specs.Prelude.{◌≡◌, ◌-◌, ◌≤◌, length, drop};
 ghost use Rattle.state.specs.Kinds.{is_write};
@@ -26,6 +26,7 @@ use wire::{bytes4, least, put_at, put_front};
 
 // The next frame of the exchange of an address and an OX_ID, from a window of the unit's bytes that starts at a block; v is what a call of that address sees.
 // Refused by the first of 9, 7, 10 that fits. A buffer under 2,136 bytes is left alone, and whether the state is well formed is the caller's to tell.
+#[tactic(auto, unfolding(crate::specs::Turn::next_turn, crate::specs::Turn::next_turn_buffer))]
 pub fn next(v: View, address: u32, ox_id: u16, start: u64, window: &[u8], reply: &mut [u8]) -> Turn
     ensures value { result ≡ next_turn v address ox_id start window.now (length reply.old) }
     ensures reply_after { reply.new ≡ next_turn_buffer v address ox_id start window.now reply.old }
@@ -300,6 +301,7 @@ fn sense_of(kind: u16) -> Sense
 }
 
 // The 18 bytes of a sense.
+#[tactic(auto, unfolding(reply::specs::Payload::sense_bytes, wire::specs::Bytes::onto))]
 fn sense_bytes(s: Sense) -> [u8; 18]
     ensures { result ≡ sense_bytes s }
 {
