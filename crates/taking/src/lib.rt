@@ -65,6 +65,7 @@ pub fn data_turn(
 }
 
 // What a frame of this size with header h comes to as a data frame of the login l, at a window of len bytes that starts at a block.
+#[tactic(auto, using(crate::proofs::Ways::step_none, crate::proofs::Ways::step_covered, crate::proofs::Ways::step_fault))]
 fn step_in(l: Login, h: Header, size: usize, start: u64, len: usize) -> Step
     ensures { result ≡ step_in l h size start len }
 {
@@ -117,6 +118,7 @@ fn data_size(h: Header, size: usize) -> usize
 }
 
 // The place of a login's open WRITE of this OX_ID.
+#[tactic(auto, using(crate::proofs::Ways::write_none, crate::proofs::Ways::write_found, crate::proofs::Ways::write_other))]
 fn find_write(l: Login, ox_id: u16) -> Found
     ensures { result ≡ find_write l ox_id }
 {
@@ -132,6 +134,7 @@ fn find_write(l: Login, ox_id: u16) -> Found
 }
 
 // RSP_CODE for a data frame of n bytes at an offset; 0 is no fault.
+#[tactic(auto, using(crate::proofs::Ways::fault_offset, crate::proofs::Ways::fault_past, crate::proofs::Ways::fault_none))]
 fn fault_of(e: Exchange, offset: u32, n: usize) -> u8
     ensures { result ≡ fault_of e offset n }
 {
@@ -158,6 +161,7 @@ fn is_past(end: u64, offset: u32, n: usize) -> bool
 }
 
 // The end of the burst that was last asked for; where no data are awaited that of what was sent.
+#[tactic(auto, using(crate::proofs::Ways::burst_total, crate::proofs::Ways::burst_full, crate::proofs::Ways::burst_none))]
 fn burst_end(e: Exchange) -> u64
     ensures { (result ≡ burst_end e) × (result < 4294967297) }
 {
@@ -172,6 +176,7 @@ fn burst_end(e: Exchange) -> u64
 }
 
 // Where the n bytes begin in the window, if it holds them.
+#[tactic(auto, using(crate::proofs::Ways::covered_not, crate::proofs::Ways::covered_at))]
 fn covered_step(e: Exchange, j: usize, n: usize, start: u64, len: usize) -> Step
     ensures { result ≡ covered_step e j n start len }
 {
@@ -182,6 +187,7 @@ fn covered_step(e: Exchange, j: usize, n: usize, start: u64, len: usize) -> Step
 }
 
 // The exchange after n bytes more; data are awaited until the burst's end.
+#[tactic(auto, using(crate::proofs::Ways::taken_is))]
 fn taken_on(e: Exchange, n: usize) -> Exchange
     ensures { result ≡ taken_on e n }
 {
@@ -190,6 +196,7 @@ fn taken_on(e: Exchange, n: usize) -> Exchange
 }
 
 // Whether data are awaited after n bytes more: 1 short of the burst's end.
+#[tactic(auto, using(crate::proofs::Ways::awaited_past, crate::proofs::Ways::awaited_end, crate::proofs::Ways::awaited_short))]
 fn awaited_after(e: Exchange, n: usize) -> u8
     ensures { result ≡ cond (eqb (e.sent + n) (burst_end e)) 0 1 }
 {
