@@ -2,7 +2,8 @@
 .PHONY: all test lib fmt sizes wrong soak mutants peers bench
 
 all:
-	rt check
+	rt all check
+	ship/programs
 	bin/judges < samples/four.logins
 	samples/show samples/session.calls
 
@@ -14,9 +15,9 @@ lib:
 	ship/library
 
 fmt:
-	rt fmt
+	for crate in crates/*/; do (cd $$crate && rt fmt) || exit; done
 
-# what each crate holds, its lines, and the seconds of its last proof
+# what each crate holds, and its lines
 sizes:
 	tests/sizes
 
@@ -28,7 +29,7 @@ wrong:
 N ?= 1000000
 SEED ?= 1
 soak:
-	rt check recorder
+	ship/programs recorder
 	tests/histories $(N) $(SEED) --progress
 
 # one-place mutants of the model, each to be told apart by the histories
@@ -37,7 +38,7 @@ mutants:
 
 # real software before the drive: Linux in QEMU, tshark, sg3-utils; it installs Debian packages, and is no part of the gate
 peers:
-	rt check recorder vectors
+	ship/programs recorder vectors
 	tests/peers/run
 
 # every kind of call timed beside the model and memcpy, in one table: bench/README.md

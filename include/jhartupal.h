@@ -15,9 +15,8 @@
  * - what is lent to one call does not overlap: neither the buffers each other, nor any of them *d, nor *setup *d.
  *
  * The functions are in libjhartupal.a (make lib), for x86-64 and for 64-bit Arm (aarch64). What they rest on: the prover has checked that the
- * Rattle code of each meets its contract for every state and all input; rattle made one LLVM module of this code; LLVM's back end made machine
- * code of the module. The archive for x86-64 is the kit's own. For Arm the same module, with Arm's layout named in place of x86-64's, went
- * through the same LLVM's back end for Arm. Prover, rattle and LLVM are assumed to be right; the tests run the archives.
+ * Rattle code of each meets its contract for every state and all input; rattle made an LLVM module of this code; LLVM's back end made machine
+ * code of the module, for x86-64 and for Arm by one LLVM. Prover, rattle and LLVM are assumed to be right; the tests run the archive for x86-64.
  *
  * Either is an ELF archive of position independent code without data of its own, and needs of its surroundings:
  * - the calling convention of its machine: System V AMD64, or AAPCS64;

@@ -23,8 +23,7 @@ use tables::Found;
 use window::{data_turn, next_turn};
 
 // Makes a drive in the lent state, from a setup.
-#[unsafe(no_mangle)]
-pub extern "C" fn jhartupal_make(d: &mut Drive, setup: &Setup) -> u64
+pub fn jhartupal_make(d: &mut Drive, setup: &Setup) -> u64
     ensures { Tells (make_answer d.old setup.now) result d.new }
 {
     let a = make(*d, *setup);
@@ -33,8 +32,7 @@ pub extern "C" fn jhartupal_make(d: &mut Drive, setup: &Setup) -> u64
 }
 
 // A frame in, with a window for the data of a WRITE.
-#[unsafe(no_mangle)]
-pub extern "C" fn jhartupal_frame(
+pub fn jhartupal_frame(
     d: &mut Drive,
     frame: &[u8],
     start: u64,
@@ -68,8 +66,7 @@ pub extern "C" fn jhartupal_frame(
 }
 
 // The next frame out of an exchange, from a window.
-#[unsafe(no_mangle)]
-pub extern "C" fn jhartupal_next(
+pub fn jhartupal_next(
     d: &mut Drive,
     address: u32,
     ox_id: u16,
@@ -90,8 +87,7 @@ pub extern "C" fn jhartupal_next(
 }
 
 // The loop was reset.
-#[unsafe(no_mangle)]
-pub extern "C" fn jhartupal_loop_reset(d: &mut Drive) -> u64
+pub fn jhartupal_loop_reset(d: &mut Drive) -> u64
     ensures { Tells (event_answer d.old LoopReset) result d.new }
 {
     let s = sight(&mut d.port, d.unit);
@@ -100,8 +96,7 @@ pub extern "C" fn jhartupal_loop_reset(d: &mut Drive) -> u64
 }
 
 // The verification time is over.
-#[unsafe(no_mangle)]
-pub extern "C" fn jhartupal_time_over(d: &mut Drive) -> u64
+pub fn jhartupal_time_over(d: &mut Drive) -> u64
     ensures { Tells (event_answer d.old TimeOver) result d.new }
 {
     let s = sight(&mut d.port, d.unit);
@@ -110,8 +105,7 @@ pub extern "C" fn jhartupal_time_over(d: &mut Drive) -> u64
 }
 
 // The drive powers on.
-#[unsafe(no_mangle)]
-pub extern "C" fn jhartupal_power_on(d: &mut Drive) -> u64
+pub fn jhartupal_power_on(d: &mut Drive) -> u64
     ensures { Tells (event_answer d.old PowerOn) result d.new }
 {
     let s = sight(&mut d.port, d.unit);
