@@ -1,4 +1,6 @@
 // What the program judges says of a login record: the judgement, and its line of text.
+#![tactic(auto)]
+
 ghost use Rattle.std.specs.Prelude.{◌≡◌, ◌≤◌, ◌<◌, length};
 ghost use Rattle.params.specs.Words.{reason_of};
 ghost use Rattle.wire.specs.Bytes.{Wrote};
@@ -10,7 +12,7 @@ use params::{Fault, Params, Verdict};
 use saying::{Line, put_decimal};
 use wire::{byte_at, put_front};
 
-#[derive(Drop)]
+#[derive(Clone, Copy)]
 pub enum Judgement {
     Accept,
     Reject(Fault),
@@ -19,6 +21,7 @@ pub enum Judgement {
 }
 
 // The judgement of a login record against an empty drive; of fewer than 116 bytes, how many there are.
+#[tactic(auto, unfolding(crate::specs::Judgement::judgement_of))]
 pub fn judge(login: &[u8]) -> Judgement
     ensures { result ≡ judgement_of login.now }
 {
@@ -76,6 +79,7 @@ fn put_not_plogi(out: &mut [u8]) -> usize
     11
 }
 
+#[tactic(auto, unfolding(crate::specs::Text::reject_text))]
 fn put_reject(f: Fault, out: &mut [u8]) -> usize
     ensures { Wrote (reject_text (reason_of f).reason (reason_of f).explanation) out.old out.new result 28 }
 {
@@ -114,6 +118,7 @@ fn put_short(n: usize, out: &mut [u8]) -> usize
 }
 
 // A digit below 16 in upper case.
+#[tactic(auto, unfolding(crate::specs::Text::hex_digit))]
 fn hex_digit(d: u8) -> u8
     requires { d < 16 }
     ensures { result ≡ hex_digit d }

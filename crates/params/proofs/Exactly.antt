@@ -1,7 +1,7 @@
 -- Accepted exactly when no test fails, and rejected by a test exactly when it is the first that fails.
 -- Assumes nothing.
 use mathlib.Core.Path.{◌≡◌}
-use mathlib.Core.Bool.{true, false}
+use mathlib.Core.Bool.{false}
 use Prim.Native.Nat.{ℕ}
 use native.Mathlib.Omega.{arith}
 use Rattle.tables.specs.Firsts.{NoneOf, IsFirst}

@@ -7,7 +7,7 @@ ghost use Rattle.params.specs.Words.{params_of, size_fails, zero_name, verdict_o
 use wire::{be16, byte_at, name_at};
 
 // What the word tests look at. W and B are word and byte of the payload.
-#[derive(Drop)]
+#[derive(Clone, Copy)]
 pub struct Params {
     // W2/B2-3, low 12 bits: the buffer-to-buffer receive size
     pub buffer: u16,
@@ -26,7 +26,7 @@ pub struct Params {
 }
 
 // The test that fails first, named after the field that it looks at.
-#[derive(Drop)]
+#[derive(Clone, Copy)]
 pub enum Fault {
     BufferSize,
     PortName,
@@ -37,14 +37,14 @@ pub enum Fault {
     OpenSequences,
 }
 
-#[derive(Drop)]
+#[derive(Clone, Copy)]
 pub enum Verdict {
     Accept,
     Reject(Fault),
 }
 
 // Why a login is rejected, as LS_RJT has it.
-#[derive(Drop)]
+#[derive(Clone, Copy)]
 pub struct Reason {
     pub reason: u8,
     pub explanation: u8,
@@ -58,6 +58,7 @@ impl Params {
     pub const SETUP_SEQUENCES: u8 = 1;
 
     // The parameters of a slice in which word 1 starts at a place: 4 in a payload, 28 in a frame, 0 in a setup's words.
+    #[tactic(auto, unfolding(crate::specs::Words::params_of))]
     pub fn read(s: &[u8], word1: u8) -> Params
         ensures { result ≡ params_of s.now word1 }
     {
@@ -76,6 +77,7 @@ impl Params {
     }
 
     // The word tests in word order: accepted, or rejected by the first test that fails.
+    #[tactic(auto, unfolding(crate::specs::Words::verdict_of))]
     pub fn verdict(self) -> Verdict
         ensures { result ≡ verdict_of self }
     {
@@ -106,6 +108,7 @@ impl Params {
     }
 
     // Whether a setup may have these in its accept words: the same tests, and W20/B1 = 01h.
+    #[tactic(auto, unfolding(crate::specs::Words::setup_passes))]
     pub fn pass_setup(self) -> bool
         ensures { result ≡ setup_passes self }
     {
@@ -150,6 +153,7 @@ impl Fault {
 }
 
 // Whether a receive size is not from 256 to 2,112 or no multiple of 4. One test for W2 and W18.
+#[tactic(auto, unfolding(crate::specs::Words::size_fails))]
 pub fn size_fails(n: u16) -> bool
     ensures { result ≡ size_fails n }
 {
@@ -163,6 +167,7 @@ pub fn size_fails(n: u16) -> bool
 }
 
 // Whether a name is zero. One test for the port name and the node name.
+#[tactic(auto, unfolding(crate::specs::Words::zero_name))]
 pub fn zero_name(name: [u8; 8]) -> bool
     ensures { result ≡ zero_name name }
 {

@@ -1,4 +1,6 @@
 // Lines of text that the programs write: a record's number in decimal, and what a program says where it ends.
+#![tactic(auto)]
+
 ghost use Rattle.std.specs.Prelude.{◌≤◌, length};
 ghost use Rattle.wire.specs.Bytes.{Wrote};
 ghost use Rattle.saying.specs.Text.{decimal, LineIs};
@@ -7,14 +9,14 @@ ghost use Rattle.saying.specs.Ends.{name_text, why_text, end_text};
 use wire::{least, put_front};
 
 // A line of text: its bytes stand at the front, zeros after them.
-#[derive(Drop)]
+#[derive(Clone, Copy)]
 pub struct Line {
     pub bytes: [u8; 96],
     pub len: usize,
 }
 
 // Why a program ends at a record: the input was over before it, it is cut, it could not be read, or what is said of it could not be written.
-#[derive(Drop)]
+#[derive(Clone, Copy)]
 pub enum End {
     Over,
     Cut,
@@ -44,6 +46,7 @@ pub fn end_line(name: &[u8], number: u64, end: End) -> Line
     }
 }
 
+#[tactic(auto, using(wire::proofs::Fronts::onto_nil))]
 fn put_end(name: &[u8], number: u64, end: End, out: &mut [u8]) -> usize
     requires { 96 ≤ length out.old }
     ensures { Wrote (end_text name.now number end) out.old out.new result 81 }
