@@ -10,30 +10,35 @@
 // After that of a D stand all bytes of its window as they are after the call, after a refusal too.
 // What is no call is answered with 255. A record that is cut has no answer and ends the program.
 // Where it cannot go on it says so on standard error, with the record's number.
+#![tactic(auto)]
+
 ghost use Rattle.io.specs.Counts.{IsPrefixLen};
 
-use libc::{STDERR_FILENO, STDOUT_FILENO};
 use recording::{Line, rest_of, start, tell};
 use saying::{End, end_line};
+use std::io::Write;
 
 // A proved loop has to end and the input need not, so the records are counted up to a number that no run reaches.
-fn main() {
+fn main(rt: HostRuntime) {
+    let mut input = rt.stdin();
+    let mut output = rt.stdout();
+    let mut errors = rt.stderr();
     let mut s = start();
     let mut number: u64 = 0;
     while number < u64::MAX {
         number += 1;
         let mut body = [0u8; 70000];
-        let r = records::next(&mut body);
+        let r = records::next(&mut input, &mut body);
         if r.over {
             let e = r.end;
-            stop(number, e);
+            stop(&mut errors, number, e);
             return;
         }
         let len = r.len;
         let from = rest_of(s, r.letter, &body[..len]);
         let t = tell(s, r.letter, &mut body[..len]);
-        if !say(t.line, &body[from..len]) {
-            stop(number, End::Unwritten);
+        if !say(&mut output, t.line, &body[from..len]) {
+            stop(&mut errors, number, End::Unwritten);
             return;
         }
         s = t.session;
@@ -41,22 +46,22 @@ fn main() {
 }
 
 // Writes the answer and what follows it at once, and answers whether they were taken.
-fn say(l: Line, rest: &[u8]) -> bool
+fn say(output: &mut impl Write, l: Line, rest: &[u8]) -> bool
     requires { IsPrefixLen l.len l.bytes }
 {
     let bytes = l.bytes;
     let len = l.len;
-    if io::write_all(STDOUT_FILENO, &bytes[..len]) {
-        io::write_all(STDOUT_FILENO, rest)
+    if output.write_all(&bytes[..len]).is_ok() {
+        output.write_all(rest).is_ok()
     } else {
         false
     }
 }
 
 // Says why it ends, unless its input is over.
-fn stop(number: u64, end: End) {
+fn stop(errors: &mut impl Write, number: u64, end: End) {
     let line = end_line(b"recorder", number, end);
     let bytes = line.bytes;
     let len = line.len;
-    io::write_all(STDERR_FILENO, &bytes[..len]);
+    let _ = errors.write_all(&bytes[..len]);
 }

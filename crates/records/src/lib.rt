@@ -1,9 +1,11 @@
-// Records from standard input: a letter, a length of four bytes, big-endian, and a body of that length.
+// Records from a reader, which the programs take to be standard input: a letter, a length of four bytes, big-endian, and a body of that length.
+#![tactic(auto)]
+
 ghost use Rattle.std.specs.Prelude.{◌≡◌, ◌+◌, ◌≤◌, eqb, length};
 ghost use Rattle.io.specs.Counts.{IsPrefixLen};
 
-use libc::STDIN_FILENO;
 use saying::End;
+use std::io::Read;
 use wire::{be32, byte_at, least};
 
 // What was read into a lent buffer: how many bytes, and whether they are all that it has. Where they are not, a read failed or the input has ended.
@@ -30,14 +32,14 @@ struct Got {
     failed: bool,
 }
 
-// Fills the lent buffer from standard input, as far as that goes.
-pub fn fill(buf: &mut [u8]) -> Filled
+// Fills the lent buffer from the input, as far as that goes.
+pub fn fill<R: Read>(input: &mut R, buf: &mut [u8]) -> Filled
     ensures prefix_len { IsPrefixLen result.len buf.new }
     ensures whole_value { result.whole ≡ eqb result.len (length buf.new) }
 {
     let mut done = 0;
     while done < buf.len() {
-        let g = read_on(done, buf);
+        let g = read_on(input, done, buf);
         if g.len == 0 {
             return Filled {
                 len: done,
@@ -54,39 +56,39 @@ pub fn fill(buf: &mut [u8]) -> Filled
     }
 }
 
-// One read into the buffer from a place on.
-fn read_on(from: usize, buf: &mut [u8]) -> Got
+// One read into the buffer from a place on. A read that a signal interrupts has failed.
+fn read_on<R: Read>(input: &mut R, from: usize, buf: &mut [u8]) -> Got
     requires { from ≤ length buf.old }
     ensures { from + result.len ≤ length buf.new }
 {
-    let got = libc::read(STDIN_FILENO, &mut buf[from..]);
-    let more = io::count(got, &buf[from..]);
+    let got = input.read(&mut buf[from..]);
+    let failed = got.is_err();
     Got {
-        len: more,
-        failed: got < 0,
+        len: got.unwrap_or(0),
+        failed: failed,
     }
 }
 
 // Takes the next record, and puts its body at the front of the lent buffer. A body that is longer is passed over, and letter 0 stands for its record.
-pub fn next(body: &mut [u8]) -> Record
+pub fn next<R: Read>(input: &mut R, body: &mut [u8]) -> Record
     ensures { IsPrefixLen result.len body.new }
 {
     let mut head = [0u8; 5];
-    let f = fill(&mut head);
+    let f = fill(input, &mut head);
     if !f.whole {
         return none(f.failed, f.len > 0);
     }
-    headed(&head, body)
+    headed(input, &head, body)
 }
 
-fn headed(head: &[u8], body: &mut [u8]) -> Record
+fn headed<R: Read>(input: &mut R, head: &[u8], body: &mut [u8]) -> Record
     ensures { IsPrefixLen result.len body.new }
 {
     let size = be32(head, 1) as usize;
     if size > body.len() {
-        return passed(size);
+        return passed(input, size);
     }
-    let f = read_body(size, body);
+    let f = read_body(input, size, body);
     let n = f.len;
     if !f.whole {
         return none(f.failed, true);
@@ -100,10 +102,10 @@ fn headed(head: &[u8], body: &mut [u8]) -> Record
 }
 
 // Passes over a body of this many bytes.
-fn passed(size: usize) -> Record
+fn passed<R: Read>(input: &mut R, size: usize) -> Record
     ensures { result.len ≡ 0 }
 {
-    let f = skip(size);
+    let f = skip(input, size);
     if !f.whole {
         return none(f.failed, true);
     }
@@ -136,19 +138,19 @@ fn empty(over: bool, end: End) -> Record
 }
 
 // Reads this many bytes, or as many as the buffer has.
-fn read_body(size: usize, body: &mut [u8]) -> Filled
+fn read_body<R: Read>(input: &mut R, size: usize, body: &mut [u8]) -> Filled
     ensures { IsPrefixLen result.len body.new }
 {
     let n = least(size, body.len());
-    fill(&mut body[..n])
+    fill(input, &mut body[..n])
 }
 
 // Reads this many bytes and drops them.
-fn skip(size: usize) -> Filled {
+fn skip<R: Read>(input: &mut R, size: usize) -> Filled {
     let mut left = size;
     while left > 0 {
         let n = least(left, 4096);
-        let f = read_away(n);
+        let f = read_away(input, n);
         if !f.whole {
             return f;
         }
@@ -162,7 +164,7 @@ fn skip(size: usize) -> Filled {
 }
 
 // Reads at most 4,096 bytes and drops them.
-fn read_away(n: usize) -> Filled {
+fn read_away<R: Read>(input: &mut R, n: usize) -> Filled {
     let mut bytes = io::buffer();
-    read_body(n, &mut bytes)
+    read_body(input, n, &mut bytes)
 }

@@ -7,10 +7,12 @@
 // What a call answers is the reply in hexadecimal, - for nothing to send, or refused and the number, which for what is no call is 255.
 // After that of a D its window stands in hexadecimal as it is after the call.
 // Where it cannot go on it says so on standard error, with the record's number.
-use libc::{STDERR_FILENO, STDOUT_FILENO};
+#![tactic(auto)]
+
 use recording::{Session, Told, rest_of, start, tell};
 use saying::{End, end_line};
 use state::{Exchange, Login, Port, exchange_at, is_closed, is_free, login_at};
+use std::io::Write;
 use wire::{be16, be32, byte_at, put_front};
 
 // The session after a record, and whether the end of its line was written.
@@ -22,23 +24,26 @@ struct Shown {
 
 // A proved loop has to end and the input need not, so the records are counted up to a number that no run reaches.
 // The drive that is all zeros counts as made, so that it is called, and refuses.
-fn main() {
+fn main(rt: HostRuntime) {
+    let mut input = rt.stdin();
+    let mut output = rt.stdout();
+    let mut errors = rt.stderr();
     let mut s = start();
     s.made = true;
     let mut number: u64 = 0;
     while number < u64::MAX {
         number += 1;
         let mut body = [0u8; 70000];
-        let r = records::next(&mut body);
+        let r = records::next(&mut input, &mut body);
         if r.over {
             let e = r.end;
-            stop(number, e);
+            stop(&mut errors, number, e);
             return;
         }
         let len = r.len;
-        let w = taken(s, r.letter, &mut body[..len]);
+        let w = taken(&mut output, s, r.letter, &mut body[..len]);
         if !w.written {
-            stop(number, End::Unwritten);
+            stop(&mut errors, number, End::Unwritten);
             return;
         }
         s = w.session;
@@ -46,25 +51,25 @@ fn main() {
 }
 
 // Says why it ends, unless its input is over.
-fn stop(number: u64, end: End) {
+fn stop(errors: &mut impl Write, number: u64, end: End) {
     let line = end_line(b"vectors", number, end);
     let bytes = line.bytes;
     let len = line.len;
-    io::write_all(STDERR_FILENO, &bytes[..len]);
+    let _ = errors.write_all(&bytes[..len]);
 }
 
 // Does what a record says.
-fn taken(s: Session, letter: u8, body: &mut [u8]) -> Shown {
+fn taken(output: &mut impl Write, s: Session, letter: u8, body: &mut [u8]) -> Shown {
     match letter {
         b'n' => {
-            print(body);
+            print(output, body);
             after(s, true)
         }
         b'k' => after(passed(s, body), true),
-        b'l' | b'e' => after(s, look(s, letter, body)),
+        b'l' | b'e' => after(s, look(output, s, letter, body)),
         _ => {
             let from = rest_of(s, letter, body);
-            answered(tell(s, letter, body), body, from)
+            answered(output, tell(s, letter, body), body, from)
         }
     }
 }
@@ -77,16 +82,16 @@ fn after(s: Session, written: bool) -> Shown {
 }
 
 // Shows the login at the place that a record names, and answers as line_feed does.
-fn look(s: Session, letter: u8, body: &[u8]) -> bool {
+fn look(output: &mut impl Write, s: Session, letter: u8, body: &[u8]) -> bool {
     let d = s.drive;
     let p = d.port;
     let l = login_at(p, byte_at(body, 0) as usize);
     if letter == b'l' {
-        print_login(l);
+        print_login(output, l);
     } else {
-        print_place(l, true);
+        print_place(output, l, true);
     }
-    line_feed()
+    line_feed(output)
 }
 
 // Many next frames, each from a window that goes on to the end of a large buffer.
@@ -108,64 +113,64 @@ fn repeated(s: Session, asking: &mut [u8], count: u32) -> Session {
 }
 
 // Shows what a call answered, the bytes of its body from a place on, and the table after it.
-fn answered(t: Told, body: &[u8], from: usize) -> Shown {
+fn answered(output: &mut impl Write, t: Told, body: &[u8], from: usize) -> Shown {
     let s = t.session;
     let d = s.drive;
     let p = d.port;
     let line = t.line;
     let bytes = line.bytes;
-    print_answer(&bytes);
+    print_answer(output, &bytes);
     if from < body.len() {
-        put(b' ');
-        print_hex(body, from, body.len());
+        put(output, b' ');
+        print_hex(output, body, from, body.len());
     }
-    after(s, print_table(p))
+    after(s, print_table(output, p))
 }
 
-fn print_answer(line: &[u8]) {
+fn print_answer(output: &mut impl Write, line: &[u8]) {
     let number = byte_at(line, 0);
     let n = be16(line, 1) as usize;
     if number != 0 {
-        print(b"refused ");
-        io::print_decimal(STDOUT_FILENO, number as u64);
+        print(output, b"refused ");
+        print_decimal(output, number as u64);
     } else if n == 0 {
-        put(b'-');
+        put(output, b'-');
     } else {
-        print_hex(line, 3, n + 3);
+        print_hex(output, line, 3, n + 3);
     }
 }
 
 // The eight places for logins, and the end of the line; answers as line_feed does.
-fn print_table(p: Port) -> bool {
+fn print_table(output: &mut impl Write, p: Port) -> bool {
     let mut i: usize = 0;
     while i < 8 {
-        put(b' ');
-        print_place(login_at(p, i), false);
+        put(output, b' ');
+        print_place(output, login_at(p, i), false);
         i += 1;
     }
-    line_feed()
+    line_feed(output)
 }
 
 // A login and its eight places for exchanges.
-fn print_place(l: Login, full: bool) {
-    print_head(l);
+fn print_place(output: &mut impl Write, l: Login, full: bool) {
+    print_head(output, l);
     let mut j: usize = 0;
     while j < 8 {
-        print_exchange(exchange_at(l, j), full);
+        print_exchange(output, exchange_at(l, j), full);
         j += 1;
     }
 }
 
 // A free place is a point; a login its low address byte, its standing, and its attention if there is one.
-fn print_head(l: Login) {
+fn print_head(output: &mut impl Write, l: Login) {
     if is_free(l) {
-        put(b'.');
+        put(output, b'.');
         return;
     }
-    print_byte((l.address % 256) as u8);
-    put(standing(l));
+    print_byte(output, (l.address % 256) as u8);
+    put(output, standing(l));
     if l.attention != Login::NO_ATTENTION {
-        print_byte(l.attention);
+        print_byte(output, l.attention);
     }
 }
 
@@ -179,59 +184,59 @@ fn standing(l: Login) -> u8 {
 }
 
 // In full, where a free place is a point; or the OX_ID of one that is open.
-fn print_exchange(e: Exchange, full: bool) {
+fn print_exchange(output: &mut impl Write, e: Exchange, full: bool) {
     if is_closed(e) {
         if full {
-            put(b' ');
-            put(b'.');
+            put(output, b' ');
+            put(output, b'.');
         }
     } else if full {
-        put(b' ');
-        print_whole(e);
+        put(output, b' ');
+        print_whole(output, e);
     } else {
-        put(b':');
-        print_16(e.ox_id);
+        put(output, b':');
+        print_16(output, e.ox_id);
     }
 }
 
 // An exchange is its OX_ID, what is sent, of a READ or WRITE the first block and how many, then in bytes what is wanted, FCP_DL and what is sent, the frames that the drive sent,
 // and whether data come from the host and are awaited.
-fn print_whole(e: Exchange) {
-    print_16(e.ox_id);
-    put(b'=');
-    print_kind(e.kind, e.direction);
-    print_numbers(e.start, e.blocks, e.wanted);
-    print_numbers(e.expected as u64, e.sent, e.count as u32);
+fn print_whole(output: &mut impl Write, e: Exchange) {
+    print_16(output, e.ox_id);
+    put(output, b'=');
+    print_kind(output, e.kind, e.direction);
+    print_numbers(output, e.start, e.blocks, e.wanted);
+    print_numbers(output, e.expected as u64, e.sent, e.count as u32);
     if e.direction != Exchange::TO_HOST {
-        print(b",from-host");
+        print(output, b",from-host");
     }
     if e.awaited != 0 {
-        print(b",awaited");
+        print(output, b",awaited");
     }
 }
 
-fn print_kind(kind: u16, direction: u8) {
+fn print_kind(output: &mut impl Write, kind: u16, direction: u8) {
     match kind {
-        Exchange::BLOCKS => print_blocks(direction),
-        Exchange::INQUIRY => print(b"INQUIRY"),
-        Exchange::INQUIRY_OTHER_UNIT => print(b"INQUIRY-7F"),
-        Exchange::READ_CAPACITY => print(b"CAPACITY"),
-        _ => print_sense(kind),
+        Exchange::BLOCKS => print_blocks(output, direction),
+        Exchange::INQUIRY => print(output, b"INQUIRY"),
+        Exchange::INQUIRY_OTHER_UNIT => print(output, b"INQUIRY-7F"),
+        Exchange::READ_CAPACITY => print(output, b"CAPACITY"),
+        _ => print_sense(output, kind),
     }
 }
 
-fn print_blocks(direction: u8) {
+fn print_blocks(output: &mut impl Write, direction: u8) {
     if direction == Exchange::FROM_HOST {
-        print(b"WRITE");
+        print(output, b"WRITE");
     } else {
-        print(b"READ");
+        print(output, b"READ");
     }
 }
 
-fn print_sense(kind: u16) {
-    print(b"SENSE-");
-    print_16(sense(kind));
-    print_byte(0x00);
+fn print_sense(output: &mut impl Write, kind: u16) {
+    print(output, b"SENSE-");
+    print_16(output, sense(kind));
+    print_byte(output, 0x00);
 }
 
 // Key and code of the sense that an exchange sends, FFFFh for what is no sense. The qualifier is 00h.
@@ -246,57 +251,57 @@ fn sense(kind: u16) -> u16 {
 }
 
 // Three numbers, each after a comma.
-fn print_numbers(a: u64, b: u32, c: u32) {
-    print_number(a);
-    print_number(b as u64);
-    print_number(c as u64);
+fn print_numbers(output: &mut impl Write, a: u64, b: u32, c: u32) {
+    print_number(output, a);
+    print_number(output, b as u64);
+    print_number(output, c as u64);
 }
 
-fn print_number(n: u64) {
-    put(b',');
-    io::print_decimal(STDOUT_FILENO, n);
+fn print_number(output: &mut impl Write, n: u64) {
+    put(output, b',');
+    print_decimal(output, n);
 }
 
 // Flags, attention, W19/B1, W20/B1, W18 size and address; then both names.
-fn print_login(l: Login) {
+fn print_login(output: &mut impl Write, l: Login) {
     let a = l.address;
     let port = l.port_name;
     let node = l.node_name;
-    print_byte(l.used);
-    print_byte(l.proven);
-    print_byte(l.paired);
-    print_byte(l.attention);
-    print_byte(l.concurrent);
-    print_byte(l.sequences);
-    print_16(l.size);
-    print_16((a / 65536) as u16);
-    print_16((a % 65536) as u16);
-    print_name(port);
-    print_name(node);
+    print_byte(output, l.used);
+    print_byte(output, l.proven);
+    print_byte(output, l.paired);
+    print_byte(output, l.attention);
+    print_byte(output, l.concurrent);
+    print_byte(output, l.sequences);
+    print_16(output, l.size);
+    print_16(output, (a / 65536) as u16);
+    print_16(output, (a % 65536) as u16);
+    print_name(output, port);
+    print_name(output, node);
 }
 
-fn print_name(name: [u8; 8]) {
-    put(b' ');
-    print_hex(&name, 0, 8);
+fn print_name(output: &mut impl Write, name: [u8; 8]) {
+    put(output, b' ');
+    print_hex(output, &name, 0, 8);
 }
 
 // The bytes from one place to before another in hexadecimal.
-fn print_hex(s: &[u8], from: usize, to: usize) {
+fn print_hex(output: &mut impl Write, s: &[u8], from: usize, to: usize) {
     let mut i = from;
     while i < to {
-        print_byte(byte_at(s, i));
+        print_byte(output, byte_at(s, i));
         i += 1;
     }
 }
 
-fn print_16(n: u16) {
-    print_byte((n / 256) as u8);
-    print_byte((n % 256) as u8);
+fn print_16(output: &mut impl Write, n: u16) {
+    print_byte(output, (n / 256) as u8);
+    print_byte(output, (n % 256) as u8);
 }
 
-fn print_byte(b: u8) {
-    put(digit(b / 16));
-    put(digit(b));
+fn print_byte(output: &mut impl Write, b: u8) {
+    put(output, digit(b / 16));
+    put(output, digit(b));
 }
 
 // The low digit of a byte, in upper case.
@@ -306,16 +311,22 @@ fn digit(b: u8) -> u8 {
 }
 
 // Where the output takes no more, the rest of a line is lost.
-fn print(text: &[u8]) {
-    io::write_all(STDOUT_FILENO, text);
+fn print(output: &mut impl Write, text: &[u8]) {
+    let _ = output.write_all(text);
 }
 
-fn put(c: u8) {
+fn print_decimal(output: &mut impl Write, n: u64) {
+    let mut text = [0u8; 20];
+    let k = io::decimal(n, &mut text);
+    print(output, &text[..k]);
+}
+
+fn put(output: &mut impl Write, c: u8) {
     let text = [c];
-    print(&text);
+    print(output, &text);
 }
 
 // Ends a line, and answers whether the output took that.
-fn line_feed() -> bool {
-    io::write_all(STDOUT_FILENO, b"\n")
+fn line_feed(output: &mut impl Write) -> bool {
+    output.write_all(b"\n").is_ok()
 }
