@@ -1,14 +1,4 @@
 mod Answers
-mod Elements
-mod Events
-mod Keyed
-mod Lending
 mod Lent
-mod Logins
-mod Marked
-mod Onward
+mod Looking
 mod Reached
-mod Reaching
-mod Reading
-mod Seeing
-mod Sighting

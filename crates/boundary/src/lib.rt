@@ -1,4 +1,6 @@
 // The C boundary: a call sees what it needs of the lent drive, decides on that, and what changes is stored where it stands; include/jhartupal.h declares it.
+#![tactic(auto)]
+
 ghost use Rattle.std.specs.Prelude.{◌≡◌, ◌<◌, ◌≤◌, length};
 ghost use Rattle.tables.specs.Lists.{on_found};
 ghost use Rattle.state.specs.declared.Change.TheVariants.{EndHost};
@@ -18,7 +20,7 @@ use drive::{Answer, Drive, Event, change_of, passed_turn, refusal_number, unprov
 use formed::{Key, key_named, login_key};
 use frame::{Header, read_header};
 use refusal::{Refusal, Said};
-use state::{Change, Own, Port, Setup, Unit, changed};
+use state::{Change, Login, Own, Port, Setup, Unit, changed};
 use tables::Found;
 use window::{data_turn, next_turn};
 
@@ -117,10 +119,11 @@ pub fn jhartupal_power_on(d: &mut Drive) -> u64
 fn sight(p: &mut Port, u: Unit) -> Sight
     ensures { (result ≡ sight_of u p.old) × (p.new ≡ p.old) }
 {
+    let logins: &[Login] = &p.logins;
     let mut k = [Key { id: 0, name: 0 }; 8];
     let mut i: usize = 0;
     while i < Port::LOGINS {
-        let n = login_key(u, p.address, p.logins[i]);
+        let n = login_key(u, p.address, logins[i]);
         k[i] = n;
         i += 1;
     }
@@ -183,10 +186,11 @@ fn settle(p: &mut Port, keys: [Key; 8], t: Turn) -> u64
 fn reach(p: &mut Port, m: [bool; 8], c: Change)
     ensures { p.new ≡ reached_of p.old m c }
 {
+    let logins: &mut [Login] = &mut p.logins;
     let mut i = next_marked(m, 0);
     while i < Port::LOGINS {
-        let l = changed(p.logins[i], c);
-        p.logins[i] = l;
+        let l = changed(logins[i], c);
+        logins[i] = l;
         i = next_marked(m, i + 1);
     }
 }
@@ -196,8 +200,9 @@ fn store(p: &mut Port, t: Turn) -> u64
     ensures { (result ≡ code_of t.said) × (p.new ≡ stored_at t.at t.login p.old) }
 {
     let at = place_or_none(t.at);
+    let logins: &mut [Login] = &mut p.logins;
     if at < Port::LOGINS {
-        p.logins[at] = t.login;
+        logins[at] = t.login;
         return code(t.said);
     } else {
         return code(t.said);
