@@ -16,7 +16,7 @@ use Rattle.drive.specs.Entry.{frame_in, next_frame}
 use Rattle.drive.proofs.Made.{new_refused, new_made, event_refused, event_answered}
 use Rattle.demands.specs.Driven.{Driven}
 use Rattle.demands.specs.Demands.{Demand1, Demand2}
-use Rattle.demands.proofs.Contracts.{one_reply}
+use Rattle.demands.proofs.Replies.{one_reply}
 use Rattle.demands.proofs.Reach.{driven_fine}
 use Rattle.demands.proofs.Refusals.{frame_first, frame_refuses, next_first, next_refuses, next_unchanged}
 use Rattle.demands.proofs.Lengths.{frame_long, next_long, next_silent, next_most}

@@ -7,7 +7,7 @@ pub mod Between
 pub mod Calls
 pub mod Lengths
 pub mod Ending
-pub mod Contracts
+pub mod Replies
 pub mod Stepping
 pub mod Every
 pub mod Reading

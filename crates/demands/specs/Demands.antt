@@ -33,7 +33,7 @@ use Rattle.drive.specs.declared.Drive.{Drive}
 use Rattle.drive.specs.declared.Event.{Event}
 use Rattle.drive.specs.Drive.{made_from, no_drive, nothing_sent, refused, new_answer, after_event, event_answer}
 use Rattle.drive.specs.Entry.{answered, applies, frame_in, frame_in_buffer, frame_in_window, next_frame, next_frame_buffer}
-use Rattle.demands.specs.Contracts.{OneReply}
+use Rattle.demands.specs.Replies.{OneReply}
 use Rattle.demands.specs.Driven.{Driven}
 use Rattle.demands.specs.Refusals.{applies_out}
 use Rattle.demands.specs.Login.{LoginIn, PortLogin, HostMoved}

@@ -1,4 +1,4 @@
-pub mod Contracts
+pub mod Replies
 pub mod Driven
 pub mod Refusals
 pub mod Login

@@ -6,7 +6,7 @@ use prog.Memory.{Memory}
 use prog.Routine.{Routine}
 use types.Logic.{Logic}
 use contract.Monad.{Fun, fact, fact_i, fact_use}
-use Rattle.demands.specs.Contracts.{One, OneReply}
+use Rattle.demands.specs.Replies.{One, OneReply}
 
 module _ {M : Type 1} (𝓤 : Ura M) where
   -- a promise that comes to one fact, to two, and to three
