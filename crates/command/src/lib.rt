@@ -1,6 +1,6 @@
 // What an FCP_CMND answers and what it stores: no paired login, the task flags, and the tests of a command in their order.
 // Values are decided here, no byte is written.
-#![tactic(auto)]
+#![tactic(auto, unfolding(crate::specs::Cmnd::cmnd_of, crate::specs::Command::refused_with))]
 
 mod opened;
 mod tasks;
@@ -25,7 +25,7 @@ use tests::tested;
 use wire::{be32, be64, byte_at, name_at};
 
 // The fields of an FCP_CMND.
-#[derive(Drop)]
+#[derive(Clone, Copy)]
 pub struct Cmnd {
     pub lun: u64,
     pub task: u8,
@@ -37,14 +37,14 @@ pub struct Cmnd {
 }
 
 // Blocks of the unit: the first, and how many.
-#[derive(Drop)]
+#[derive(Clone, Copy)]
 pub struct Range {
     pub start: u64,
     pub blocks: u32,
 }
 
 // What a CDB asks for, by its operation code; REQUEST SENSE and INQUIRY with the bytes that they allow (byte 4).
-#[derive(Drop)]
+#[derive(Clone, Copy)]
 pub enum Operation {
     TestUnitReady,
     RequestSense(u8),
@@ -56,14 +56,14 @@ pub enum Operation {
 }
 
 // A CDB, decoded, and whether a field that must be zero is not.
-#[derive(Drop)]
+#[derive(Clone, Copy)]
 pub struct Decoded {
     pub operation: Operation,
     pub wrong_field: bool,
 }
 
 // What the task flags ask for: an answer with this RSP_CODE, a change of the logins, or the command of the CDB.
-#[derive(Drop)]
+#[derive(Clone, Copy)]
 pub enum Task {
     Code(u8),
     Apply(Change),
@@ -71,7 +71,7 @@ pub enum Task {
 }
 
 // What tests 2 to 7 make of a command.
-#[derive(Drop)]
+#[derive(Clone, Copy)]
 pub enum Asked {
     // CHECK CONDITION with this sense key and code
     Refused(u8, u8),

@@ -1,4 +1,6 @@
 // What a command wants, and the exchange that opens (document 01, "Wanted").
+#![tactic(auto, unfolding(crate::specs::Tests::sense_kind, crate::specs::Tests::inquiry_kind, crate::specs::Command::told_of, crate::specs::Command::bit_for))]
+
 ghost use Rattle.std.specs.Prelude.{◌≡◌, ◌*◌, ◌≤◌, min};
 ghost use Rattle.state.specs.Kinds.{kind_blocks, to_host};
 ghost use Rattle.command.specs.Cdb.{Countable};

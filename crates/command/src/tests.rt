@@ -1,4 +1,6 @@
 // The CDB, decoded, and tests 2 to 7 of a command (document 01, "Tests for the rest").
+#![tactic(auto, unfolding(crate::specs::Cdb::inquiry_field, crate::specs::Cdb::capacity_field, crate::specs::Cdb::range10, crate::specs::Tests::other_unit, crate::specs::Tests::attends, crate::specs::Tests::protected, crate::specs::Tests::beyond))]
+
 ghost use Rattle.std.specs.Prelude.{◌≡◌, ◌≤◌};
 ghost use Rattle.command.specs.Cdb.{decoded_as, decoded_of, range10, inquiry_field, capacity_field, Countable};
 ghost use Rattle.command.specs.Tests.{skips, other_unit, attends, unknown, writes, protected, beyond, outside, asked_of};
