@@ -82,6 +82,7 @@ pub enum Asked {
 }
 
 // An FCP_CMND: without a paired login a drive LOGO, and the login ends.
+#[tactic(auto, using(crate::proofs::Ways::command_no_login, crate::proofs::Ways::command_paired, crate::proofs::Ways::command_unpaired))]
 pub fn command(v: View, h: Header, frame: &[u8]) -> Decision
     ensures { result ≡ command_turn v h frame.now }
 {
@@ -106,6 +107,7 @@ fn logged_out(from: u32) -> Decision
 }
 
 // An FCP_CMND from the paired login l at place i, in a frame of this length.
+#[tactic(auto, unfolding(crate::specs::Turn::commanded_turn))]
 fn commanded(u: Unit, i: usize, l: Login, h: Header, c: Cmnd, length: usize) -> Decision
     ensures { result ≡ commanded_turn u i l h c length }
 {
@@ -143,6 +145,7 @@ fn cdb_at(frame: &[u8]) -> [u8; 16]
 }
 
 // A command on its sender's login: test 1, that its OX_ID is not open, and what the other tests make of it.
+#[tactic(auto, using(crate::proofs::Ways::execute_again, crate::proofs::Ways::execute_refused, crate::proofs::Ways::execute_attention, crate::proofs::Ways::execute_wants))]
 fn execute(u: Unit, l: Login, ox_id: u16, c: Cmnd) -> Served
     ensures { result ≡ execute_of u l (find_exchange l ox_id) ox_id c }
 {

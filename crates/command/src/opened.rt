@@ -119,6 +119,7 @@ fn smaller(a: u32, b: u32) -> u32
 }
 
 // Nothing to send or take is answered at once; else tests 8 and 9, and the exchange opens.
+#[tactic(auto, using(crate::proofs::Ways::answer_good, crate::proofs::Ways::answer_full, crate::proofs::Ways::answer_opens, crate::proofs::Ways::answer_bitless))]
 pub(crate) fn answer(l: Login, bits: u8, e: Exchange) -> Served
     ensures { result ≡ opened_of l bits e }
 {

@@ -12,6 +12,7 @@ use state::{Login, Unit};
 use wire::{be16, be32};
 
 // Tests 2 to 7, the first that fails.
+#[tactic(auto, using(crate::proofs::Ways::asked_is), unfolding(crate::specs::Tests::tested_by))]
 pub(crate) fn tested(u: Unit, attention: u8, ox_id: u16, c: Cmnd) -> Asked
     ensures { result ≡ asked_of u attention ox_id c }
 {
@@ -40,6 +41,7 @@ pub(crate) fn tested(u: Unit, attention: u8, ox_id: u16, c: Cmnd) -> Asked
 }
 
 // The one place where operation codes are told apart.
+#[tactic(auto, unfolding(crate::specs::Cdb::decoded_of))]
 fn decode(cdb: [u8; 16]) -> Decoded
     ensures { (result ≡ decoded_of cdb) × Countable result.operation }
 {
