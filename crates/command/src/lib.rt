@@ -1,6 +1,6 @@
 // What an FCP_CMND answers and what it stores: no paired login, the task flags, and the tests of a command in their order.
 // Values are decided here, no byte is written.
-#![tactic(auto)]
+#![tactic(auto, unfolding(crate::specs::Cmnd::cmnd_of, crate::specs::Command::refused_with))]
 
 mod opened;
 mod tasks;
@@ -25,7 +25,7 @@ use tests::tested;
 use wire::{be32, be64, byte_at, name_at};
 
 // The fields of an FCP_CMND.
-#[derive(Drop)]
+#[derive(Clone, Copy)]
 pub struct Cmnd {
     pub lun: u64,
     pub task: u8,
@@ -37,14 +37,14 @@ pub struct Cmnd {
 }
 
 // Blocks of the unit: the first, and how many.
-#[derive(Drop)]
+#[derive(Clone, Copy)]
 pub struct Range {
     pub start: u64,
     pub blocks: u32,
 }
 
 // What a CDB asks for, by its operation code; REQUEST SENSE and INQUIRY with the bytes that they allow (byte 4).
-#[derive(Drop)]
+#[derive(Clone, Copy)]
 pub enum Operation {
     TestUnitReady,
     RequestSense(u8),
@@ -56,14 +56,14 @@ pub enum Operation {
 }
 
 // A CDB, decoded, and whether a field that must be zero is not.
-#[derive(Drop)]
+#[derive(Clone, Copy)]
 pub struct Decoded {
     pub operation: Operation,
     pub wrong_field: bool,
 }
 
 // What the task flags ask for: an answer with this RSP_CODE, a change of the logins, or the command of the CDB.
-#[derive(Drop)]
+#[derive(Clone, Copy)]
 pub enum Task {
     Code(u8),
     Apply(Change),
@@ -71,7 +71,7 @@ pub enum Task {
 }
 
 // What tests 2 to 7 make of a command.
-#[derive(Drop)]
+#[derive(Clone, Copy)]
 pub enum Asked {
     // CHECK CONDITION with this sense key and code
     Refused(u8, u8),
@@ -82,6 +82,7 @@ pub enum Asked {
 }
 
 // An FCP_CMND: without a paired login a drive LOGO, and the login ends.
+#[tactic(auto, using(crate::proofs::Ways::command_no_login, crate::proofs::Ways::command_paired, crate::proofs::Ways::command_unpaired))]
 pub fn command(v: View, h: Header, frame: &[u8]) -> Decision
     ensures { result ≡ command_turn v h frame.now }
 {
@@ -106,6 +107,7 @@ fn logged_out(from: u32) -> Decision
 }
 
 // An FCP_CMND from the paired login l at place i, in a frame of this length.
+#[tactic(auto, unfolding(crate::specs::Turn::commanded_turn))]
 fn commanded(u: Unit, i: usize, l: Login, h: Header, c: Cmnd, length: usize) -> Decision
     ensures { result ≡ commanded_turn u i l h c length }
 {
@@ -143,6 +145,7 @@ fn cdb_at(frame: &[u8]) -> [u8; 16]
 }
 
 // A command on its sender's login: test 1, that its OX_ID is not open, and what the other tests make of it.
+#[tactic(auto, using(crate::proofs::Ways::execute_again, crate::proofs::Ways::execute_refused, crate::proofs::Ways::execute_attention, crate::proofs::Ways::execute_wants))]
 fn execute(u: Unit, l: Login, ox_id: u16, c: Cmnd) -> Served
     ensures { result ≡ execute_of u l (find_exchange l ox_id) ox_id c }
 {

@@ -1,4 +1,6 @@
 // What a command wants, and the exchange that opens (document 01, "Wanted").
+#![tactic(auto, unfolding(crate::specs::Tests::sense_kind, crate::specs::Tests::inquiry_kind, crate::specs::Command::told_of, crate::specs::Command::bit_for))]
+
 ghost use Rattle.std.specs.Prelude.{◌≡◌, ◌*◌, ◌≤◌, min};
 ghost use Rattle.state.specs.Kinds.{kind_blocks, to_host};
 ghost use Rattle.command.specs.Cdb.{Countable};
@@ -117,6 +119,7 @@ fn smaller(a: u32, b: u32) -> u32
 }
 
 // Nothing to send or take is answered at once; else tests 8 and 9, and the exchange opens.
+#[tactic(auto, using(crate::proofs::Ways::answer_good, crate::proofs::Ways::answer_full, crate::proofs::Ways::answer_opens, crate::proofs::Ways::answer_bitless))]
 pub(crate) fn answer(l: Login, bits: u8, e: Exchange) -> Served
     ensures { result ≡ opened_of l bits e }
 {

@@ -1,4 +1,6 @@
 // What the task flags of an FCP_CMND ask for (document 01, "Commands").
+#![tactic(auto, unfolding(crate::specs::Cmnd::malformed, crate::specs::Cmnd::task_for, crate::specs::Cmnd::task_of))]
+
 ghost use Rattle.std.specs.Prelude.{◌≡◌};
 ghost use Rattle.command.specs.Cmnd.{low_bit, read_bit, malformed, on_unit, task_for, task_of};
 

@@ -1,4 +1,6 @@
 // The CDB, decoded, and tests 2 to 7 of a command (document 01, "Tests for the rest").
+#![tactic(auto, unfolding(crate::specs::Cdb::inquiry_field, crate::specs::Cdb::capacity_field, crate::specs::Cdb::range10, crate::specs::Tests::other_unit, crate::specs::Tests::attends, crate::specs::Tests::protected, crate::specs::Tests::beyond))]
+
 ghost use Rattle.std.specs.Prelude.{◌≡◌, ◌≤◌};
 ghost use Rattle.command.specs.Cdb.{decoded_as, decoded_of, range10, inquiry_field, capacity_field, Countable};
 ghost use Rattle.command.specs.Tests.{skips, other_unit, attends, unknown, writes, protected, beyond, outside, asked_of};
@@ -10,6 +12,7 @@ use state::{Login, Unit};
 use wire::{be16, be32};
 
 // Tests 2 to 7, the first that fails.
+#[tactic(auto, using(crate::proofs::Ways::asked_is), unfolding(crate::specs::Tests::tested_by))]
 pub(crate) fn tested(u: Unit, attention: u8, ox_id: u16, c: Cmnd) -> Asked
     ensures { result ≡ asked_of u attention ox_id c }
 {
@@ -38,6 +41,7 @@ pub(crate) fn tested(u: Unit, attention: u8, ox_id: u16, c: Cmnd) -> Asked
 }
 
 // The one place where operation codes are told apart.
+#[tactic(auto, unfolding(crate::specs::Cdb::decoded_of))]
 fn decode(cdb: [u8; 16]) -> Decoded
     ensures { (result ≡ decoded_of cdb) × Countable result.operation }
 {
