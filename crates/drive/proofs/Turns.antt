@@ -21,7 +21,6 @@ use Rattle.refusal.specs.declared.Said.TheVariants.{Sent}
 use Rattle.refusal.specs.Refusal.{number_of, frame_order}
 use Rattle.refusal.proofs.Numbers.{numbers}
 use Rattle.state.specs.declared.Login.{Login}
-use Rattle.state.specs.declared.Own.{Own}
 use Rattle.state.specs.declared.Port.{Port}
 use Rattle.state.specs.declared.Unit.{Unit}
 use Rattle.state.specs.declared.Change.TheVariants.{Keep}

@@ -5,7 +5,7 @@ use mathlib.Core.Bool.{Bool, true, false, cond, ◌&&◌}
 use mathlib.Core.List.{List, []}
 use borrow.Author.Tests.{lt-ltb, le-ltb, eq-eqb, ne_eqb}
 use lib.ListN.{length}
-use Rattle.tables.specs.Firsts.{first_of, NoneOf, IsFirst}
+use Rattle.tables.specs.Firsts.{NoneOf, IsFirst}
 use Rattle.tables.proofs.Firsts.{FirstSays, at_first, at_none, first_says}
 use Rattle.tables.proofs.Bools.{or_left}
 use Rattle.frame.specs.declared.Header.{Header}

@@ -22,20 +22,20 @@ use tables::Found;
 use taking::data_turn;
 
 #[repr(C)]
-#[derive(Drop)]
+#[derive(Clone, Copy)]
 pub struct Drive {
     pub unit: Unit,
     pub port: Port,
 }
 
-#[derive(Drop)]
+#[derive(Clone, Copy)]
 pub struct Answer {
     pub said: Said,
     pub drive: Drive,
 }
 
 // What the port chip reports.
-#[derive(Drop)]
+#[derive(Clone, Copy)]
 pub enum Event {
     LoopReset,
     TimeOver,
@@ -44,6 +44,7 @@ pub enum Event {
 
 impl Drive {
     // A drive with no logins, or refusal 8 and the drive that is all zeros.
+    #[tactic(auto, unfolding(crate::specs::Drive::new_answer))]
     pub fn new(setup: Setup) -> Answer
         ensures { result ≡ new_answer setup }
     {
@@ -59,6 +60,7 @@ impl Drive {
 
     // A frame in, with a window of the unit's bytes that starts at a block: refused by the first of 1 to 7, 11, 10 that fits it, or its reply at the front of the buffer,
     // the bytes of a data frame that is taken in the window, and the drive after it.
+    #[tactic(auto, using(crate::proofs::Ways::says_short, crate::proofs::Ways::says_refused, crate::proofs::Ways::says_arrived))]
     pub fn frame_in(self, frame: &[u8], start: u64, window: &mut [u8], reply: &mut [u8]) -> Answer
         ensures value { result ≡ frame_in self frame.now start window.old (length reply.old) }
         ensures reply_after { reply.new ≡ frame_in_buffer self frame.now start window.old reply.old }
@@ -124,6 +126,7 @@ impl Drive {
 
 // The number of the refusal, 2 to 7, of a frame in with header h to a drive of this address, or 0 where it arrived well.
 // Whether the state is well formed and whether the sender's login is unproven is the caller's to tell.
+#[tactic(auto, using(crate::proofs::Ways::number_refused, crate::proofs::Ways::number_passed))]
 pub fn refusal_number(fine: bool, unproven: bool, own: u32, h: Header, frame: &[u8]) -> u64
     ensures { result ≡ refusal_of fine unproven own h frame.now }
 {
@@ -135,6 +138,7 @@ pub fn refusal_number(fine: bool, unproven: bool, own: u32, h: Header, frame: &[
 }
 
 // What a frame in that arrived well comes to, seen by its sender, if it is no data frame. A buffer under 2,136 bytes is left alone.
+#[tactic(auto, using(crate::proofs::Ways::turn_passed))]
 pub fn passed_turn(v: View, h: Header, frame: &[u8], reply: &mut [u8]) -> Turn
     ensures value { result ≡ passed_turn v h frame.now (length reply.old) }
     ensures reply_after { reply.new ≡ passed_buffer v h frame.now reply.old }
@@ -148,6 +152,7 @@ pub fn passed_turn(v: View, h: Header, frame: &[u8], reply: &mut [u8]) -> Turn
 }
 
 // Whether a login stands at a seat, and its flag says that it is unproven.
+#[tactic(auto, unfolding(crate::specs::Turn::unproven_at))]
 pub fn unproven_at(seat: Found, proven: u8) -> bool
     ensures { result ≡ unproven_at seat proven }
 {
@@ -158,6 +163,7 @@ pub fn unproven_at(seat: Found, proven: u8) -> bool
 }
 
 // What the next frame out of the exchange of an address and an OX_ID comes to, seen by the port at that address: refused by the first of 2, 9, 7, 10 that fits.
+#[tactic(auto, using(crate::proofs::Ways::turn_served), unfolding(crate::specs::Turn::next_out_turn, crate::specs::Turn::next_out_buffer))]
 pub fn next_turn(
     v: View,
     address: u32,
@@ -188,6 +194,7 @@ pub fn change_of(e: Event) -> Change
 }
 
 // The drive that is all zeros, which stands beside a refused setup; it is not well formed.
+#[tactic(auto, unfolding(crate::specs::Drive::made_from, crate::specs::Drive::no_drive))]
 pub fn no_drive() -> Drive
     ensures { result ≡ no_drive }
 {
@@ -202,6 +209,7 @@ pub fn no_drive() -> Drive
 }
 
 // A frame in, refused by the first of 2 to 7 that fits it, or passed.
+#[tactic(auto, unfolding(crate::specs::Turn::arrived_in))]
 fn arrived(v: View, h: Header, frame: &[u8]) -> Judged
     ensures { result ≡ arrived_in v h frame.now }
 {
@@ -213,6 +221,7 @@ fn arrived(v: View, h: Header, frame: &[u8]) -> Judged
 }
 
 // What a frame in that arrived well comes to, seen by its sender, with a window that starts at a block.
+#[tactic(auto, using(crate::proofs::Ways::comes_data, crate::proofs::Ways::comes_other))]
 fn arrived_turn(
     v: View,
     h: Header,
@@ -233,6 +242,7 @@ fn arrived_turn(
 }
 
 // What a frame that arrived well is answered, and what changes; a data frame has a turn of its own.
+#[tactic(auto, unfolding(crate::specs::Turn::decision_of))]
 fn decide(v: View, h: Header, frame: &[u8]) -> Decision
     ensures { result ≡ decision_of v h frame.now }
 {
@@ -246,6 +256,7 @@ fn decide(v: View, h: Header, frame: &[u8]) -> Decision
     }
 }
 
+#[tactic(auto, unfolding(crate::specs::Drive::made_from))]
 fn made_from(s: Setup) -> Drive
     ensures { result ≡ made_from s }
 {

@@ -1,0 +1,6 @@
+-- `drive::refusal_number` meets its contract: the number of what was judged. Assumes nothing.
+use Rattle.drive.proofs.Ways.{number_refused}
+use Rattle.drive.proofs.refusal_number.Goals as goal
+
+pub returns-in-Refused : goal.returns-in-Refused
+returns-in-Refused c = number_refused c.args.fine c.args.unproven c.args.own c.args.h c.args.frame.now _ _ _ c.judge-j.ensures c.in-Refused.is c.number.ensures
