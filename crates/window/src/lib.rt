@@ -1,4 +1,6 @@
 // The window of a next frame, and of a data frame in, as one thing: the block that it starts at, and the lent bytes.
+#![tactic(auto)]
+
 ghost use Rattle.std.specs.Prelude.{◌≡◌, length};
 ghost use Rattle.drive.specs.Entry.{next_frame, next_frame_buffer};
 ghost use Rattle.taking.specs.Taking.{taking_turn, taking_buffer, taking_window};

@@ -16,7 +16,7 @@ loop-i-preserved c =
     let marks : length c.args.m ≡ 8 = search rules in
     record {
       reached = reached_skip marks c.next_marked-i-in-loop-i.ensures (reached_store marks c.loop-i-test.true (c.loop-i.invariant.here c.loop-i-test.true) c.changed-l.ensures c.loop-i.invariant.reached);
-      here = c.next_marked-i-in-loop-i.ensures.here
+      here = c.next_marked-i-in-loop-i.ensures.here;
     }
 
 pub returns : goal.returns

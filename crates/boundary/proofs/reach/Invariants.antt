@@ -8,7 +8,7 @@ use Rattle.boundary.proofs.reach.Given as goal
 abbrev pub invariant-loop-i : goal.invariant-loop-i
 invariant-loop-i l = record {
   reached : Reached l.c l.m (reached_by l.c l.m l.fn.p.logins) l.logins l.i;
-  here : l.i < 8 → get_or l.m l.i false ≡ true
+  here : l.i < 8 → get_or l.m l.i false ≡ true;
 }
 
 abbrev pub decreases-loop-i : goal.decreases-loop-i
