@@ -2,10 +2,9 @@
 -- So what each entry tells, and the lent drive after it, is its answer. Assumes nothing.
 use Prim.Native.Nat.{ℕ, ◌+◌, ◌<◌, ◌^◌}
 use mathlib.Core.Path.{◌≡◌, refl, sym, ap, ◌∙◌, subst}
-use mathlib.Core.Bool.{Bool, true, false, cond, not}
+use mathlib.Core.Bool.{Bool, true, false, cond}
 use mathlib.Core.List.{List, [], ◌∷◌, map}
 use native.Mathlib.Omega.{arith}
-use lib.Dec.{T, eqb, eqb→eq}
 use lib.ListN.{length}
 use Rattle.tables.specs.declared.Found.{Found}
 use Rattle.tables.specs.declared.Found.TheVariants.{At, Nothing}
@@ -55,13 +54,11 @@ twice true x y = refl
 twice false x y = refl
 
 -- which arm of a definition is taken
-pub held_arm : {A : Type 0} (z : Bool) (x y : A) → T z → x ≡ cond z x y
-held_arm true x y e = refl
-held_arm false x y e = absurd e
+held_arm : {A : Type 0} (z : Bool) (x y : A) → z ≡ true → x ≡ cond z x y
+held_arm z x y e = rw e
 
-pub failed_arm : {A : Type 0} (z : Bool) (x y : A) → T (not z) → y ≡ cond z x y
-failed_arm true x y e = absurd e
-failed_arm false x y e = refl
+failed_arm : {A : Type 0} (z : Bool) (x y : A) → z ≡ false → y ≡ cond z x y
+failed_arm z x y e = rw e
 
 module _ (u : Unit) (own : ℕ) where
   -- a login that is fine and is not reached is one that the change leaves
@@ -141,9 +138,9 @@ module _ (d : Drive) (f : List ℕ) (start : ℕ) (W : List ℕ) where
       by Nothing = refl
 
   -- one that has a number is refused with it, the buffer and the window left as they were
-  module _ (some : T (not (eqb number 0))) where
+  module _ (some : number ≡ 0 → ⊥) where
     by_number : RefusedBy d f start W number
-    by_number = subst (RefusedBy d f start W) (sym number_seen) (frame_refused d f start W (λ z. subst (λ (n : ℕ). T (not (eqb n 0))) (number_seen ∙ z) some))
+    by_number = subst (RefusedBy d f start W) (sym number_seen) (frame_refused d f start W (λ z. some (number_seen ∙ z)))
 
     pub number_fits : 65536 + number < 2 ^ 64
     number_fits = let few = (numbers by_number.refusal).1 in omega (arith, few, by_number.number)
@@ -156,15 +153,11 @@ module _ (d : Drive) (f : List ℕ) (start : ℕ) (W : List ℕ) where
     )
 
   -- one that has none comes to its turn: a data frame's, or another's
-  module _ (none : T (not (not (eqb number 0)))) (l : List ℕ) (long : short_buffer (length l) ≡ false) where
+  module _ (none : number ≡ 0) (l : List ℕ) (long : short_buffer (length l) ≡ false) where
     zero : refusal_of v.fine (unproven_in v) v.own.address h f ≡ 0
-    zero = sym number_seen ∙ eqb→eq number 0 (by (eqb number 0) none)
-      where
-        by : (b : Bool) → T (not (not b)) → T b
-        by true e = e
-        by false e = e
+    zero = sym number_seen ∙ none
 
-    module _ (is : T (is_data h)) where
+    module _ (is : is_data h ≡ true) where
       abbrev turn_data : Turn
       turn_data = taking_turn v h (length f) start (length W) (length l)
 
@@ -176,7 +169,7 @@ module _ (d : Drive) (f : List ℕ) (start : ℕ) (W : List ℕ) where
         held_arm (is_data h) _ W is ∙ frame_turn_window d f start W zero (length l) long,
       )
 
-    module _ (is : T (not (is_data h))) where
+    module _ (is : is_data h ≡ false) where
       abbrev turn_other : Turn
       turn_other = passed_turn v h f (length l)
 

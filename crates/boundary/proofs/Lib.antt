@@ -1,4 +1,5 @@
 mod Answers
+mod Calling
 mod Lent
 mod Looking
 mod Reached

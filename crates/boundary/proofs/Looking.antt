@@ -12,6 +12,7 @@ use Rattle.state.specs.Tables.{login_in}
 use Rattle.calls.specs.declared.Sight.{Sight}
 use Rattle.calls.specs.declared.View.{View}
 use Rattle.calls.specs.View.{seat_of, sight_of, view_from, view_of}
+use Rattle.drive.specs.Turn.{unproven_at}
 use Rattle.formed.specs.Keys.{keys_of}
 
 at_seat : (c : TheUnit) (p : Port) (s : Sight) (seat : Found) → view_from c (own_of p) s seat (get_or p.logins (on_found seat (λ i. i) 0) empty_login) ≡ view_from c (own_of p) s seat (login_in p seat)
@@ -34,3 +35,12 @@ seen_is c p address = refl
 pub seen_as : (c : TheUnit) (p : Port) (address : ℕ) {q : Port} {s : Sight} {seat : Found} {v : View} → q ≡ p → s ≡ sight_of c p → seat ≡ seat_of s.keys address
     → v ≡ view_from c (own_of q) s seat (login_in q seat) → v ≡ view_of c p address
 seen_as c p address same sighted seated is = is ∙ rw (seated, sighted, same) (seen_is c p address)
+
+-- whether the login that was read is unproven
+unproven_seat : (p : Port) (seat : Found) → unproven_at seat (get_or p.logins (on_found seat (λ i. i) 0) empty_login).proven ≡ unproven_at seat (login_in p seat).proven
+unfolding unproven_at login_at
+unproven_seat p (At j) = refl
+unproven_seat p Nothing = refl
+
+pub unproven_as : (p : Port) (seat : Found) {at : ℕ} → at ≡ on_found seat (λ i. i) 0 → unproven_at seat (get_or p.logins at empty_login).proven ≡ unproven_at seat (login_in p seat).proven
+unproven_as p seat e = ap (λ (i : ℕ). unproven_at seat (get_or p.logins i empty_login).proven) e ∙ unproven_seat p seat

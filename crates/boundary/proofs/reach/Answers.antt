@@ -1,5 +1,5 @@
 -- `boundary::reach` meets its contract: each turn changes the next login that is marked. Assumes nothing.
-use Rattle.std.proofs.Common.{refl, ◌∙◌, sym, ap, ◌≡◌, length, rules, arith}
+use Rattle.std.proofs.Common.{ap, ◌≡◌, length, rules}
 use Rattle.state.specs.Changes.{with_logins}
 use Rattle.boundary.specs.Settled.{reached_of}
 use Rattle.boundary.proofs.Reached.{reached_starts, reached_skip, reached_store, reached_out}

@@ -1,6 +1,5 @@
 -- The loop of `boundary::reach`: the logins before place i are done. Assumes nothing.
 use Rattle.std.proofs.Common.{◌-◌, ◌<◌, ◌≡◌, false, true, get_or}
-use Rattle.state.specs.Changes.{with_logins}
 use Rattle.boundary.specs.Settled.{reached_by}
 use Rattle.boundary.proofs.Reached.{Reached}
 use Rattle.boundary.proofs.reach.Given as goal

@@ -1,7 +1,6 @@
 -- `boundary::seen` meets its contract: the login is read at the seat, or at the first place. Assumes nothing.
 use Rattle.std.proofs.Common.{refl, ◌∙◌, ◌≡◌, ap, length, rules, arith}
 use Rattle.std.proofs.lemmas.List.{get_or_default}
-use Rattle.state.specs.declared.Login.{Login}
 use Rattle.state.specs.Changes.{no_login, empty_login, own_of}
 use Rattle.calls.specs.View.{view_from}
 use Rattle.boundary.proofs.Looking.{seen_at}
