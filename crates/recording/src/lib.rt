@@ -16,27 +16,28 @@ use window::next_frame;
 use wire::{be16, be32, be64, byte_at, put_front};
 
 // The drive of a session, once one was made; until then the drive that is all zeros.
-#[derive(Drop)]
+#[derive(Clone, Copy)]
 pub struct Session {
     pub made: bool,
     pub drive: Drive,
 }
 
 // An answer: its bytes stand at the front, zeros after them.
-#[derive(Drop)]
+#[derive(Clone, Copy)]
 pub struct Line {
     pub bytes: [u8; 4100],
     pub len: usize,
 }
 
 // What a record is answered, and the session after it.
-#[derive(Drop)]
+#[derive(Clone, Copy)]
 pub struct Told {
     pub session: Session,
     pub line: Line,
 }
 
 // A session in which no drive was made yet.
+#[tactic(auto, unfolding(crate::specs::Calls::unmade))]
 pub fn start() -> Session
     ensures { result ≡ unmade }
 {
@@ -49,6 +50,7 @@ pub fn start() -> Session
 
 // The record of a letter and a body: S makes a drive, F hands it a frame, D a frame and a window, N asks it for the next one, E tells it of an event; any other is no call.
 // Of the body only the window of D may change.
+#[tactic(auto, using(crate::proofs::Data::data_fits, crate::proofs::Laws::told_if, crate::proofs::Laws::told_else), unfolding(crate::specs::Calls::told_by, crate::specs::Calls::body_after))]
 pub fn tell(s: Session, letter: u8, body: &mut [u8]) -> Told
     ensures told_is { ToldIs (told_by s letter body.old) result }
     ensures body_after { body.new ≡ body_after s letter body.old }
@@ -61,6 +63,7 @@ pub fn tell(s: Session, letter: u8, body: &mut [u8]) -> Told
 }
 
 // From where on the body, after the call, follows the answer: of D the window, of any other nothing.
+#[tactic(auto, using(crate::proofs::Data::data_fits), unfolding(crate::specs::Calls::rest_of))]
 pub fn rest_of(s: Session, letter: u8, body: &[u8]) -> usize
     ensures { (result ≡ rest_of s letter body.now) × (result ≤ length body.now) }
 {
@@ -72,6 +75,7 @@ pub fn rest_of(s: Session, letter: u8, body: &[u8]) -> usize
 }
 
 // The letters whose body is only read.
+#[tactic(auto, unfolding(crate::specs::Calls::read_by))]
 fn tell_read(s: Session, letter: u8, body: &[u8]) -> Told
     ensures { ToldIs (read_by s letter body.now) result }
 {
@@ -85,6 +89,7 @@ fn tell_read(s: Session, letter: u8, body: &[u8]) -> Told
 }
 
 // What is no call: 255, and the session as it was.
+#[tactic(auto, using(crate::proofs::Laws::told_is), unfolding(crate::specs::Calls::no_call))]
 pub fn no_call(s: Session) -> Told
     ensures { ToldIs (no_call s) result }
 {
@@ -96,6 +101,7 @@ pub fn no_call(s: Session) -> Told
     }
 }
 
+#[tactic(auto, unfolding(crate::specs::Calls::setup_call))]
 fn tell_setup(s: Session, body: &[u8]) -> Told
     ensures { ToldIs (setup_call s body.now) result }
 {
@@ -105,6 +111,7 @@ fn tell_setup(s: Session, body: &[u8]) -> Told
     made(s, Drive::new(setup_in(&body[..153])))
 }
 
+#[tactic(auto, using(crate::proofs::Laws::told_if, crate::proofs::Laws::told_else), unfolding(crate::specs::Calls::frame_call))]
 fn tell_frame(s: Session, body: &[u8]) -> Told
     ensures { ToldIs (frame_call s body.now) result }
 {
@@ -124,6 +131,7 @@ fn tell_frame(s: Session, body: &[u8]) -> Told
 }
 
 // Whether a record is a call of D: what stands before its window is there, its room is none over 4,096, and a drive was made.
+#[tactic(auto, unfolding(crate::specs::Calls::is_data_call))]
 fn is_data_call(s: Session, letter: u8, body: &[u8]) -> bool
     ensures { result ≡ is_data_call s letter body.now }
 {
@@ -143,6 +151,7 @@ fn is_data_call(s: Session, letter: u8, body: &[u8]) -> bool
 }
 
 // Where the window of a D begins.
+#[tactic(auto, unfolding(crate::specs::Calls::window_from))]
 fn window_from(body: &[u8]) -> usize
     ensures { result ≡ window_from body.now }
 {
@@ -150,6 +159,7 @@ fn window_from(body: &[u8]) -> usize
 }
 
 // A call of D. The frame is copied, since it and the window are parts of one lent slice.
+#[tactic(auto, unfolding(crate::specs::Calls::window_from))]
 fn tell_data(s: Session, body: &mut [u8]) -> Told
     requires body_in_bounds { window_from body.old ≤ length body.old }
     requires body_bound { num 2 body.old 0 ≤ 4096 }
@@ -169,6 +179,7 @@ fn tell_data(s: Session, body: &mut [u8]) -> Told
     )
 }
 
+#[tactic(auto, using(crate::proofs::Laws::told_if, crate::proofs::Laws::told_else), unfolding(crate::specs::Calls::next_call))]
 fn tell_next(s: Session, body: &[u8]) -> Told
     ensures { ToldIs (next_call s body.now) result }
 {
@@ -193,6 +204,7 @@ fn tell_next(s: Session, body: &[u8]) -> Told
     }
 }
 
+#[tactic(auto, using(crate::proofs::Laws::told_if, crate::proofs::Laws::told_else), unfolding(crate::specs::Calls::event_call))]
 fn tell_event(s: Session, body: &[u8]) -> Told
     ensures { ToldIs (event_call s body.now) result }
 {
@@ -212,6 +224,7 @@ fn tell_event(s: Session, body: &[u8]) -> Told
 }
 
 // A drive made, or refused and the session as it was.
+#[tactic(auto, using(crate::proofs::Laws::told_is), unfolding(crate::specs::Calls::made_by))]
 fn made(s: Session, a: Answer) -> Told
     ensures { ToldIs (made_by s a) result }
 {
@@ -258,12 +271,14 @@ fn ask_next(s: Session, address: u32, ox_id: u16, room: usize, start: u64, windo
 }
 
 // 4,096 bytes, each the fill, of which a call is lent the first.
+#[tactic(auto, unfolding(crate::specs::Calls::fill))]
 fn filled() -> [u8; 4096]
     ensures { (result ≡ fill 4096) × (4096 ≡ length result) }
 {
     [0x5a; 4096]
 }
 
+#[tactic(auto, using(crate::proofs::Laws::told_with), unfolding(crate::specs::Calls::happened))]
 fn happen(s: Session, e: Event) -> Told
     ensures { ToldIs (happened s e) result }
 {
@@ -273,6 +288,7 @@ fn happen(s: Session, e: Event) -> Told
 }
 
 // The drive's answer, and what it left in the buffer that it was lent.
+#[tactic(auto, using(crate::proofs::Laws::told_is), unfolding(crate::specs::Calls::told_answer))]
 fn answered(s: Session, a: Answer, lent: &[u8]) -> Told
     requires { length lent.now ≤ 4096 }
     ensures { ToldIs (told_answer s a lent.now) result }

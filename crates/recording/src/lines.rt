@@ -60,6 +60,7 @@ fn flag(still: bool) -> u8
 }
 
 // Whether every byte holds the fill.
+#[tactic(auto, unfolding(crate::specs::Answers::all_fill))]
 fn untouched(lent: &[u8]) -> bool
     ensures { result ≡ all_fill lent.now }
 {
