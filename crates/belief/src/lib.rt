@@ -1,1 +1,3 @@
+#![tactic(auto)]
+
 // The host's rules and demand 3: there is no code here.

@@ -1,5 +1,5 @@
 -- `wire::put_at` meets its contract: the part from the place on, lent to `put_front`; past the end there is none. Assumes nothing.
-use Rattle.std.proofs.Common.{sym, arith}
+use Rattle.std.proofs.Common.{sym}
 use native.Mathlib.Nat.{le_of_lt}
 use Rattle.wire.proofs.Fronts.{over_past}
 use Rattle.wire.proofs.Parts.{over_part}

@@ -1,5 +1,5 @@
 -- `wire::put_front` meets its contract: the end of its loop is `front_all`. Assumes nothing.
-use Rattle.std.proofs.Common.{◌≡◌, ◌∙◌, length, arith}
+use Rattle.std.proofs.Common.{◌∙◌, arith}
 use Rattle.wire.proofs.Fronts.{front_all}
 use Rattle.wire.proofs.put_front.Goals as goal
 
