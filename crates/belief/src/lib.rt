@@ -1,3 +1,2 @@
-#![tactic(auto)]
-
 // The host's rules and demand 3: there is no code here.
+#![tactic(auto)]
