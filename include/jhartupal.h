@@ -89,10 +89,10 @@ enum jhartupal_refusal {
 #define JHARTUPAL_NAME 8            /* bytes of a port name or node name */
 
 /* Bytes of stack that a call takes at most on either machine, beside what memcpy and memset take; bench/stack reckons them. */
-#define JHARTUPAL_STACK_MAKE 5248  /* jhartupal_make */
-#define JHARTUPAL_STACK_FRAME 2816 /* jhartupal_frame */
-#define JHARTUPAL_STACK_NEXT 2368  /* jhartupal_next */
-#define JHARTUPAL_STACK_EVENT 1088 /* jhartupal_loop_reset, jhartupal_time_over, jhartupal_power_on */
+#define JHARTUPAL_STACK_MAKE 12544 /* jhartupal_make */
+#define JHARTUPAL_STACK_FRAME 8384 /* jhartupal_frame */
+#define JHARTUPAL_STACK_NEXT 3584  /* jhartupal_next */
+#define JHARTUPAL_STACK_EVENT 1408 /* jhartupal_loop_reset, jhartupal_time_over, jhartupal_power_on */
 
 /* What the data of an exchange are. */
 enum jhartupal_kind {

@@ -63,10 +63,10 @@ static const struct number numbers[] = {
     NUMBER(FROM_HOST, 1),
     NUMBER(REFUSED, 65536),
     /* what bench/stack reckons for either library, rounded up */
-    NUMBER(STACK_MAKE, 5248),
-    NUMBER(STACK_FRAME, 2816),
-    NUMBER(STACK_NEXT, 2368),
-    NUMBER(STACK_EVENT, 1088),
+    NUMBER(STACK_MAKE, 12544),
+    NUMBER(STACK_FRAME, 8384),
+    NUMBER(STACK_NEXT, 3584),
+    NUMBER(STACK_EVENT, 1408),
 };
 
 void header(void) {
