@@ -49,7 +49,7 @@ static const struct number numbers[] = {
     NUMBER(NO_ATTENTION, 0),
     NUMBER(RESET, 0x29),
     NUMBER(CLEARED, 0x2F),
-    /* the documents give these no numbers: the library's own, of `wantedFits` and `directionFits` (crates/formed/specs) and `codeOf` (crates/boundary/specs) */
+    /* the documents give these no numbers: the library's own, of `wanted_fits` and `direction_fits` (crates/formed/specs) and `code_of` (crates/boundary/specs) */
     NUMBER(FREE, 0),
     NUMBER(BLOCKS, 1),
     NUMBER(INQUIRY, 2),

@@ -9,7 +9,7 @@ use std::io::Read;
 use wire::{be32, byte_at, least};
 
 // What was read into a lent buffer: how many bytes, and whether they are all that it has. Where they are not, a read failed or the input has ended.
-#[derive(Drop)]
+#[derive(Clone, Copy)]
 pub struct Filled {
     pub len: usize,
     pub whole: bool,
@@ -17,7 +17,7 @@ pub struct Filled {
 }
 
 // A record: its letter, and how many bytes of the lent buffer are its body. Where there is none all is over, and end says why.
-#[derive(Drop)]
+#[derive(Clone, Copy)]
 pub struct Record {
     pub over: bool,
     pub end: End,

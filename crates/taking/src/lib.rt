@@ -24,7 +24,7 @@ use wire::{least, less, put_at};
 
 // For no open WRITE; a fault, with the place of its exchange and the RSP_CODE; a window that is too long or does not hold the bytes;
 // or taken, with the place of its exchange and where its bytes begin in the window.
-#[derive(Drop)]
+#[derive(Clone, Copy)]
 pub enum Step {
     NoWrite,
     Fault(usize, u8),

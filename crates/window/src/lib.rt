@@ -11,7 +11,7 @@ use drive::{Answer, Drive};
 use frame::Header;
 use refusal::Refusal;
 
-#[derive(Drop)]
+#[derive(Clone, Copy)]
 pub struct Window<'a> {
     pub start: u64,
     pub bytes: &'a [u8],
