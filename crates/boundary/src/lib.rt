@@ -24,6 +24,9 @@ use state::{Change, Login, Own, Port, Setup, Unit, changed};
 use tables::Found;
 use window::{data_turn, next_turn};
 
+// The R_CTL of a data frame.
+const DATA: u8 = 0x01;
+
 // Makes a drive in the lent state, from a setup.
 pub fn jhartupal_make(d: &mut Drive, setup: &Setup) -> u64
     ensures { Tells (make_answer d.old setup.now) result d.new }
@@ -55,7 +58,7 @@ pub fn jhartupal_frame(
         let x = refusal_number(s.fine, unproven, d.port.address, h, frame);
         if x != 0 {
             return 65536 + x;
-        } else if h.r_ctl == 0x01 {
+        } else if h.r_ctl == DATA {
             let v = seen(&mut d.port, d.unit, s, seat);
             let t = data_turn(v, h, frame, start, window, reply);
             return store(&mut d.port, t);

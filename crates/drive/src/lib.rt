@@ -21,6 +21,12 @@ use state::{Change, Port, Setup, Unit, change_all, empty_login};
 use tables::Found;
 use taking::data_turn;
 
+// The R_CTL of a data frame.
+const DATA: u8 = 0x01;
+
+// The bytes of a reply buffer at least.
+const LEAST_ROOM: usize = Header::MOST_FRAME;
+
 #[repr(C)]
 #[derive(Clone, Copy)]
 pub struct Drive {
@@ -66,7 +72,7 @@ impl Drive {
         ensures reply_after { reply.new ≡ frame_in_buffer self frame.now start window.old reply.old }
         ensures window_after { window.new ≡ frame_in_window self frame.now start window.old (length reply.old) }
     {
-        if reply.len() < Header::MOST_FRAME {
+        if reply.len() < LEAST_ROOM {
             return self.refuse(Refusal::ShortBuffer);
         }
         let u = self.unit;
@@ -234,7 +240,7 @@ fn arrived_turn(
     ensures reply_after { reply.new ≡ arrived_buffer v h frame.now start (length window.old) reply.old }
     ensures window_after { window.new ≡ arrived_window v h frame.now start window.old }
 {
-    if h.r_ctl == 0x01 {
+    if h.r_ctl == DATA {
         data_turn(v, h, frame, start, window, reply)
     } else {
         passed_turn(v, h, frame, reply)
