@@ -1,5 +1,5 @@
 -- The refusals of a frame in by what arrived, in their order (document 01, "Numbers returned for refused calls"; document 02, request 2).
-use Rattle.std.specs.Prelude.{ℕ, ◌-◌, ◌%◌, Bool, false, cond, not, ◌&&◌, ◌||◌, List, [], ◌∷◌, eqb, leb, ltb, length, get_or}
+use Rattle.std.specs.Prelude.{ℕ, ◌-◌, ◌%◌, Bool, false, cond, not, ◌&&◌, ◌||◌, List, [], ◌∷◌, eqb, leb, ltb, length, get_or, Err, Ok, Result}
 use Rattle.tables.specs.Lists.{on_found}
 use Rattle.tables.specs.Firsts.{first_of}
 use Rattle.frame.specs.declared.Header.{Header}
@@ -13,8 +13,6 @@ use Rattle.refusal.specs.declared.Refusal.{Refusal}
 use Rattle.refusal.specs.declared.Refusal.TheVariants.{ShortBuffer, IllFormed, BadSize, NotOurs, BadSource, UnknownForm, Unproven, BadSetup, NoExchange, BadWindow, NoWrite}
 use Rattle.arrival.specs.declared.Form.{Form}
 use Rattle.arrival.specs.declared.Form.TheVariants.{Link, Done, Abort, Command, Data}
-use Rattle.arrival.specs.declared.Judged.{Judged}
-use Rattle.arrival.specs.declared.Judged.TheVariants.{Refused, Passed}
 
 -- 1: "reply buffer under 2,136 bytes"
 abbrev pub short_buffer : ℕ → Bool
@@ -68,8 +66,8 @@ applies_to short fine unproven own h f BadWindow = false
 applies_to short fine unproven own h f NoWrite = false
 
 -- "Frame in: 1 to 7 in order", once there is room; 11 and 10 come after these
-unfoldable pub judged_by : Bool → Bool → ℕ → Header → List ℕ → Judged
-judged_by fine unproven own h f = first_of (applies_to false fine unproven own h f) (IllFormed ∷ BadSize ∷ NotOurs ∷ BadSource ∷ UnknownForm ∷ Unproven ∷ []) Refused (Passed (form_of h.r_ctl))
+unfoldable pub judged_by : Bool → Bool → ℕ → Header → List ℕ → Result Form Refusal
+judged_by fine unproven own h f = first_of (applies_to false fine unproven own h f) (IllFormed ∷ BadSize ∷ NotOurs ∷ BadSource ∷ UnknownForm ∷ Unproven ∷ []) Err (Ok (form_of h.r_ctl))
 
 -- the same for a buffer of so many bytes, at a unit and a port
 abbrev pub applies_in : Unit → Port → Header → List ℕ → ℕ → Refusal → Bool

@@ -19,36 +19,30 @@ pub enum Form {
     Data,
 }
 
-#[derive(Clone, Copy)]
-pub enum Judged {
-    Refused(Refusal),
-    Passed(Form),
-}
-
 // The frame with header h to a drive of this address: refusals 2 to 7 in order, or its form.
 // Whether the state is well formed and whether the sender's login is unproven is the caller's to tell, and refusal 1 was told before.
-pub fn judge(fine: bool, unproven: bool, own: u32, h: Header, frame: &[u8]) -> Judged
+pub fn judge(fine: bool, unproven: bool, own: u32, h: Header, frame: &[u8]) -> Result<Form, Refusal>
     ensures { result ≡ judged_by fine unproven own h frame.now }
 {
     if !fine {
-        return Judged::Refused(Refusal::IllFormed);
+        return Err(Refusal::IllFormed);
     }
     if bad_size(frame.len()) {
-        return Judged::Refused(Refusal::BadSize);
+        return Err(Refusal::BadSize);
     }
     if h.d_id != own {
-        return Judged::Refused(Refusal::NotOurs);
+        return Err(Refusal::NotOurs);
     }
     if bad_source(own, h.s_id) {
-        return Judged::Refused(Refusal::BadSource);
+        return Err(Refusal::BadSource);
     }
     if unknown_form(h, frame.len()) {
-        return Judged::Refused(Refusal::UnknownForm);
+        return Err(Refusal::UnknownForm);
     }
     if unproven_call(unproven, h.r_ctl, byte_at(frame, 24)) {
-        return Judged::Refused(Refusal::Unproven);
+        return Err(Refusal::Unproven);
     }
-    Judged::Passed(form_of(h.r_ctl))
+    Ok(form_of(h.r_ctl))
 }
 
 // Not 24 to 2,136 bytes, or not a multiple of 4.

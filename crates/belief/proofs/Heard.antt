@@ -1,4 +1,6 @@
 -- What the host of an address hears of each call, read off the buffer: of a frame in what answers it, where the host is its sender; of a next frame that frame, where it is for the host. Assumes nothing.
+use Rattle.std.specs.Prelude.{Result, ℕ}
+use Rattle.refusal.specs.declared.Refusal.{Refusal}
 use Prim.Native.Nat.{ℕ, ◌≤◌}
 use mathlib.Core.Path.{◌≡◌, refl, sym, ap, ◌∙◌}
 use mathlib.Core.Bool.{Bool, true, false, cond, not}
@@ -8,7 +10,6 @@ use lib.ListN.{length}
 use borrow.Author.Tests.{ltb-false, eqb-true, eq-eqb, ne_eqb}
 use Rattle.frame.specs.Head.{header_of}
 use Rattle.refusal.specs.declared.Refusal.TheVariants.{ShortBuffer, IllFormed}
-use Rattle.refusal.specs.declared.Said.{Said}
 use Rattle.state.specs.Changes.{own_of}
 use Rattle.state.specs.Kinds.{is_write}
 use Rattle.formed.specs.Formed.{well_formed}
@@ -74,7 +75,7 @@ module _ (a : ℕ) (d : Drive) where
 
   module _ (w : well_formed d.unit d.port ≡ true) (b x start : ℕ) (W l : List ℕ) where
     -- what is heard of a call for the next frame to address b
-    abbrev Hears : Said → List ℕ → Type 0
+    abbrev Hears : Result ℕ Refusal → List ℕ → Type 0
     Hears s m = heard_of a s m ≡ cond (eqb b a) (cond (is_sent s) other none) none
 
     next_at_lem : (s : Step) → step_of d.port b x start (length W) ≡ s → 2136 ≤ length l → Hears (next_at s d.unit d.port b x W).said (buffer_at s d.unit d.port b x W l)

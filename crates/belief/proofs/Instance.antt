@@ -1,4 +1,5 @@
 -- The drive keeps the laws, so demand 3 holds of it. Assumes nothing.
+use Rattle.std.specs.Prelude.{Option, Some, None}
 use Prim.Native.Nat.{ℕ}
 use mathlib.Core.Path.{◌≡◌, refl, sym, ap, ◌∙◌, subst}
 use mathlib.Core.Bool.{Bool, true, false, cond, not}
@@ -7,8 +8,6 @@ use mathlib.Core.Logic.{◌⊎◌, inl, inr}
 use lib.Dec.{eqb}
 use lib.ListN.{length}
 use borrow.Author.Tests.{eqb-true}
-use Rattle.tables.specs.declared.Found.{Found}
-use Rattle.tables.specs.declared.Found.TheVariants.{At, Nothing}
 use Rattle.tables.proofs.Bools.{and_left, and_right, apart}
 use Rattle.wire.specs.Bytes.{name_of}
 use Rattle.frame.specs.Head.{header_of}
@@ -106,11 +105,11 @@ moved_record a d f start W room w n m =
     linked : decided_in d f start (length W) ≡ link_of d.port (header_of f) f
     linked = rw m.link
 
-    by : (g : Found) → free_login (host_gone d.port (header_of f) f) ≡ g → record_of (link_of d.port (header_of f) f).port a ≡ out
-    by (At i) e =
+    by : (g : Option ℕ) → free_login (host_gone d.port (header_of f) f) ≡ g → record_of (link_of d.port (header_of f) f).port a ≡ out
+    by (Some i) e =
         let taken : Accepts d.port (header_of f) f = record { size = m.size; tests = m.tests; place = i; free = e } in
         rw (accepts d.port (header_of f) f m.plogi taken) (moved_out d.port (formed_parts w).distinct (header_of f) f taken a (λ z. n (sym z)) m.name)
-    by Nothing e = apart m.name (full_unnamed d.port (header_of f).s_id (named_in f) e a)
+    by None e = apart m.name (full_unnamed d.port (header_of f).s_id (named_in f) e a)
 
 -- this host's record stays, or it is another's and has ended
 abbrev StaysOr : ℕ → ℕ → Drive → Drive → Type 0

@@ -1,4 +1,5 @@
 -- What the host reads off the front of the buffer is the kind of the reply, and whom it is for the sender that it answers. Assumes nothing.
+use Rattle.std.specs.Prelude.{Ok}
 use Prim.Native.Nat.{ℕ, ◌+◌, ◌≤◌, ◌<◌}
 use mathlib.Core.Path.{◌≡◌, refl, ap, ◌∙◌}
 use mathlib.Core.Bool.{Bool, true, false, cond, not}
@@ -14,7 +15,6 @@ use Rattle.wire.proofs.Digits.{num_bytes}
 use Rattle.wire.proofs.Fronts.{onto_fits}
 use Rattle.frame.specs.declared.Header.{Header}
 use Rattle.frame.specs.Head.{header_bytes}
-use Rattle.refusal.specs.declared.Said.TheVariants.{Sent}
 use Rattle.state.specs.declared.Own.{Own}
 use Rattle.reply.specs.declared.Accepted.{Accepted}
 use Rattle.reply.specs.declared.Accepted.TheVariants as accepted
@@ -116,7 +116,7 @@ module _ (g : Header) (P l : List ℕ) (room : 2136 ≤ length l) where
   framed_other r e a b = read_other (header_bytes g ++ P) l room long r (head_first g P ∙ e) a b
 
   framed_named : (a : ℕ) → g.d_id < 256 → (s : Answer) → sound_of (length (header_bytes g ++ P)) (onto (header_bytes g ++ P) l) ≡ s
-      → heard_of a (Sent (length (header_bytes g ++ P))) (onto (header_bytes g ++ P) l) ≡ cond (eqb g.d_id a) s none
+      → heard_of a (Ok (length (header_bytes g ++ P))) (onto (header_bytes g ++ P) l) ≡ cond (eqb g.d_id a) s none
   framed_named a small s e = rw (named_bytes (header_bytes g ++ P) l room long ∙ head_named g P small, e)
 
 -- nothing is heard of what is not sent, whatever stands in the buffer
@@ -128,7 +128,7 @@ quiet false false = refl
 
 -- "addresses swapped": the host of address a reads each reply to a frame of its own as it sounds, and none to one of another sender
 pub reads : (a : ℕ) (o : Own) (h : Header) (r : Reply) (source l : List ℕ) → 2136 ≤ length l → h.s_id < 256
-    → heard_of a (Sent (length (bytes_of o h r source))) (onto (bytes_of o h r source) l) ≡ cond (eqb h.s_id a) (sounds r) none
+    → heard_of a (Ok (length (bytes_of o h r source))) (onto (bytes_of o h r source) l) ≡ cond (eqb h.s_id a) (sounds r) none
 unfolding bytes_of answer_head logout_head data_head
 reads a o h reply.Nothing source l room small = quiet (eqb (num 3 (onto [] l) 1) a) (eqb h.s_id a)
 reads a o h (reply.Accept k) source l room small = framed_named _ _ l room a small acc (framed_done _ _ l room 0x02 refl (accept_first o.address o.accept k))
@@ -141,10 +141,10 @@ reads a o h (reply.Data x) source l room small = framed_named _ _ l room a small
 reads a o h (reply.Ready x y) source l room small = framed_named _ _ l room a small other (framed_other _ _ l room 0x05 refl refl refl)
 
 -- a reply is sent where it is not silent, since it has a header then
-head_sent : (b : Bool) (g : Header) (P : List ℕ) → is_sent (Sent (length (cond b [] (header_bytes g ++ P)))) ≡ not b
+head_sent : (b : Bool) (g : Header) (P : List ℕ) → is_sent (Ok (length (cond b [] (header_bytes g ++ P)))) ≡ not b
 head_sent true g P = refl
 head_sent false g P = let q = head_length g P in rw (ne_eqb (length (header_bytes g ++ P)) 0 (λ e. absurd (omega arith)))
 
-pub sent_is : (o : Own) (h : Header) (r : Reply) (source : List ℕ) → is_sent (Sent (length (bytes_of o h r source))) ≡ not (silent r)
+pub sent_is : (o : Own) (h : Header) (r : Reply) (source : List ℕ) → is_sent (Ok (length (bytes_of o h r source))) ≡ not (silent r)
 unfolding bytes_of
 sent_is o h r source = head_sent (silent r) _ _

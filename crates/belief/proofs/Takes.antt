@@ -1,4 +1,5 @@
 -- A frame of the host: what each kind of request is answered with, and the record after it, from the record before it. Assumes nothing.
+use Rattle.std.specs.Prelude.{Option, Some, None}
 use Prim.Native.Nat.{ℕ, ◌+◌}
 use mathlib.Core.Path.{◌≡◌, refl, sym, ap, ◌∙◌, subst}
 use mathlib.Core.Bool.{Bool, true, false}
@@ -7,8 +8,6 @@ use native.Mathlib.Omega.{arith}
 use lib.Dec.{eqb}
 use lib.ListN.{length, get_or}
 use borrow.Author.Tests.{eq-eqb}
-use Rattle.tables.specs.declared.Found.{Found}
-use Rattle.tables.specs.declared.Found.TheVariants.{At, Nothing}
 use Rattle.tables.specs.Lists.{on_found, pairs}
 use Rattle.tables.proofs.Bools as bools
 use Rattle.wire.specs.Bytes.{num}
@@ -117,9 +116,9 @@ paired_record : (p : Port) (a : ℕ) → is_paired (record_of p a) ≡ eqb (logi
 unfolding record_of login_of
 paired_record p a = by (find_login p a)
   where
-    by : (f : Found) → is_paired (on_found f (λ i. record_at (login_at p i)) out) ≡ eqb (login_in p f).paired 1
-    by (At i) = refl
-    by Nothing = refl
+    by : (f : Option ℕ) → is_paired (on_found f (λ i. record_at (login_at p i)) out) ≡ eqb (login_in p f).paired 1
+    by (Some i) = refl
+    by None = refl
 
 -- a login with another attention and other exchanges has the same record
 alike_record : (p q : Port) (a : ℕ) → Alike (login_of p a) (login_of q a) → record_of q a ≡ record_of p a
@@ -133,7 +132,7 @@ exchanged_alike : {l m : Login} → Exchanged l m → Alike l m
 exchanged_alike {l} (exchanged es) = alike l.attention es
 
 -- where a login is found, its record is held
-pub found_held : (p : Port) (a i : ℕ) → find_login p a ≡ At i → Held (record_of p a)
+pub found_held : (p : Port) (a i : ℕ) → find_login p a ≡ Some i → Held (record_of p a)
 found_held p a i e = subst Held (sym (found_record p a i e)) tt
 
 paired_command : (o : Record) (x : Reply) (r : Record) → is_paired o ≡ true → Spoken x → r ≡ o → OnCommand o (sounds x) r

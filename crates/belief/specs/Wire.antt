@@ -1,13 +1,12 @@
 -- The drive itself as demand 3 sees it: its entries' definitions of record over bytes, for the host of one address and one port name (document 01, "The host's rules"; document 02, requests 1 and 2).
-use Rattle.std.specs.Prelude.{ℕ, ◌+◌, ◌≡◌, Bool, true, false, cond, not, List, eqb, length, get_or}
+use Rattle.std.specs.Prelude.{ℕ, ◌+◌, ◌≡◌, Bool, true, false, cond, not, List, eqb, length, get_or, Ok, Err, Result}
+use Rattle.refusal.specs.declared.Refusal.{Refusal}
 use Rattle.wire.specs.Bytes.{num, name_of}
 use Rattle.wire.specs.Layout.{AllBytes}
 use Rattle.frame.specs.Head.{header_of}
 use Rattle.params.specs.Words.{params_of}
 use Rattle.formed.specs.Formed.{well_formed}
 use Rattle.link.specs.Record.{Kept, Record, out, held, kept_from, record_of}
-use Rattle.refusal.specs.declared.Said.{Said}
-use Rattle.refusal.specs.declared.Said.TheVariants.{Sent, Refused}
 use Rattle.drive.specs.declared.Drive.{Drive}
 use Rattle.drive.specs.declared.Event.TheVariants.{LoopReset, TimeOver, PowerOn}
 use Rattle.drive.specs.Drive.{event_answer}
@@ -63,9 +62,9 @@ abbrev pub sound_of : ℕ → List ℕ → Answer
 sound_of n l = cond (eqb n 0) none (cond (eqb (get_or l 0 0) 0x23) (cond (eqb (get_or l 24 0) 0x02) acc rjt) (cond (eqb (get_or l 0 0) 0x22) dlogo other))
 
 -- what the host of address a hears of a call of the drive, whoever's it is: the frame at the front of the buffer where its D_ID, bytes 1 to 3, is a; of a refused call nothing
-abbrev pub heard_of : ℕ → Said → List ℕ → Answer
-heard_of a (Sent n) l = cond (eqb (num 3 l 1) a) (sound_of n l) none
-heard_of a (Refused x) l = none
+abbrev pub heard_of : ℕ → Result ℕ Refusal → List ℕ → Answer
+heard_of a (Ok n) l = cond (eqb (num 3 l 1) a) (sound_of n l) none
+heard_of a (Err x) l = none
 
 -- of a frame in, and of a next frame of the exchange of address b and OX_ID x
 abbrev pub heard_in : ℕ → Drive → List ℕ → ℕ → List ℕ → List ℕ → Answer

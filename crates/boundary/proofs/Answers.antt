@@ -1,20 +1,18 @@
 -- What a change reaches, by the keys of the logins, is the change of all where the drive is well formed: a login that is not reached is one that the change leaves as it is.
 -- So what each entry tells, and the lent drive after it, is its answer. Assumes nothing.
+use Rattle.std.specs.Prelude.{Option, Some, None, Err}
 use Prim.Native.Nat.{ℕ, ◌+◌, ◌<◌, ◌^◌}
 use mathlib.Core.Path.{◌≡◌, refl, sym, ap, ◌∙◌, subst}
 use mathlib.Core.Bool.{Bool, true, false, cond}
 use mathlib.Core.List.{List, [], ◌∷◌, map}
 use native.Mathlib.Omega.{arith}
 use lib.ListN.{length}
-use Rattle.tables.specs.declared.Found.{Found}
-use Rattle.tables.specs.declared.Found.TheVariants.{At, Nothing}
 use Rattle.tables.specs.Lists.{all, on_found}
 use Rattle.tables.proofs.Bools.{and_left, and_right}
 use Rattle.frame.specs.declared.Header.{Header}
 use Rattle.frame.specs.Head.{header_of}
 use Rattle.refusal.specs.declared.Refusal.{Refusal}
 use Rattle.refusal.specs.declared.Refusal.TheVariants.{IllFormed}
-use Rattle.refusal.specs.declared.Said.TheVariants.{Refused}
 use Rattle.refusal.proofs.Numbers.{numbers}
 use Rattle.state.specs.declared.Login.{Login}
 use Rattle.state.specs.declared.Port.{Port}
@@ -97,7 +95,7 @@ module _ (u : Unit) (p : Port) (w : well_formed u p ≡ true) where
   settled_answer t = spared_last p (marks_of t.change (keys_of u p)) t.change t.login t.at ∙ ap (stored_at t.at t.login) (reached_changed t.change)
 
 -- what a refusal tells, the drive as it was
-pub refusal_told : {d : Drive} {a : Answer} {x : Refusal} → a ≡ refused x d → Tells a (code_of (Refused x)) d
+pub refusal_told : {d : Drive} {a : Answer} {x : Refusal} → a ≡ refused x d → Tells a (code_of (Err x)) d
 refusal_told e = (ap (λ (z : Answer). code_of z.said) (sym e), ap (λ (z : Answer). z.drive) (sym e))
 
 -- what a turn tells, the drive with the port after it
@@ -123,7 +121,7 @@ module _ (d : Drive) (f : List ℕ) (start : ℕ) (W : List ℕ) where
   abbrev v : View
   v = seen d h.s_id
 
-  abbrev seat : Found
+  abbrev seat : Option ℕ
   seat = seat_of (sight d).keys h.s_id
 
   abbrev number : ℕ
@@ -133,9 +131,9 @@ module _ (d : Drive) (f : List ℕ) (start : ℕ) (W : List ℕ) where
   unfolding view_of view_from own_of
   number_seen = by seat
     where
-      by : (s : Found) → refusal_of (sight d).fine (unproven_at s (login_in d.port s).proven) d.port.address h f ≡ refusal_of (sight d).fine (unproven_at s (on_found s (λ _. login_in d.port s) empty_login).proven) d.port.address h f
-      by (At i) = refl
-      by Nothing = refl
+      by : (s : Option ℕ) → refusal_of (sight d).fine (unproven_at s (login_in d.port s).proven) d.port.address h f ≡ refusal_of (sight d).fine (unproven_at s (on_found s (λ _. login_in d.port s) empty_login).proven) d.port.address h f
+      by (Some i) = refl
+      by None = refl
 
   -- one that has a number is refused with it, the buffer and the window left as they were
   module _ (some : number ≡ 0 → ⊥) where

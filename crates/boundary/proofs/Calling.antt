@@ -1,15 +1,14 @@
 -- What a function of the boundary was told step by step, and what it comes to: the answer of its entry. Assumes nothing.
+use Rattle.std.specs.Prelude.{Option, Err}
 use Prim.Native.Nat.{ℕ, ◌+◌, ◌<◌, ◌≤◌, ◌^◌}
 use mathlib.Core.Path.{◌≡◌, refl, sym, ap, ◌∙◌}
 use mathlib.Core.Bool.{Bool, false}
 use mathlib.Core.List.{List}
 use lib.ListN.{length}
 use borrow.Author.Tests.{lt-ltb, le-ltb, eq-eqb, ne_eqb}
-use Rattle.tables.specs.declared.Found.{Found}
 use Rattle.frame.specs.declared.Header.{Header}
 use Rattle.frame.specs.Head.{header_of}
 use Rattle.refusal.specs.declared.Refusal.TheVariants.{ShortBuffer}
-use Rattle.refusal.specs.declared.Said.TheVariants.{Refused}
 use Rattle.state.specs.declared.Port.{Port}
 use Rattle.state.specs.declared.Change.{Change}
 use Rattle.state.specs.Changes.{own_of}
@@ -39,11 +38,11 @@ abbrev pub Leaves : Drive → List ℕ → ℕ → List ℕ → List ℕ → ℕ
 Leaves d f start W l n after l₁ W₁ = Tells (frame_in d f start W (length l)) n after × (l₁ ≡ frame_in_buffer d f start W l) × (W₁ ≡ frame_in_window d f start W (length l))
 
 -- a buffer under 2,136 bytes
-pub frame_short : (d : Drive) (f : List ℕ) (start : ℕ) (W l : List ℕ) {n : ℕ} → length l < 2136 → n ≡ code_of (Refused ShortBuffer) → Leaves d f start W l n d l W
+pub frame_short : (d : Drive) (f : List ℕ) (start : ℕ) (W l : List ℕ) {n : ℕ} → length l < 2136 → n ≡ code_of (Err ShortBuffer) → Leaves d f start W l n d l W
 frame_short d f start W l s e = rw e (let a = says_short d f start W l s _ refl in (refusal_told (sym a.0), a.1.0, a.1.1))
 
 -- the steps of a frame in up to the number of its refusal: the header, what is seen of the logins, the sender's seat, and whether its login is unproven
-pub record Numbered (d : Drive) (f : List ℕ) (h : Header) (s : Sight) (seat : Found) (b : Bool) (p q : Port) (x : ℕ) : Type 0 where
+pub record Numbered (d : Drive) (f : List ℕ) (h : Header) (s : Sight) (seat : Option ℕ) (b : Bool) (p q : Port) (x : ℕ) : Type 0 where
   pub header : h ≡ header_of f
   pub sighted : s ≡ sight_of d.unit d.port
   pub same : p ≡ d.port
@@ -52,11 +51,11 @@ pub record Numbered (d : Drive) (f : List ℕ) (h : Header) (s : Sight) (seat : 
   pub kept : q ≡ p
   pub number : x ≡ refusal_of s.fine b q.address h f
 
-pub numbered : {d : Drive} {f : List ℕ} {h : Header} {s : Sight} {seat : Found} {b : Bool} {p q : Port} {x : ℕ} → h ≡ header_of f → (s ≡ sight_of d.unit d.port) × (p ≡ d.port) → seat ≡ seat_of s.keys h.s_id
+pub numbered : {d : Drive} {f : List ℕ} {h : Header} {s : Sight} {seat : Option ℕ} {b : Bool} {p q : Port} {x : ℕ} → h ≡ header_of f → (s ≡ sight_of d.unit d.port) × (p ≡ d.port) → seat ≡ seat_of s.keys h.s_id
     → (b ≡ unproven_at seat (login_in p seat).proven) × (q ≡ p) → x ≡ refusal_of s.fine b q.address h f → Numbered d f h s seat b p q x
 numbered eh es ek eb ex = record { header = eh; sighted = es.0; same = es.1; seated = ek; tested = eb.0; kept = eb.1; number = ex }
 
-module _ (d : Drive) (f : List ℕ) (start : ℕ) (W l : List ℕ) {h : Header} {s : Sight} {seat : Found} {b : Bool} {p q : Port} {x : ℕ} (n : Numbered d f h s seat b p q x) (room : 2136 ≤ length l) where
+module _ (d : Drive) (f : List ℕ) (start : ℕ) (W l : List ℕ) {h : Header} {s : Sight} {seat : Option ℕ} {b : Bool} {p q : Port} {x : ℕ} (n : Numbered d f h s seat b p q x) (room : 2136 ≤ length l) where
   roomy : short_buffer (length l) ≡ false
   roomy = le-ltb (length l) 2136 room
 
@@ -102,7 +101,7 @@ abbrev pub Sends : Drive → ℕ → ℕ → ℕ → List ℕ → List ℕ → �
 Sends d a x start W l n after l₁ = Tells (next_frame d a x start W (length l)) n after × (l₁ ≡ next_frame_buffer d a x start W l)
 
 module _ (d : Drive) (a x start : ℕ) (W l : List ℕ) {n : ℕ} where
-  pub next_refused : length l < 2136 → n ≡ code_of (Refused ShortBuffer) → Sends d a x start W l n d l
+  pub next_refused : length l < 2136 → n ≡ code_of (Err ShortBuffer) → Sends d a x start W l n d l
   next_refused s e =
       let short = lt-ltb (length l) 2136 s in
       rw e (refusal_told (next_short d a x start W (length l) short), sym (next_short_buffer d a x start W l short))

@@ -1,4 +1,5 @@
 -- A loop over the logins whose places are marked: at place i the logins before it are done, and the change is still to go over the others. Assumes nothing.
+use Rattle.std.specs.Prelude.{Option, Some, None}
 use Prim.Native.Nat.{ℕ, zero, suc, ◌+◌, ◌-◌, ◌≤◌, ◌<◌}
 use mathlib.Core.Path.{◌≡◌, refl, sym, ap, ◌∙◌, subst}
 use mathlib.Core.Bool.{Bool, true, false, cond}
@@ -10,8 +11,6 @@ use lib.Dec.{ltb}
 use lib.ListN.{length, get_or, set, take, drop, drop_of_length-le, length-set}
 use lib.Seq.{drop-cons, take_all, take-suc, take-suc-set, drop-set-lt, set_out}
 use borrow.Author.Tests.{ltb-true, ltb-false}
-use Rattle.tables.specs.declared.Found.{Found}
-use Rattle.tables.specs.declared.Found.TheVariants.{At, Nothing}
 use Rattle.tables.specs.Lists.{on_found}
 use Rattle.state.specs.declared.Login.{Login}
 use Rattle.state.specs.declared.Port.{Port}
@@ -75,22 +74,22 @@ reached_spare c (x ∷ ms) (y ∷ ls) zero b l = refl
 reached_spare c (x ∷ ms) (y ∷ ls) (suc i) b l = ap (λ (ys : List Login). cond x (changed_of c y) y ∷ ys) (reached_spare c ms ls i b l)
 
 -- so the place that is stored last may be spared
-pub spared_last : (p : Port) (ms : List Bool) (c : Change) (l : Login) (f : Found) → stored_at f l (reached_of p (spared_marks ms f) c) ≡ stored_at f l (reached_of p ms c)
+pub spared_last : (p : Port) (ms : List Bool) (c : Change) (l : Login) (f : Option ℕ) → stored_at f l (reached_of p (spared_marks ms f) c) ≡ stored_at f l (reached_of p ms c)
 unfolding with_login reached_of
-spared_last p ms c l (At i) = ap (with_logins p) (reached_spare c ms p.logins i false l)
-spared_last p ms c l Nothing = refl
+spared_last p ms c l (Some i) = ap (with_logins p) (reached_spare c ms p.logins i false l)
+spared_last p ms c l None = refl
 
 -- the port with a login at the place that is found, or at none
 module _ (p : Port) (l : Login) (n : ℕ) where
-  pub stored_here : (f : Found) → n ≡ on_found f (λ i. i) 8 → n < 8 → with_logins p (set p.logins n l) ≡ stored_at f l p
+  pub stored_here : (f : Option ℕ) → n ≡ on_found f (λ i. i) 8 → n < 8 → with_logins p (set p.logins n l) ≡ stored_at f l p
   unfolding with_login
-  stored_here (At i) e h = ap (λ (j : ℕ). with_logins p (set p.logins j l)) e
-  stored_here Nothing e h = absurd (lt_irrefl n (omega (arith, e, h)))
+  stored_here (Some i) e h = ap (λ (j : ℕ). with_logins p (set p.logins j l)) e
+  stored_here None e h = absurd (lt_irrefl n (omega (arith, e, h)))
 
-  pub stored_none : (f : Found) → length p.logins ≡ 8 → n ≡ on_found f (λ i. i) 8 → 8 ≤ n → p ≡ stored_at f l p
+  pub stored_none : (f : Option ℕ) → length p.logins ≡ 8 → n ≡ on_found f (λ i. i) 8 → 8 ≤ n → p ≡ stored_at f l p
   unfolding with_login
-  stored_none (At i) long e h = ap (with_logins p) (sym (set_out p.logins i l (omega (arith, long, e, h))))
-  stored_none Nothing long e h = refl
+  stored_none (Some i) long e h = ap (with_logins p) (sym (set_out p.logins i l (omega (arith, long, e, h))))
+  stored_none None long e h = refl
 
 -- the search for the next place that is marked: those from a place on to i were passed over
 pub record Passed (ms : List Bool) (from i : ℕ) : Type 0 where

@@ -1,7 +1,6 @@
 -- The C boundary: what its functions answer, and the lent drive after them.
-use Rattle.std.specs.Prelude.{ℕ, ◌+◌, ◌≡◌}
-use Rattle.refusal.specs.declared.Said.{Said}
-use Rattle.refusal.specs.declared.Said.TheVariants.{Sent, Refused}
+use Rattle.std.specs.Prelude.{ℕ, ◌+◌, ◌≡◌, Ok, Err, Result}
+use Rattle.refusal.specs.declared.Refusal.{Refusal}
 use Rattle.refusal.specs.Refusal.{number_of}
 use Rattle.state.specs.declared.Setup.{Setup}
 use Rattle.drive.specs.declared.Answer.{Answer}
@@ -9,18 +8,18 @@ use Rattle.drive.specs.declared.Drive.{Drive}
 use Rattle.drive.specs.Drive.{refused, new_answer}
 
 -- the reply's length, or 65,536 plus the refusal's number
-abbrev pub code_of : Said → ℕ
-code_of (Sent n) = n
-code_of (Refused x) = 65536 + number_of x
+abbrev pub code_of : Result ℕ Refusal → ℕ
+code_of (Ok n) = n
+code_of (Err x) = 65536 + number_of x
 
 -- what an entry answers, told in one number, and the lent drive after it
 abbrev pub Tells : Answer → ℕ → Drive → Type 0
 Tells a n after = (n ≡ code_of a.said) × (after ≡ a.drive)
 
 -- "returns its number and the state unchanged": the drive that stood there before
-abbrev pub or_still : Drive → Said → Answer → Answer
-or_still d (Sent n) a = a
-or_still d (Refused x) a = refused x d
+abbrev pub or_still : Drive → Result ℕ Refusal → Answer → Answer
+or_still d (Ok n) a = a
+or_still d (Err x) a = refused x d
 
 -- "Making a drive: 8"
 unfoldable pub make_answer : Drive → Setup → Answer

@@ -1,7 +1,6 @@
 -- The lent port after a turn, changed where it stands: which logins a change reaches, by their keys. That this is the port after the turn, at a drive that is well formed, is `settled_answer`.
-use Rattle.std.specs.Prelude.{ℕ, ◌+◌, ◌≤◌, ◌<◌, ◌≡◌, Bool, true, false, cond, not, ◌||◌, List, [], ◌∷◌, map, eqb, get_or, set}
-use Rattle.tables.specs.declared.Found.{Found}
-use Rattle.tables.specs.declared.Found.TheVariants.{At, Nothing}
+use Rattle.std.specs.Prelude.{ℕ, ◌+◌, ◌≤◌, ◌<◌, ◌≡◌, Bool, true, false, cond, not, ◌||◌, List, [], ◌∷◌, map, eqb, get_or, set, Option, Some, None, Ok, Err, Result}
+use Rattle.refusal.specs.declared.Refusal.{Refusal}
 use Rattle.state.specs.declared.Login.{Login}
 use Rattle.state.specs.declared.Port.{Port}
 use Rattle.state.specs.declared.Change.{Change}
@@ -10,8 +9,6 @@ use Rattle.state.specs.Changes.{with_logins, changed_of}
 use Rattle.formed.specs.declared.Key.{Key}
 use Rattle.formed.specs.Keys.{key_named}
 use Rattle.refusal.specs.declared.Refusal.TheVariants.{IllFormed}
-use Rattle.refusal.specs.declared.Said.{Said}
-use Rattle.refusal.specs.declared.Said.TheVariants.{Sent, Refused}
 use Rattle.calls.specs.declared.Sight.{Sight}
 use Rattle.calls.specs.declared.Turn.{Turn}
 use Rattle.calls.specs.Turn.{stored_at}
@@ -33,9 +30,9 @@ abbrev pub marks_of : Change → List Key → List Bool
 marks_of c keys = map (reaches c) keys
 
 -- the same but for a place
-abbrev pub spared_marks : List Bool → Found → List Bool
-spared_marks marks (At i) = set marks i false
-spared_marks marks Nothing = marks
+abbrev pub spared_marks : List Bool → Option ℕ → List Bool
+spared_marks marks (Some i) = set marks i false
+spared_marks marks None = marks
 
 -- r is the next place from a place on that is marked, or 8
 pub record NextMarked (marks : List Bool) (from r : ℕ) : Type 0 where
@@ -59,8 +56,8 @@ unfoldable pub settled_of : Port → List Key → Turn → Port
 settled_of p keys t = stored_at t.at t.login (reached_of p (spared_marks (marks_of t.change keys) t.at) t.change)
 
 -- an event, seen so: "Event: 2", and "the state unchanged"
-abbrev pub happened_said : Bool → Said
-happened_said fine = cond fine (Sent 0) (Refused IllFormed)
+abbrev pub happened_said : Bool → Result ℕ Refusal
+happened_said fine = cond fine (Ok 0) (Err IllFormed)
 
 abbrev pub happened_of : Port → Sight → Change → Port
 happened_of p s c = cond s.fine (reached_of p (marks_of c s.keys) c) p

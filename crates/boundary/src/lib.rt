@@ -19,9 +19,8 @@ use calls::{Sight, Turn, View, seat_of, see, sight_from};
 use drive::{Answer, Drive, Event, change_of, passed_turn, refusal_number, unproven_at};
 use formed::{Key, key_named, login_key};
 use frame::{Header, read_header};
-use refusal::{Refusal, Said};
+use refusal::Refusal;
 use state::{Change, Login, Own, Port, Setup, Unit, changed};
-use tables::Found;
 use window::{data_turn, next_turn};
 
 // The R_CTL of a data frame.
@@ -49,7 +48,7 @@ pub fn jhartupal_frame(
         × (window.new ≡ frame_in_window d.old frame.now start window.old (length reply.old)) }
 {
     if reply.len() < Header::MOST_FRAME {
-        return code(Said::Refused(Refusal::ShortBuffer));
+        return code(Err(Refusal::ShortBuffer));
     } else {
         let h = read_header(frame);
         let s = sight(&mut d.port, d.unit);
@@ -83,7 +82,7 @@ pub fn jhartupal_next(
         × (reply.new ≡ next_frame_buffer d.old address ox_id start window.now reply.old) }
 {
     if reply.len() < Header::MOST_FRAME {
-        return code(Said::Refused(Refusal::ShortBuffer));
+        return code(Err(Refusal::ShortBuffer));
     } else {
         let v = view(&mut d.port, d.unit, address);
         let t = next_turn(v, address, ox_id, start, window, reply);
@@ -150,7 +149,7 @@ fn view(p: &mut Port, u: Unit, address: u32) -> View
 }
 
 // The same once the logins were looked at: the login at a seat is read where it stands. A frame that is refused costs no copy of it.
-fn seen(p: &mut Port, u: Unit, s: Sight, seat: Found) -> View
+fn seen(p: &mut Port, u: Unit, s: Sight, seat: Option<usize>) -> View
     requires { AtBelow seat }
     ensures { (result ≡ view_from u (own_of p.old) s seat (login_in p.old seat)) × (p.new ≡ p.old) }
 {
@@ -168,7 +167,7 @@ fn seen(p: &mut Port, u: Unit, s: Sight, seat: Found) -> View
 }
 
 // Whether the login at a seat is unproven; where there is none it is not.
-fn is_unproven(p: &mut Port, seat: Found) -> bool
+fn is_unproven(p: &mut Port, seat: Option<usize>) -> bool
     requires { AtBelow seat }
     ensures { (result ≡ unproven_at seat (login_in p.old seat).proven) × (p.new ≡ p.old) }
 {
@@ -218,30 +217,30 @@ fn happen(p: &mut Port, s: Sight, c: Change) -> u64
 {
     if s.fine {
         reach(p, marks(s.keys, c), c);
-        return code(Said::Sent(0));
+        return code(Ok(0));
     } else {
-        return code(Said::Refused(Refusal::IllFormed));
+        return code(Err(Refusal::IllFormed));
     }
 }
 
 // A place, or the first where there is none.
-fn place_or_first(f: Found) -> usize
+fn place_or_first(f: Option<usize>) -> usize
     requires { AtBelow f }
     ensures { (result ≡ on_found f (λ i. i) 0) × (result < 8) }
 {
     match f {
-        Found::At(i) => i,
-        Found::Nothing => 0,
+        Some(i) => i,
+        None => 0,
     }
 }
 
 // A place, or 8 where there is none.
-fn place_or_none(f: Found) -> usize
+fn place_or_none(f: Option<usize>) -> usize
     ensures { result ≡ on_found f (λ i. i) 8 }
 {
     match f {
-        Found::At(i) => i,
-        Found::Nothing => Port::LOGINS,
+        Some(i) => i,
+        None => Port::LOGINS,
     }
 }
 
@@ -260,7 +259,7 @@ fn marks(keys: [Key; 8], c: Change) -> [bool; 8]
 }
 
 // The same but for a place.
-fn spare(marks: [bool; 8], at: Found) -> [bool; 8]
+fn spare(marks: [bool; 8], at: Option<usize>) -> [bool; 8]
     ensures { result ≡ spared_marks marks at }
 {
     let mut m = marks;
@@ -339,17 +338,17 @@ fn make(d: Drive, setup: Setup) -> Answer
     let a = Drive::new(setup);
     let said = a.said;
     match said {
-        Said::Sent(_) => a,
-        Said::Refused(x) => d.refuse(x),
+        Ok(_) => a,
+        Err(x) => d.refuse(x),
     }
 }
 
 // The reply's length, or 65,536 plus the refusal's number.
-fn code(s: Said) -> u64
+fn code(s: Result<usize, Refusal>) -> u64
     ensures { result ≡ code_of s }
 {
     match s {
-        Said::Sent(n) => n as u64,
-        Said::Refused(x) => 65536 + (x.number() as u64),
+        Ok(n) => n as u64,
+        Err(x) => 65536 + (x.number() as u64),
     }
 }

@@ -1,11 +1,10 @@
 -- What a decision makes of a port, told by what changes, is what it makes of the whole port. Assumes nothing.
+use Rattle.std.specs.Prelude.{Option, Some, None}
 use Prim.Native.Nat.{ℕ}
 use mathlib.Core.Path.{◌≡◌, refl, ap, ◌∙◌}
 use mathlib.Core.Bool.{Bool, true, false, cond}
 use mathlib.Core.List.{map-id}
 use lib.Seq.{set-get_or}
-use Rattle.tables.specs.declared.Found.{Found}
-use Rattle.tables.specs.declared.Found.TheVariants.{At, Nothing}
 use Rattle.tables.specs.Lists.{all, on_found}
 use Rattle.refusal.specs.declared.Refusal.{Refusal}
 use Rattle.state.specs.declared.Login.{Login}
@@ -32,9 +31,9 @@ pub on_cond : {A : Type 0} (P : A → Type 0) (b : Bool) {x y : A} → P x → P
 on_cond P b h k = by_cond P b (λ _. h) (λ _. k)
 
 -- and so of a choice by whether a place is found
-pub on_found_lem : {A : Type 0} (P : A → Type 0) (f : Found) (t : ℕ → A) (e : A) → ((i : ℕ) → f ≡ At i → P (t i)) → (f ≡ Nothing → P e) → P (on_found f t e)
-on_found_lem P (At i) t e h k = h i refl
-on_found_lem P Nothing t e h k = k refl
+pub on_found_lem : {A : Type 0} (P : A → Type 0) (f : Option ℕ) (t : ℕ → A) (e : A) → ((i : ℕ) → f ≡ Some i → P (t i)) → (f ≡ None → P e) → P (on_found f t e)
+on_found_lem P (Some i) t e h k = h i refl
+on_found_lem P None t e h k = k refl
 
 module _ (p : Port) where
   -- a change that keeps every login
@@ -71,9 +70,9 @@ module _ (p : Port) where
 
 -- an answer by whether the caller's login is found
 pub found_is : (u : Unit) (p : Port) (a : ℕ) → all (login_fine u p.address) p.logins ≡ true → (t : ℕ → Decision) (e : Decision) (g : ℕ → Decided) {d : Decided}
-    → ((i : ℕ) → find_login p a ≡ At i → decided_by p (t i) ≡ g i) → decided_by p e ≡ d → decided_by p (on_found (view_of u p a).seat t e) ≡ on_found (find_login p a) g d
-found_is u p a fine t e g {d} x y = ap (λ (f : Found). decided_by p (on_found f t e)) (view_seat u p a fine) ∙ step (find_login p a) refl
+    → ((i : ℕ) → find_login p a ≡ Some i → decided_by p (t i) ≡ g i) → decided_by p e ≡ d → decided_by p (on_found (view_of u p a).seat t e) ≡ on_found (find_login p a) g d
+found_is u p a fine t e g {d} x y = ap (λ (f : Option ℕ). decided_by p (on_found f t e)) (view_seat u p a fine) ∙ step (find_login p a) refl
   where
-    step : (f : Found) → find_login p a ≡ f → decided_by p (on_found f t e) ≡ on_found f g d
-    step (At i) h = x i h
-    step Nothing h = y
+    step : (f : Option ℕ) → find_login p a ≡ f → decided_by p (on_found f t e) ≡ on_found f g d
+    step (Some i) h = x i h
+    step None h = y

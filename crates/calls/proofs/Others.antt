@@ -1,4 +1,5 @@
 -- After any turn of another sender the login of an address is what the turn's change of every login makes of it. Assumes nothing.
+use Rattle.std.specs.Prelude.{Option, Some, None}
 use Prim.Native.Nat.{ℕ, zero, suc, ◌+◌}
 use mathlib.Core.Path.{◌≡◌, refl, sym, ap, ◌∙◌}
 use mathlib.Core.Bool.{Bool, true, false, cond, ◌&&◌}
@@ -8,8 +9,6 @@ use native.Mathlib.Nat.{add-zero}
 use lib.Dec.{eqb}
 use lib.ListN.{get_or, set, get_or-map}
 use borrow.Author.Tests.{eqb-true, eq-eqb, ne_eqb, not-true}
-use Rattle.tables.specs.declared.Found.{Found}
-use Rattle.tables.specs.declared.Found.TheVariants.{At, Nothing}
 use Rattle.tables.specs.Lists.{first_from, on_found, all, pairs}
 use Rattle.tables.proofs.Bools.{and_left, and_right, apart}
 use Rattle.tables.proofs.Searches.{found_passes}
@@ -32,7 +31,7 @@ seen a [] = empty_login
 seen a (l ∷ ls) = cond (has_address a l) l (seen a ls)
 
 seen_step : (a : ℕ) (l : Login) (ls : List Login) (k : ℕ) (g : ℕ → Login) (b : Bool) → g k ≡ l → on_found (first_from (has_address a) (suc k) ls) g empty_login ≡ seen a ls
-    → on_found (cond b (At k) (first_from (has_address a) (suc k) ls)) g empty_login ≡ cond b l (seen a ls)
+    → on_found (cond b (Some k) (first_from (has_address a) (suc k) ls)) g empty_login ≡ cond b l (seen a ls)
 seen_step a l ls k g true e more = e
 seen_step a l ls k g false e more = more
 
@@ -130,10 +129,10 @@ unfolding changed_all
 changed_sees p d c a = is_seen (changed_all c p) a ∙ changed_seen c a p.logins d ∙ ap (changed_of c) (sym (is_seen p a))
 
 -- a login stored, none of which is the address's: its login stays
-pub stored_sees : (p : Port) (a : ℕ) (at : Found) (l : Login) → Another p a at l → login_of (stored_at at l p) a ≡ login_of p a
+pub stored_sees : (p : Port) (a : ℕ) (at : Option ℕ) (l : Login) → Another p a at l → login_of (stored_at at l p) a ≡ login_of p a
 unfolding with_login login_at
-stored_sees p a (At i) l o = is_seen (with_login p i l) a ∙ set_seen a p.logins i l o.0 o.1 ∙ sym (is_seen p a)
-stored_sees p a Nothing l o = refl
+stored_sees p a (Some i) l o = is_seen (with_login p i l) a ∙ set_seen a p.logins i l o.0 o.1 ∙ sym (is_seen p a)
+stored_sees p a None l o = refl
 
 -- the login at a place after a change of every login
 pub at_changed : (p : Port) (k : ℕ) (c : Change) → login_at (changed_all c p) k ≡ changed_of c (login_at p k)
@@ -145,10 +144,10 @@ pub others_see : (p : Port) → pairs apart_login p.logins ≡ true → (t : Tur
 others_see p d t a o = stored_sees (changed_all t.change p) a t.at t.login o ∙ changed_sees p d t.change a
 
 -- the places where a sender's login is stored: its seat, which is not another's, whatever is changed
-pub seat_another : (p : Port) (a b i : ℕ) (c : Change) → (a ≡ b → ⊥) → find_login p b ≡ At i → has_address a (login_at (changed_all c p) i) ≡ false
+pub seat_another : (p : Port) (a b i : ℕ) (c : Change) → (a ≡ b → ⊥) → find_login p b ≡ Some i → has_address a (login_at (changed_all c p) i) ≡ false
 seat_another p a b i c n e = ap (has_address a) (at_changed p i c) ∙ like_has a (like c (login_at p i)) (other_has a b (login_at p i) n (found_has p b i e))
 
 -- and the lowest that is free, which is nobody's
-pub place_another : (p : Port) (a i : ℕ) → free_login p ≡ At i → has_address a (login_at p i) ≡ false
+pub place_another : (p : Port) (a i : ℕ) → free_login p ≡ Some i → has_address a (login_at p i) ≡ false
 unfolding free_login login_at
 place_another p a i e = free_has a (get_or p.logins i empty_login) (not-true (is_used (get_or p.logins i empty_login)) (found_passes empty_login is_free p.logins e))

@@ -1,11 +1,11 @@
 -- In a well-formed port an exchange stands where its login and it are: no other login has the address, and no other exchange of the login the OX_ID. Assumes nothing.
+use Rattle.std.specs.Prelude.{Some}
 use Prim.Native.Nat.{ℕ, ◌<◌}
 use mathlib.Core.Path.{◌≡◌, refl, sym, ◌∙◌}
 use mathlib.Core.Bool.{Bool, true, false, not}
 use lib.Dec.{eqb}
 use lib.ListN.{length}
 use borrow.Author.Tests.{eqb-true, eq-eqb, not-true}
-use Rattle.tables.specs.declared.Found.TheVariants.{At}
 use Rattle.tables.proofs.Bools.{and_left, and_right, apart}
 use Rattle.tables.proofs.Keeping.{all_at}
 use Rattle.tables.proofs.Only.{inside, only_found}
@@ -35,7 +35,7 @@ unfolding has_id
 empty_id x = refl
 
 -- the login of an address stands where a login has it
-pub seat_found : (u : Unit) (p : Port) → well_formed u p ≡ true → (a i : ℕ) → has_address a (login_at p i) ≡ true → find_login p a ≡ At i
+pub seat_found : (u : Unit) (p : Port) → well_formed u p ≡ true → (a i : ℕ) → has_address a (login_at p i) ≡ true → find_login p a ≡ Some i
 unfolding find_login login_at
 seat_found u p w a i has = only_found empty_login (has_address a) apart_login (empty_has a) (apart_has a) p.logins i (formed_parts w).distinct has
 
@@ -52,7 +52,7 @@ module _ (u : Unit) (p : Port) (w : well_formed u p ≡ true) (a x i j : ℕ) (h
   unfolding login_at
   login_fine_lem = all_at (login_fine u p.address) empty_login p.logins i login_in_lem (formed_parts w).logins
 
-  place_found : find_exchange (login_at p i) x ≡ At j
+  place_found : find_exchange (login_at p i) x ≡ Some j
   unfolding find_exchange exchange_at
   place_found = only_found empty_exchange (has_id x) apart_id (empty_id x) (ids_apart x) (login_at p i).places j (fine_used login_used login_fine_lem).ids id
 

@@ -1,9 +1,8 @@
 -- What a call sees of a unit and a port, where the port's logins are fine, is what is found in the port's tables. Assumes nothing.
+use Rattle.std.specs.Prelude.{Option, Some, None}
 use Prim.Native.Nat.{ℕ, ◌<◌}
 use mathlib.Core.Path.{◌≡◌, refl, ap, ◌∙◌}
 use mathlib.Core.Bool.{true}
-use Rattle.tables.specs.declared.Found.{Found}
-use Rattle.tables.specs.declared.Found.TheVariants.{At, Nothing}
 use Rattle.tables.specs.Lists.{all, on_found}
 use Rattle.state.specs.declared.Port.{Port}
 use Rattle.state.specs.declared.Unit.{Unit}
@@ -19,22 +18,22 @@ use Rattle.calls.specs.Turn.{AtBelow}
 use Rattle.calls.proofs.Seats.{seat_is, place_is}
 
 -- a place that is told, by its equation
-pub below_from : (f : Found) → ((i : ℕ) → f ≡ At i → i < 8) → AtBelow f
-below_from (At i) h = h i refl
-below_from Nothing h = tt
+pub below_from : (f : Option ℕ) → ((i : ℕ) → f ≡ Some i → i < 8) → AtBelow f
+below_from (Some i) h = h i refl
+below_from None h = tt
 
 -- the one lookup finds an exchange where it stands at the login of the address, an empty one where it has none
 pub sought_is : (p : Port) (a x : ℕ) → sought_in p a x ≡ find_exchange (login_of p a) x
 unfolding lookup_of login_of find_exchange has_id
 sought_is p a x = step (find_login p a)
   where
-    placed : (i : ℕ) (f : Found) → place_in (on_found f (λ j. Open i j) (NoExchange i)) ≡ f
-    placed i (At j) = refl
-    placed i Nothing = refl
+    placed : (i : ℕ) (f : Option ℕ) → place_in (on_found f (λ j. Open i j) (NoExchange i)) ≡ f
+    placed i (Some j) = refl
+    placed i None = refl
 
-    step : (f : Found) → place_in (standing_in f (find_exchange (login_in p f) x)) ≡ find_exchange (login_in p f) x
-    step (At i) = placed i (find_exchange (login_at p i) x)
-    step Nothing = refl
+    step : (f : Option ℕ) → place_in (standing_in f (find_exchange (login_in p f) x)) ≡ find_exchange (login_in p f) x
+    step (Some i) = placed i (find_exchange (login_at p i) x)
+    step None = refl
 
 module _ (u : Unit) (p : Port) (a : ℕ) where
   pub view_unit : (view_of u p a).unit ≡ u
@@ -65,11 +64,11 @@ module _ (u : Unit) (p : Port) (a : ℕ) where
     unfolding view_of view_from login_of
     view_is = step (seat_of (keys_of u p) a) ∙ ap (login_in p) view_seat
       where
-        step : (f : Found) → on_found f (λ _. login_in p f) empty_login ≡ login_in p f
-        step (At i) = refl
-        step Nothing = refl
+        step : (f : Option ℕ) → on_found f (λ _. login_in p f) empty_login ≡ login_in p f
+        step (Some i) = refl
+        step None = refl
 
-    pub view_login : (i : ℕ) → find_login p a ≡ At i → (view_of u p a).login ≡ login_at p i
+    pub view_login : (i : ℕ) → find_login p a ≡ Some i → (view_of u p a).login ≡ login_at p i
     unfolding login_of
     view_login i e = view_is ∙ ap (login_in p) e
 

@@ -1,7 +1,5 @@
 -- What a turn is to the login of an address.
-use Rattle.std.specs.Prelude.{ℕ, ◌≡◌, false}
-use Rattle.tables.specs.declared.Found.{Found}
-use Rattle.tables.specs.declared.Found.TheVariants.{At, Nothing}
+use Rattle.std.specs.Prelude.{ℕ, ◌≡◌, false, Option, Some, None}
 use Rattle.state.specs.declared.Login.{Login}
 use Rattle.state.specs.declared.Port.{Port}
 use Rattle.state.specs.declared.Change.{Change}
@@ -11,9 +9,9 @@ use Rattle.state.specs.Tables.{login_of}
 use Rattle.calls.specs.declared.Decision.{Decision}
 
 -- what is stored, a login at a place or none, is of another than address a: neither the login that stood there nor the one stored is a's
-abbrev pub Another : Port → ℕ → Found → Login → Type 0
-Another p a (At i) l = (has_address a (login_at p i) ≡ false) × (has_address a l ≡ false)
-Another p a Nothing l = Unit {0}
+abbrev pub Another : Port → ℕ → Option ℕ → Login → Type 0
+Another p a (Some i) l = (has_address a (login_at p i) ≡ false) × (has_address a l ≡ false)
+Another p a None l = Unit {0}
 
 -- the changes that leave the login l of address a but for its attention and its exchanges: another's login may end, of another address and another port name
 abbrev pub Leaves : ℕ → Login → Change → Type 0

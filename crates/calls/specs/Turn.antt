@@ -1,9 +1,6 @@
 -- What a call does, told by what changes, and the port after it.
-use Rattle.std.specs.Prelude.{ℕ, ◌<◌}
-use Rattle.tables.specs.declared.Found.{Found}
-use Rattle.tables.specs.declared.Found.TheVariants.{At, Nothing}
+use Rattle.std.specs.Prelude.{ℕ, ◌<◌, Option, Some, None, Ok, Err}
 use Rattle.refusal.specs.declared.Refusal.{Refusal}
-use Rattle.refusal.specs.declared.Said.TheVariants.{Sent, Refused}
 use Rattle.state.specs.declared.Login.{Login}
 use Rattle.state.specs.declared.Port.{Port}
 use Rattle.state.specs.declared.Change.{Change}
@@ -32,7 +29,7 @@ served_at p i s = decided_as s.reply (with_login p i s.login)
 
 -- a reply, and a change of every login
 abbrev pub changes : Reply → Change → Decision
-changes r c = record { reply = r; change = c; at = Nothing; login = empty_login }
+changes r c = record { reply = r; change = c; at = None; login = empty_login }
 
 -- a reply, and nothing changes
 abbrev pub answers_only : Reply → Decision
@@ -40,7 +37,7 @@ answers_only r = changes r Keep
 
 -- a reply, and the login at a place after it; no other login changes
 abbrev pub stores : Reply → ℕ → Login → Decision
-stores r i l = record { reply = r; change = Keep; at = At i; login = l }
+stores r i l = record { reply = r; change = Keep; at = Some i; login = l }
 
 -- a service on the login at a place
 abbrev pub served_in : ℕ → Served → Decision
@@ -48,16 +45,16 @@ served_in i s = stores s.reply i s.login
 
 -- "returns its number and the state unchanged"
 abbrev pub refused_turn : Refusal → Turn
-refused_turn x = record { said = Refused x; change = Keep; at = Nothing; login = empty_login }
+refused_turn x = record { said = Err x; change = Keep; at = None; login = empty_login }
 
 -- the reply's length, and what changes
 abbrev pub sent_turn : ℕ → Decision → Turn
-sent_turn n d = record { said = Sent n; change = d.change; at = d.at; login = d.login }
+sent_turn n d = record { said = Ok n; change = d.change; at = d.at; login = d.login }
 
 -- a login stored at a place, or at none
-abbrev pub stored_at : Found → Login → Port → Port
-stored_at (At i) l p = with_login p i l
-stored_at Nothing l p = p
+abbrev pub stored_at : Option ℕ → Login → Port → Port
+stored_at (Some i) l p = with_login p i l
+stored_at None l p = p
 
 -- the port after a turn, and after a decision: the change of every login, and then the login at its place
 abbrev pub port_after : Port → Turn → Port
@@ -71,6 +68,6 @@ abbrev pub decided_by : Port → Decision → Decided
 decided_by p d = decided_as d.reply (decided_port p d)
 
 -- "8 logins at most": a place that is told is one of the table's eight
-abbrev pub AtBelow : Found → Type 0
-AtBelow (At i) = i < 8
-AtBelow Nothing = Unit {0}
+abbrev pub AtBelow : Option ℕ → Type 0
+AtBelow (Some i) = i < 8
+AtBelow None = Unit {0}

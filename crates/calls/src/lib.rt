@@ -8,10 +8,9 @@ ghost use Rattle.calls.specs.View.{is_any, find_any, seat_of, place_for, sight_f
 ghost use Rattle.calls.specs.Turn.{answers_only, stores, changes, served_as, served_in, refused_turn, sent_turn, port_after};
 
 use formed::{Key, all_fine, key_named, login_keys};
-use refusal::{Refusal, Said};
+use refusal::Refusal;
 use reply::Reply;
 use state::{Change, Login, Own, Port, Unit, change_all, empty_login, login_at, own_of, put_login};
-use tables::Found;
 
 // What every call sees of a port's logins: their keys, and whether the state is well formed.
 #[derive(Clone, Copy)]
@@ -27,7 +26,7 @@ pub struct View {
     pub unit: Unit,
     pub own: Own,
     pub keys: [Key; 8],
-    pub seat: Found,
+    pub seat: Option<usize>,
     pub login: Login,
     pub fine: bool,
 }
@@ -44,16 +43,16 @@ pub struct Served {
 pub struct Decision {
     pub reply: Reply,
     pub change: Change,
-    pub at: Found,
+    pub at: Option<usize>,
     pub login: Login,
 }
 
 // The same once the reply is written, or the call refused.
 #[derive(Clone, Copy)]
 pub struct Turn {
-    pub said: Said,
+    pub said: Result<usize, Refusal>,
     pub change: Change,
-    pub at: Found,
+    pub at: Option<usize>,
     pub login: Login,
 }
 
@@ -70,22 +69,22 @@ fn is_any(k: Key, a: u64, b: u64, name: u64) -> bool
 }
 
 // The lowest place whose key is one of two, or has a name.
-fn find_any(keys: [Key; 8], a: u64, b: u64, name: u64) -> Found
+fn find_any(keys: [Key; 8], a: u64, b: u64, name: u64) -> Option<usize>
     ensures { Within (find_any keys a b name) 8 result }
 {
     let mut i: usize = 0;
     while i < Port::LOGINS {
         let k = keys[i];
         if is_any(k, a, b, name) {
-            return Found::At(i);
+            return Some(i);
         }
         i += 1;
     }
-    Found::Nothing
+    None
 }
 
 // The place of the login of an address.
-pub fn seat_of(keys: [Key; 8], address: u32) -> Found
+pub fn seat_of(keys: [Key; 8], address: u32) -> Option<usize>
     ensures { Within (seat_of keys address) 8 result }
 {
     let k = 2 + address as u64;
@@ -93,7 +92,7 @@ pub fn seat_of(keys: [Key; 8], address: u32) -> Found
 }
 
 // The lowest place that is free once the logins of an address and of a port name have ended.
-pub fn place_for(keys: [Key; 8], address: u32, name: u64) -> Found
+pub fn place_for(keys: [Key; 8], address: u32, name: u64) -> Option<usize>
     ensures { Within (place_for keys address name) 8 result }
 {
     let k = 2 + address as u64;
@@ -121,13 +120,13 @@ pub fn sight_of(u: Unit, p: Port) -> Sight
 }
 
 // What a call sees, from what was read of the drive; l is the login at the seat, and any other where there is none.
-pub fn see(u: Unit, o: Own, s: Sight, seat: Found, l: Login) -> View
+pub fn see(u: Unit, o: Own, s: Sight, seat: Option<usize>, l: Login) -> View
     ensures { result ≡ view_from u o s seat l }
 {
     let keys = s.keys;
     let login = match seat {
-        Found::At(_) => l,
-        Found::Nothing => empty_login(),
+        Some(_) => l,
+        None => empty_login(),
     };
     View {
         unit: u,
@@ -152,12 +151,12 @@ pub fn look(u: Unit, p: Port, address: u32) -> View
 }
 
 // The login at a seat, an empty one where there is none.
-fn login_in(p: Port, seat: Found) -> Login
+fn login_in(p: Port, seat: Option<usize>) -> Login
     ensures { result ≡ login_in p seat }
 {
     match seat {
-        Found::At(i) => login_at(p, i),
-        Found::Nothing => empty_login(),
+        Some(i) => login_at(p, i),
+        None => empty_login(),
     }
 }
 
@@ -175,7 +174,7 @@ pub fn store_login(r: Reply, i: usize, l: Login) -> Decision
     Decision {
         reply: r,
         change: Change::Keep,
-        at: Found::At(i),
+        at: Some(i),
         login: l,
     }
 }
@@ -188,7 +187,7 @@ pub fn change_logins(r: Reply, c: Change) -> Decision
     Decision {
         reply: r,
         change: c,
-        at: Found::Nothing,
+        at: None,
         login: l,
     }
 }
@@ -215,9 +214,9 @@ pub fn refuse_turn(x: Refusal) -> Turn
 {
     let l = empty_login();
     Turn {
-        said: Said::Refused(x),
+        said: Err(x),
         change: Change::Keep,
-        at: Found::Nothing,
+        at: None,
         login: l,
     }
 }
@@ -230,7 +229,7 @@ pub fn send_turn(n: usize, d: Decision) -> Turn
     let i = d.at;
     let l = d.login;
     Turn {
-        said: Said::Sent(n),
+        said: Ok(n),
         change: c,
         at: i,
         login: l,
@@ -246,7 +245,7 @@ pub fn port_after(p: Port, t: Turn) -> Port
     let l = t.login;
     let q = change_all(p, c);
     match at {
-        Found::At(i) => put_login(q, i, l),
-        Found::Nothing => q,
+        Some(i) => put_login(q, i, l),
+        None => q,
     }
 }

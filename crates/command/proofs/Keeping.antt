@@ -1,4 +1,5 @@
 -- No FCP_CMND makes a state ill formed. Assumes nothing.
+use Rattle.std.specs.Prelude.{Option, Some, None}
 use mathlib.Core.Path.{◌≡◌, refl, sym, ap, ◌∙◌}
 use mathlib.Core.Bool.{Bool, true, false, cond, or-true}
 use mathlib.Core.List.{List}
@@ -6,8 +7,6 @@ use Prim.Native.Nat.{ℕ, ◌≤◌}
 use native.Mathlib.Omega.{arith}
 use lib.Dec.{eqb}
 use lib.ListN.{length, get_or}
-use Rattle.tables.specs.declared.Found.{Found}
-use Rattle.tables.specs.declared.Found.TheVariants.{At, Nothing}
 use Rattle.wire.specs.Bytes.{num}
 use Rattle.wire.specs.Layout.{AllBytes}
 use Rattle.frame.specs.declared.Header.{Header}
@@ -38,7 +37,7 @@ use Rattle.command.proofs.Opens.{New, exchange_new, moved_none, wants_opens}
 
 -- what a command on a paired login makes of it is fine
 module _ (u : Unit) (own : ℕ) (l : Login) (pair : eqb l.paired 1 ≡ true) (ox : ℕ) (c : Cmnd) (few : Countable (operation_of c)) where
-  module _ (e : Exchange) (new : New ox e) (may : openable u e ≡ true) (none : find_exchange l ox ≡ Nothing) where
+  module _ (e : Exchange) (new : New ox e) (may : openable u e ≡ true) (none : find_exchange l ox ≡ None) where
     fine : Used u own l → exchange_fine u (full_frame l.size) l.paired e ≡ true
     unfolding exchange_fine
     fine h =
@@ -50,7 +49,7 @@ module _ (u : Unit) (own : ℕ) (l : Login) (pair : eqb l.paired 1 ≡ true) (ox
     opened true j = stays refl refl refl (λ h. open_used {l = with_attention l 0} (attention_used h 0 refl) j e (fine h) (rw new.id none))
     opened false j = stays refl refl refl (λ h. open_used h j e (fine h) (rw new.id none))
 
-  moves_fine : (place : Found) → place ≡ find_exchange l ox → (m : Login) → Moves u l place ox c m → Keeps u own l m
+  moves_fine : (place : Option ℕ) → place ≡ find_exchange l ox → (m : Login) → Moves u l place ox c m → Keeps u own l m
   unfolding with_exchange
   moves_fine place at m same = stays refl refl refl (λ h. h)
   moves_fine place at m (ends j) = stays refl refl refl (λ h. end_used h j)
@@ -97,11 +96,11 @@ module _ (u : Unit) (p : Port) (h : Header) (f : List ℕ) (known : AllBytes f) 
   done_kept task.Execute d x = x
 
   -- test 1 looks where the sender's login has its exchanges
-  sought : (i : ℕ) → find_login p from ≡ At i → sought_in p from h.ox_id ≡ find_exchange (login_at p i) h.ox_id
+  sought : (i : ℕ) → find_login p from ≡ Some i → sought_in p from h.ox_id ≡ find_exchange (login_at p i) h.ox_id
   unfolding login_of
-  sought i at = sought_is p from h.ox_id ∙ ap (λ (g : Found). find_exchange (login_in p g) h.ox_id) at
+  sought i at = sought_is p from h.ox_id ∙ ap (λ (g : Option ℕ). find_exchange (login_in p g) h.ox_id) at
 
-  at_kept : (i : ℕ) → find_login p from ≡ At i → (b : Bool) → eqb (login_at p i).paired 1 ≡ b → Kept (cond b (commanded_at u p i h (cmnd_of f) (length f)) (logged_out p from))
+  at_kept : (i : ℕ) → find_login p from ≡ Some i → (b : Bool) → eqb (login_at p i).paired 1 ≡ b → Kept (cond b (commanded_at u p i h (cmnd_of f) (length f)) (logged_out p from))
   unfolding commanded_at
   at_kept i at true pair =
       let place = sought_in p from h.ox_id in

@@ -1,4 +1,5 @@
 -- What an FCP_CMND makes of the logins: from a paired one, of every login its attention and its exchanges alone; from any other a drive LOGO, and that login ends. Assumes nothing.
+use Rattle.std.specs.Prelude.{Option, Some, None}
 use mathlib.Core.Path.{◌≡◌, refl, sym, ap, ◌∙◌}
 use mathlib.Core.Bool.{Bool, true, false, cond}
 use mathlib.Core.List.{List}
@@ -6,8 +7,6 @@ use Prim.Native.Nat.{ℕ, ◌<◌}
 use native.Mathlib.Decide.{ℕ_discrete}
 use lib.Dec.{eqb}
 use lib.ListN.{length}
-use Rattle.tables.specs.declared.Found.{Found}
-use Rattle.tables.specs.declared.Found.TheVariants.{At, Nothing}
 use Rattle.tables.specs.Lists.{all, on_found, pairs}
 use Rattle.tables.proofs.Bools.{apart}
 use Rattle.tables.proofs.Searches.{found_below, same_found}
@@ -88,7 +87,7 @@ unfolding cleared_by without_exchanges
 cleared_alike a l = on_cond (Alike l) (is_used l) (on_cond (Alike l) (loses_to a l) (alike _ _) (alike _ _)) (itself l)
 
 -- what a command makes of its sender's login
-moves_alike : (u : Unit) (l : Login) (place : Found) (ox : ℕ) (c : Cmnd) {m : Login} → Moves u l place ox c m → Alike l m
+moves_alike : (u : Unit) (l : Login) (place : Option ℕ) (ox : ℕ) (c : Cmnd) {m : Login} → Moves u l place ox c m → Alike l m
 unfolding with_exchange
 moves_alike u l place ox c same = itself l
 moves_alike u l place ox c (ends j) = alike _ _
@@ -112,9 +111,9 @@ alike_stored : (p : Port) (i : ℕ) (m : Login) → i < length p.logins → Alik
 unfolding login_of
 alike_stored p i m below x b = rw (found_stored p i m x b) (by (find_login p b))
   where
-    by : (f : Found) → Alike (login_in p f) (login_in (with_login p i m) f)
-    by (At j) = at_stored p i m below x j
-    by Nothing = itself empty_login
+    by : (f : Option ℕ) → Alike (login_in p f) (login_in (with_login p i m) f)
+    by (Some j) = at_stored p i m below x j
+    by None = itself empty_login
 
 -- a command is answered with nothing or FCP_RSP
 pub data Spoken : Reply → Type 0 where
@@ -124,7 +123,7 @@ pub data Spoken : Reply → Type 0 where
 abbrev Says : Served → Type 0
 Says s = Spoken s.reply
 
-execute_spoken : (u : Unit) (l : Login) (place : Found) (ox : ℕ) (c : Cmnd) → Says (execute_of u l place ox c)
+execute_spoken : (u : Unit) (l : Login) (place : Option ℕ) (ox : ℕ) (c : Cmnd) → Says (execute_of u l place ox c)
 unfolding execute_of refused_with opened_of
 execute_spoken u l place ox c = on_found_lem Says place _ _ (λ j _. responds _) (λ _. by (asked_of u l.attention ox c))
   where
@@ -142,14 +141,14 @@ module _ (u : Unit) (p : Port) (h : Header) (f : List ℕ) where
   Paired b = eqb (login_of p from).paired 1 ≡ b
 
   -- from a paired login: the command of its place
-  paired_is : Paired true → (P : Decided → Type 0) → ((i : ℕ) → find_login p from ≡ At i → P (commanded_at u p i h (cmnd_of f) (length f))) → P (command_of u p h f)
+  paired_is : Paired true → (P : Decided → Type 0) → ((i : ℕ) → find_login p from ≡ Some i → P (commanded_at u p i h (cmnd_of f) (length f))) → P (command_of u p h f)
   unfolding command_of login_of
   paired_is r P holds = step (find_login p from) refl r
     where
-      step : (x : Found) → find_login p from ≡ x → eqb (login_in p x).paired 1 ≡ true
+      step : (x : Option ℕ) → find_login p from ≡ x → eqb (login_in p x).paired 1 ≡ true
           → P (on_found x (λ i. cond (eqb (login_at p i).paired 1) (commanded_at u p i h (cmnd_of f) (length f)) (logged_out p from)) (logged_out p from))
-      step (At i) e r = rw r (holds i e)
-      step Nothing e r = apart r refl
+      step (Some i) e r = rw r (holds i e)
+      step None e r = apart r refl
 
   -- its reply is FCP_RSP or nothing
   pub command_spoken : Paired true → Spoken (command_of u p h f).reply
@@ -166,10 +165,10 @@ module _ (u : Unit) (p : Port) (h : Header) (f : List ℕ) where
   unfolding command_of login_of
   command_unpaired r = step (find_login p from) r
     where
-      step : (x : Found) → eqb (login_in p x).paired 1 ≡ false
+      step : (x : Option ℕ) → eqb (login_in p x).paired 1 ≡ false
           → on_found x (λ i. cond (eqb (login_at p i).paired 1) (commanded_at u p i h (cmnd_of f) (length f)) (logged_out p from)) (logged_out p from) ≡ logged_out p from
-      step (At i) r = rw r
-      step Nothing r = refl
+      step (Some i) r = rw r
+      step None r = refl
 
   module _ (d : pairs apart_login p.logins ≡ true) where
     -- the login of every address is alike
@@ -183,7 +182,7 @@ module _ (u : Unit) (p : Port) (h : Header) (f : List ℕ) where
     done_same t clear x s b = rw (changed_sees p d (Clear from) b) (cleared_alike from (login_of p b))
     done_same t execute x s b = s b
 
-    commanded_same : (i : ℕ) → find_login p from ≡ At i → Same (commanded_at u p i h (cmnd_of f) (length f))
+    commanded_same : (i : ℕ) → find_login p from ≡ Some i → Same (commanded_at u p i h (cmnd_of f) (length f))
     unfolding commanded_at find_login
     commanded_same i at =
         let place = sought_in p from h.ox_id in
@@ -211,10 +210,10 @@ module _ (u : Unit) (p : Port) (h : Header) (f : List ℕ) where
     unfolding command_turn commanded_turn
     command_another b n = on_found_lem (Elsewhere p b) v.seat _ _ (λ i e. on_cond (Elsewhere p b) (eqb v.login.paired 1) (at i e) tt) (λ _. tt)
       where
-        place : Found
+        place : Option ℕ
         place = find_exchange v.login h.ox_id
 
-        at : (i : ℕ) → v.seat ≡ At i → Elsewhere p b (task_turn (task_of (cmnd_of f) (length f) from) (served_in i (execute_of v.unit v.login place h.ox_id (cmnd_of f))))
+        at : (i : ℕ) → v.seat ≡ Some i → Elsewhere p b (task_turn (task_of (cmnd_of f) (length f) from) (served_in i (execute_of v.unit v.login place h.ox_id (cmnd_of f))))
         at i e =
             let seat = sym (view_seat u p from fine) ∙ e in
             task_another b (task_mild (cmnd_of f) (length f) from) i _ (seat_another p b from i Keep n seat)

@@ -1,12 +1,11 @@
 -- What a command makes of its sender's login: one of four things. Assumes nothing.
+use Rattle.std.specs.Prelude.{Option, Some, None}
 use mathlib.Core.Path.{◌≡◌, refl}
 use mathlib.Core.Bool.{Bool, true, false, cond}
 use Prim.Native.Nat.{ℕ}
 use native.Mathlib.Omega.{arith}
 use lib.Dec.{eqb}
 use borrow.Author.Tests.{eqb-false}
-use Rattle.tables.specs.declared.Found.{Found}
-use Rattle.tables.specs.declared.Found.TheVariants.{At, Nothing}
 use Rattle.tables.specs.Lists.{on_found}
 use Rattle.state.specs.declared.Exchange.{Exchange}
 use Rattle.state.specs.declared.Login.{Login}
@@ -64,31 +63,31 @@ wants_passed u attention ox c e =
     (λ w h. record { is = same_exchange _ e h; allowed = a; within = w }))))))
 
 -- by the place where test 1 found the OX_ID
-module _ (u : Unit) (l : Login) (place : Found) (ox : ℕ) (c : Cmnd) where
+module _ (u : Unit) (l : Login) (place : Option ℕ) (ox : ℕ) (c : Cmnd) where
   -- it is as it was, an exchange ended, its attention was reported, or an exchange opened and perhaps reports it
   pub data Moves : Login → Type 0 where
     same : Moves l
     ends : (j : ℕ) → Moves (ended_at l j)
     tells : Moves (with_attention l 0)
-    opens : (b : Bool) (j : ℕ) (e : Exchange) → Passed u l.attention ox c e → (total e ≡ 0 → ⊥) → place ≡ Nothing → Moves (with_exchange (cond b (with_attention l 0) l) j e)
+    opens : (b : Bool) (j : ℕ) (e : Exchange) → Passed u l.attention ox c e → (total e ≡ 0 → ⊥) → place ≡ None → Moves (with_exchange (cond b (with_attention l 0) l) j e)
 
   abbrev Moved : Served → Type 0
   Moved s = Moves s.login
 
-  answer_moves : (e : Exchange) → Passed u l.attention ox c e → place ≡ Nothing → Moved (opened_of l c.bits e)
+  answer_moves : (e : Exchange) → Passed u l.attention ox c e → place ≡ None → Moved (opened_of l c.bits e)
   unfolding opened_of told_of
   answer_moves e p none = by (eqb (total e) 0) (bit_for e c.bits) (free_exchange l) _ _ _ refl
     where
       opened : ℕ → Served
       opened j = served_as reply.Nothing (with_exchange (cond (reports e.kind) (with_attention l 0) l) j e)
 
-      by : (b r : Bool) (g : Found) (x y z : Reply) → eqb (total e) 0 ≡ b → Moved (cond b (served_as x l) (cond r (on_found g opened (served_as y l)) (served_as z l)))
+      by : (b r : Bool) (g : Option ℕ) (x y z : Reply) → eqb (total e) 0 ≡ b → Moved (cond b (served_as x l) (cond r (on_found g opened (served_as y l)) (served_as z l)))
       by true r g x y z n = same
-      by false true (At j) x y z n = opens (reports e.kind) j e p (eqb-false (total e) 0 n) none
-      by false true Nothing x y z n = same
+      by false true (Some j) x y z n = opens (reports e.kind) j e p (eqb-false (total e) 0 n) none
+      by false true None x y z n = same
       by false false g x y z n = same
 
-  asked_moves : (a : Asked) → asked_of u l.attention ox c ≡ a → place ≡ Nothing → Moved (answered_as a l c)
+  asked_moves : (a : Asked) → asked_of u l.attention ox c ≡ a → place ≡ None → Moved (answered_as a l c)
   unfolding refused_with
   asked_moves (asked.Refused key code) e none = same
   asked_moves asked.Attention e none = tells

@@ -1,12 +1,11 @@
 -- An FCP_CMND that is answered with nothing has opened its exchange at a free place of its sender's login, and changed nothing else. Assumes nothing.
+use Rattle.std.specs.Prelude.{Option, Some, None}
 use mathlib.Core.Path.{◌≡◌, refl, ap}
 use mathlib.Core.Bool.{Bool, true, false, cond}
 use mathlib.Core.List.{List}
 use Prim.Native.Nat.{ℕ}
 use lib.Dec.{eqb}
 use lib.ListN.{length}
-use Rattle.tables.specs.declared.Found.{Found}
-use Rattle.tables.specs.declared.Found.TheVariants.{At, Nothing}
 use Rattle.tables.specs.Lists.{on_found}
 use Rattle.tables.proofs.Bools.{apart}
 use Rattle.frame.specs.declared.Header.{Header}
@@ -38,28 +37,28 @@ abbrev pub wish_of : Login → ℕ → Cmnd → Exchange
 wish_of l ox c = exchange_for (operation_of c) l.attention ox c.lun c.expected
 
 -- it opened at place j of the login l, which is then m; test 1 found none at `place`
-pub record Opens (l : Login) (place : Found) (ox : ℕ) (c : Cmnd) (m : Login) : Type 0 where
+pub record Opens (l : Login) (place : Option ℕ) (ox : ℕ) (c : Cmnd) (m : Login) : Type 0 where
   pub j : ℕ
-  pub none : place ≡ Nothing
-  pub free : free_exchange l ≡ At j
+  pub none : place ≡ None
+  pub free : free_exchange l ≡ Some j
   pub is : m ≡ with_exchange (told_of l (wish_of l ox c).kind) j (wish_of l ox c)
 
-module _ (u : Unit) (l : Login) (place : Found) (ox : ℕ) (c : Cmnd) where
+module _ (u : Unit) (l : Login) (place : Option ℕ) (ox : ℕ) (c : Cmnd) where
   abbrev Silent : Served → Type 0
   Silent s = silent s.reply ≡ true → Opens l place ox c s.login
 
-  opened_silent : (e : Exchange) → e ≡ wish_of l ox c → place ≡ Nothing → Silent (opened_of l c.bits e)
+  opened_silent : (e : Exchange) → e ≡ wish_of l ox c → place ≡ None → Silent (opened_of l c.bits e)
   unfolding opened_of
   opened_silent e is none = by (eqb (total e) 0) (bit_for e c.bits) (free_exchange l) refl _ _ _ refl refl refl
     where
-      by : (z b : Bool) (g : Found) → free_exchange l ≡ g → (x y w : Reply) → silent x ≡ false → silent y ≡ false → silent w ≡ false
+      by : (z b : Bool) (g : Option ℕ) → free_exchange l ≡ g → (x y w : Reply) → silent x ≡ false → silent y ≡ false → silent w ≡ false
           → Silent (cond z (served_as x l) (cond b (on_found g (λ j. served_as reply.Nothing (with_exchange (told_of l e.kind) j e)) (served_as y l)) (served_as w l)))
       by true b g at x y w p q r s = apart s p
-      by false true (At j) at x y w p q r s = record { j = j; none = none; free = at; is = ap (λ (f : Exchange). with_exchange (told_of l f.kind) j f) is }
-      by false true Nothing at x y w p q r s = apart s q
+      by false true (Some j) at x y w p q r s = record { j = j; none = none; free = at; is = ap (λ (f : Exchange). with_exchange (told_of l f.kind) j f) is }
+      by false true None at x y w p q r s = apart s q
       by false false g at x y w p q r s = apart s r
 
-  asked_silent : (a : Asked) → asked_of u l.attention ox c ≡ a → place ≡ Nothing → Silent (answered_as a l c)
+  asked_silent : (a : Asked) → asked_of u l.attention ox c ≡ a → place ≡ None → Silent (answered_as a l c)
   unfolding refused_with
   asked_silent (asked.Refused key code) e none s = apart s refl
   asked_silent asked.Attention e none s = apart s refl
@@ -73,7 +72,7 @@ module _ (u : Unit) (l : Login) (place : Found) (ox : ℕ) (c : Cmnd) where
 pub record OpensAt (p : Port) (h : Header) (c : Cmnd) (q : Port) : Type 0 where
   pub i : ℕ
   pub m : Login
-  pub seat : find_login p h.s_id ≡ At i
+  pub seat : find_login p h.s_id ≡ Some i
   pub opens : Opens (login_at p i) (sought_in p h.s_id h.ox_id) h.ox_id c m
   pub is : q ≡ with_login p i m
 
@@ -93,7 +92,7 @@ module _ (u : Unit) (p : Port) (h : Header) (f : List ℕ) where
   unfolding logged_out
   out_silent s = apart s refl
 
-  at_silent : (i : ℕ) → find_login p from ≡ At i → (b : Bool) → SilentAt (cond b (commanded_at u p i h (cmnd_of f) (length f)) (logged_out p from))
+  at_silent : (i : ℕ) → find_login p from ≡ Some i → (b : Bool) → SilentAt (cond b (commanded_at u p i h (cmnd_of f) (length f)) (logged_out p from))
   unfolding commanded_at
   at_silent i at true =
       let place = sought_in p from h.ox_id in

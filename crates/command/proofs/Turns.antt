@@ -1,11 +1,11 @@
 -- What an FCP_CMND does, told by what changes, is what it makes of the whole port, where the port's logins are fine. Assumes nothing.
+use Rattle.std.specs.Prelude.{Option}
 use Prim.Native.Nat.{ℕ}
 use mathlib.Core.Path.{◌≡◌, refl, sym}
 use mathlib.Core.Bool.{true, cond}
 use mathlib.Core.List.{List}
 use lib.Dec.{eqb}
 use lib.ListN.{length}
-use Rattle.tables.specs.declared.Found.{Found}
 use Rattle.tables.specs.Lists.{all}
 use Rattle.frame.specs.declared.Header.{Header}
 use Rattle.state.specs.declared.Login.{Login}
@@ -32,7 +32,7 @@ done_is p (task.Apply e) i s = refl
 done_is p task.Execute i s = served_is p i s
 
 -- from the login m that is seen, the exchange sought at the place that is seen
-at_is : (u : Unit) (p : Port) (i : ℕ) (h : Header) (c : Cmnd) (n : ℕ) {w : Unit} {m : Login} {place : Found} → w ≡ u → m ≡ login_at p i → place ≡ sought_in p h.s_id h.ox_id
+at_is : (u : Unit) (p : Port) (i : ℕ) (h : Header) (c : Cmnd) (n : ℕ) {w : Unit} {m : Login} {place : Option ℕ} → w ≡ u → m ≡ login_at p i → place ≡ sought_in p h.s_id h.ox_id
     → decided_by p (cond (eqb m.paired 1) (task_turn (task_of c n h.s_id) (served_in i (execute_of w m place h.ox_id c))) (logged_out_turn h.s_id))
     ≡ cond (eqb (login_at p i).paired 1) (commanded_at u p i h c n) (logged_out p h.s_id)
 unfolding commanded_at logged_out

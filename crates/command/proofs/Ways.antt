@@ -1,11 +1,11 @@
 -- A law over plain variables for each way through the functions that decide. Assumes nothing.
+use Rattle.std.specs.Prelude.{Some, None}
 use mathlib.Core.Path.{◌≡◌, sym, ap, ◌∙◌}
 use mathlib.Core.Bool.{true, false}
 use mathlib.Core.List.{List}
 use Prim.Native.Nat.{ℕ}
 use lib.ListN.{length}
 use borrow.Author.Tests.{eq-eqb, ne_eqb}
-use Rattle.tables.specs.declared.Found.TheVariants.{At, Nothing}
 use Rattle.frame.specs.declared.Header.{Header}
 use Rattle.state.specs.declared.Change.{Change}
 use Rattle.state.specs.declared.Exchange.{Exchange}
@@ -45,11 +45,11 @@ module _ (l : Login) (bits : ℕ) (e : Exchange) (d : Served) where
     answer_bitless b ed = rw (ne_eqb (total e) 0 n, b) ed
 
     module _ (b : bit_for e bits ≡ true) where
-      pub answer_full : (x : Residual) → free_exchange l ≡ Nothing → x ≡ residual_of 0 e.expected → d ≡ served_as (reply.Respond (response.Status 0x28 x)) l → d ≡ opened_of l bits e
+      pub answer_full : (x : Residual) → free_exchange l ≡ None → x ≡ residual_of 0 e.expected → d ≡ served_as (reply.Respond (response.Status 0x28 x)) l → d ≡ opened_of l bits e
       unfolding opened_of
       answer_full x f ex ed = rw (ne_eqb (total e) 0 n, b, f) (ed ∙ ap (λ r. served_as (reply.Respond (response.Status 0x28 r)) l) ex)
 
-      pub answer_opens : (j : ℕ) (m k : Login) → free_exchange l ≡ At j → m ≡ told_of l e.kind → k ≡ with_exchange m j e → d ≡ served_as reply.Nothing k → d ≡ opened_of l bits e
+      pub answer_opens : (j : ℕ) (m k : Login) → free_exchange l ≡ Some j → m ≡ told_of l e.kind → k ≡ with_exchange m j e → d ≡ served_as reply.Nothing k → d ≡ opened_of l bits e
       unfolding opened_of
       answer_opens j m k f em ek ed = rw (ne_eqb (total e) 0 n, b, f) (ed ∙ ap (served_as reply.Nothing) (ek ∙ ap (λ m. with_exchange m j e) em))
 
@@ -63,11 +63,11 @@ module _ (u : Unit) (l : Login) (ox : ℕ) (c : Cmnd) (d : Served) where
   abbrev Executed : Type 0
   Executed = d ≡ execute_of u l (find_exchange l ox) ox c
 
-  pub execute_again : (j : ℕ) (m : Login) → find_exchange l ox ≡ At j → m ≡ ended_at l j → d ≡ refused_with m 0x0b 0x4e c.expected → Executed
+  pub execute_again : (j : ℕ) (m : Login) → find_exchange l ox ≡ Some j → m ≡ ended_at l j → d ≡ refused_with m 0x0b 0x4e c.expected → Executed
   unfolding execute_of
   execute_again j m f em ed = rw f (ed ∙ ap (λ m. refused_with m 0x0b 0x4e c.expected) em)
 
-  module _ (f : find_exchange l ox ≡ Nothing) (a : Asked) (ea : a ≡ asked_of u l.attention ox c) where
+  module _ (f : find_exchange l ox ≡ None) (a : Asked) (ea : a ≡ asked_of u l.attention ox c) where
     pub execute_refused : (key code : ℕ) → a ≡ asked.Refused key code → d ≡ refused_with l key code c.expected → Executed
     unfolding execute_of
     execute_refused key code i ed = rw (f, sym ea, i) ed
@@ -94,11 +94,11 @@ module _ (u : Unit) (i : ℕ) (l : Login) (h : Header) (c : Cmnd) (n : ℕ) (t :
   commanded_executes s it es ed = rw (sym et, it, sym es) ed
 
 module _ (v : View) (h : Header) (f : List ℕ) (d : Decision) where
-  pub command_no_login : v.seat ≡ Nothing → d ≡ logged_out_turn h.s_id → d ≡ command_turn v h f
+  pub command_no_login : v.seat ≡ None → d ≡ logged_out_turn h.s_id → d ≡ command_turn v h f
   unfolding command_turn
   command_no_login n ed = rw n ed
 
-  module _ (i : ℕ) (at : v.seat ≡ At i) where
+  module _ (i : ℕ) (at : v.seat ≡ Some i) where
     pub command_unpaired : (v.login.paired ≡ 1 → ⊥) → d ≡ logged_out_turn h.s_id → d ≡ command_turn v h f
     unfolding command_turn
     command_unpaired n ed = rw (at, ne_eqb v.login.paired 1 n) ed

@@ -1,6 +1,5 @@
 -- What an FCP_CMND answers, and what is stored (document 01, "Commands").
-use Rattle.std.specs.Prelude.{ℕ, Bool, cond, ◌||◌, List, eqb, length}
-use Rattle.tables.specs.declared.Found.{Found}
+use Rattle.std.specs.Prelude.{ℕ, Bool, cond, ◌||◌, List, eqb, length, Option}
 use Rattle.tables.specs.Lists.{on_found}
 use Rattle.frame.specs.declared.Header.{Header}
 use Rattle.state.specs.declared.Exchange.{Exchange}
@@ -58,7 +57,7 @@ answered_as asked.Attention l c = refused_with (with_attention l 0) 0x06 l.atten
 answered_as (asked.Wants e) l c = opened_of l c.bits e
 
 -- "(1) OX_ID open at this login: that exchange ends, 0B/4E/00", by the place where it was found, and then the other tests
-unfoldable pub execute_of : Unit → Login → Found → ℕ → Cmnd → Served
+unfoldable pub execute_of : Unit → Login → Option ℕ → ℕ → Cmnd → Served
 execute_of u l place ox c =
     on_found place (λ j. refused_with (ended_at l j) 0x0b 0x4e c.expected) (answered_as (asked_of u l.attention ox c) l c)
 

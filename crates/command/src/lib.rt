@@ -19,7 +19,6 @@ use opened::answer;
 use reply::{Reply, Response, sense_with};
 use residual::residual_of;
 use state::{Change, Exchange, Login, Unit, end_exchange, find_exchange, set_attention};
-use tables::Found;
 use tasks::task_of;
 use tests::tested;
 use wire::{be32, be64, byte_at, name_at};
@@ -87,7 +86,7 @@ pub fn command(v: View, h: Header, frame: &[u8]) -> Decision
     ensures { result ≡ command_turn v h frame.now }
 {
     let seat = v.seat;
-    let Found::At(i) = seat else {
+    let Some(i) = seat else {
         return logged_out(h.s_id);
     };
     let u = v.unit;
@@ -150,7 +149,7 @@ fn execute(u: Unit, l: Login, ox_id: u16, c: Cmnd) -> Served
     ensures { result ≡ execute_of u l (find_exchange l ox_id) ox_id c }
 {
     let expected = c.expected;
-    if let Found::At(j) = find_exchange(l, ox_id) {
+    if let Some(j) = find_exchange(l, ox_id) {
         return refuse(end_exchange(l, j), 0x0b, 0x4e, expected);
     }
     let a = tested(u, l.attention, ox_id, c);

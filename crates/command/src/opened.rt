@@ -14,7 +14,6 @@ use formed::total_of;
 use reply::{Reply, Response};
 use residual::residual_of;
 use state::{Exchange, Login, free_exchange, put_exchange, set_attention};
-use tables::Found;
 
 // The exchange that would send or take what a command wants; one that wants nothing opens none.
 pub(crate) fn exchange_for(
@@ -130,7 +129,7 @@ pub(crate) fn answer(l: Login, bits: u8, e: Exchange) -> Served
         return serve_as(Reply::Respond(good), l);
     }
     if data_bit(e, bits) {
-        let Found::At(j) = free_exchange(l) else {
+        let Some(j) = free_exchange(l) else {
             let full = Response::Status(0x28, residual_of(0, expected));
             return serve_as(Reply::Respond(full), l);
         };

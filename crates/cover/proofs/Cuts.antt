@@ -1,4 +1,5 @@
 -- A window cut from the unit: what it covers stands in it as on the unit, and which windows cover. Assumes nothing.
+use Rattle.std.specs.Prelude.{Some, None}
 use mathlib.Core.Path.{◌≡◌, refl, ap, ◌∙◌}
 use mathlib.Core.Bool.{Bool, true, false, cond, ◌&&◌}
 use mathlib.Core.List.{List, [], ◌∷◌}
@@ -8,7 +9,6 @@ use lib.Dec.{leb}
 use lib.ListN.{length, take, drop, length-take, length-drop}
 use lib.Seq.{take-take, drop-drop}
 use borrow.Author.Tests.{le-leb, leb-true}
-use Rattle.tables.specs.declared.Found.TheVariants.{At, Nothing}
 use Rattle.cover.specs.Cover.{position_of, cut, cover_of}
 
 -- a window that covers
@@ -17,12 +17,12 @@ pub record Covers (at n start len k : ℕ) : Type 0 where
   pub before : at + n ≤ 512 * start + len
   pub is : k ≡ at - 512 * start
 
-cover_case : (b c : Bool) (m k : ℕ) → cond (b && c) (At m) Nothing ≡ At k → (b ≡ true) × (c ≡ true) × (k ≡ m)
+cover_case : (b c : Bool) (m k : ℕ) → cond (b && c) (Some m) None ≡ Some k → (b ≡ true) × (c ≡ true) × (k ≡ m)
 cover_case true true m k e = (refl, refl, (cc))
 cover_case true false m k e = let z : ◌≡◌ {A = ℕ} 0 1 = cc in absurd (omega arith)
 cover_case false c m k e = let z : ◌≡◌ {A = ℕ} 0 1 = cc in absurd (omega arith)
 
-pub covers : (at n start len k : ℕ) → cover_of at n start len ≡ At k → Covers at n start len k
+pub covers : (at n start len k : ℕ) → cover_of at n start len ≡ Some k → Covers at n start len k
 unfolding cover_of
 covers at n start len k e =
     let t = cover_case (leb (512 * start) at) (leb (at + n) (512 * start + len)) (at - 512 * start) k e in
@@ -36,7 +36,7 @@ part_of (suc k) n (suc len) [] h = refl
 part_of (suc k) n (suc len) (y ∷ l) h = part_of k n len l (omega arith)
 
 -- the bytes that a window covers are the unit's
-pub cut_holds : (unit : List ℕ) (at n start len k : ℕ) → cover_of at n start (length (cut unit start len)) ≡ At k → take n (drop k (cut unit start len)) ≡ take n (drop at unit)
+pub cut_holds : (unit : List ℕ) (at n start len k : ℕ) → cover_of at n start (length (cut unit start len)) ≡ Some k → take n (drop k (cut unit start len)) ≡ take n (drop at unit)
 cut_holds unit at n start len k c =
     let v = covers at n start (length (cut unit start len)) k c in
     let m = length-take len (drop (512 * start) unit) in
@@ -46,7 +46,7 @@ cut_holds unit at n start len k c =
 
 -- the window that starts at the first byte's block covers n bytes of the unit, if it is lent a block more than these
 pub cut_covers : (unit : List ℕ) (block offset n len : ℕ) → n + 512 ≤ len → position_of block offset + n ≤ length unit
-    → cover_of (position_of block offset) n (block + offset / 512) (length (cut unit (block + offset / 512) len)) ≡ At (offset % 512)
+    → cover_of (position_of block offset) n (block + offset / 512) (length (cut unit (block + offset / 512) len)) ≡ Some (offset % 512)
 unfolding cover_of
 cut_covers unit block offset n len long inside =
     let start = block + offset / 512 in

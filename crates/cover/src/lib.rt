@@ -1,11 +1,8 @@
 // Where bytes of the unit stand in a lent window.
 #![tactic(auto)]
 
-ghost use Rattle.std.specs.Prelude.{◌≡◌, cond, ◌+◌, ◌-◌, ◌*◌, leb};
-ghost use Rattle.tables.specs.declared.Found.TheVariants.{Nothing};
+ghost use Rattle.std.specs.Prelude.{◌≡◌, cond, ◌+◌, ◌-◌, ◌*◌, leb, None};
 ghost use Rattle.cover.specs.Cover.{position_of, fits_at, cover_of, too_long, lent_place};
-
-use tables::Found;
 
 // The bytes of a window at most.
 const MOST_WINDOW: usize = 65536;
@@ -18,21 +15,21 @@ pub fn too_long(len: usize) -> bool
 }
 
 // Where the n bytes from an offset past the start of a block on begin in a window, if it is not too long and holds them all.
-pub fn lent_place(block: u64, offset: u32, n: usize, start: u64, len: usize) -> Found
+pub fn lent_place(block: u64, offset: u32, n: usize, start: u64, len: usize) -> Option<usize>
     ensures { result ≡ lent_place (position_of block offset) n start len }
 {
     if too_long(len) {
-        return Found::Nothing;
+        return None;
     }
     // more bytes than a window may have are in none
     if too_long(n) {
-        return Found::Nothing;
+        return None;
     }
     covered(block, offset, n as u32, start, len)
 }
 
 // Where the n bytes from an offset past the start of a block on begin in a window of len bytes that starts at a block, if it holds them all.
-pub fn covered(block: u64, offset: u32, n: u32, start: u64, len: usize) -> Found
+pub fn covered(block: u64, offset: u32, n: u32, start: u64, len: usize) -> Option<usize>
     ensures { result ≡ cover_of (position_of block offset) n start len }
 {
     if start <= block {
@@ -43,32 +40,32 @@ pub fn covered(block: u64, offset: u32, n: u32, start: u64, len: usize) -> Found
 }
 
 // The same where the block is so many blocks past the window's first.
-fn after_start(blocks: u64, offset: u32, n: u32, len: usize) -> Found
+fn after_start(blocks: u64, offset: u32, n: u32, len: usize) -> Option<usize>
     ensures { result ≡ fits_at (position_of blocks offset) n len }
 {
     let most = len as u64;
     if most / 512 < blocks {
-        return Found::Nothing;
+        return None;
     }
     let at = 512 * blocks;
     if most - at < offset as u64 + n as u64 {
-        return Found::Nothing;
+        return None;
     }
-    Found::At((at + offset as u64) as usize)
+    Some((at + offset as u64) as usize)
 }
 
 // The same where the window's first block is so many blocks past the block.
-fn before_start(blocks: u64, offset: u32, n: u32, len: usize) -> Found
-    ensures { result ≡ cond (leb (512 * blocks) offset) (fits_at (offset - 512 * blocks) n len) Nothing }
+fn before_start(blocks: u64, offset: u32, n: u32, len: usize) -> Option<usize>
+    ensures { result ≡ cond (leb (512 * blocks) offset) (fits_at (offset - 512 * blocks) n len) None }
 {
     let most = len as u64;
     let all = offset as u64;
     if all / 512 < blocks {
-        return Found::Nothing;
+        return None;
     }
     let at = all - 512 * blocks;
     if most < at + n as u64 {
-        return Found::Nothing;
+        return None;
     }
-    Found::At(at as usize)
+    Some(at as usize)
 }

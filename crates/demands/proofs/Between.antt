@@ -1,4 +1,6 @@
 -- The calls between the frames of an open exchange that leave it open do: its login stands at its place with its address and size, and the exchange at its own, as it was. Assumes nothing.
+use Rattle.std.specs.Prelude.{Option, Some, None, Err, Ok, Result, ⊤}
+use Rattle.params.specs.declared.Fault.{Fault as FailedTest}
 use Prim.Native.Nat.{ℕ, ◌+◌}
 use mathlib.Core.Path.{◌≡◌, refl, sym, ap, ◌∙◌, subst}
 use mathlib.Core.Bool.{Bool, true, false, cond, not, ◌&&◌, ◌||◌}
@@ -9,8 +11,6 @@ use native.Mathlib.Omega.{arith}
 use lib.Dec.{eqb, leb}
 use lib.ListN.{length, get_or}
 use borrow.Author.Tests.{eqb-true, eq-eqb, ne_eqb, not-true, not-false}
-use Rattle.tables.specs.declared.Found.{Found}
-use Rattle.tables.specs.declared.Found.TheVariants.{At, Nothing}
 use Rattle.tables.proofs.Bools.{and_right, or_left, apart}
 use Rattle.tables.proofs.Searches.{found_passes}
 use Rattle.wire.specs.Bytes.{num, name_of}
@@ -18,12 +18,9 @@ use Rattle.wire.specs.Layout.{AllBytes}
 use Rattle.frame.specs.declared.Header.{Header}
 use Rattle.frame.specs.Head.{header_of}
 use Rattle.params.specs.declared.Params.{Params}
-use Rattle.params.specs.declared.Verdict.{Verdict}
-use Rattle.params.specs.declared.Verdict.TheVariants as verdict
 use Rattle.params.specs.Words.{params_of, verdict_of}
 use Rattle.refusal.specs.declared.Refusal.{Refusal}
 use Rattle.refusal.specs.declared.Refusal.TheVariants.{ShortBuffer, IllFormed}
-use Rattle.refusal.specs.declared.Said.TheVariants.{Refused}
 use Rattle.state.specs.declared.Exchange.{Exchange}
 use Rattle.state.specs.declared.Login.{Login}
 use Rattle.state.specs.declared.Port.{Port}
@@ -79,7 +76,7 @@ use Rattle.drive.proofs.Ways.{frame_cases}
 use Rattle.demands.specs.Between.{Call, frame, next, event, answer_of, after, EndsAll, Own, Service, pdisc_names, adisc_names, Left, LeavesOpen, refused, next_other, loop_reset, time_over, other, done, abts_other, abts_rejected, data_other, coded, command_other, unsized, prli, rrq, logo_rejected, prlo_rejected, pdisc, adisc}
 
 -- the login of an address, where it was found
-pub login_found : (p : Port) (b k : ℕ) → find_login p b ≡ At k → login_of p b ≡ login_at p k
+pub login_found : (p : Port) (b k : ℕ) → find_login p b ≡ Some k → login_of p b ≡ login_at p k
 unfolding login_of
 login_found p b k e = rw e
 
@@ -147,7 +144,7 @@ module _ (u : Unit) (p : Port) (a x i j : ℕ) (w : well_formed u p ≡ true) (o
   elsewhere q t k m n = record { own = t.own; login = subst (λ (l : Login). Kept (login_at p i) l j) (sym (login_other q k i m n)) t.login }
 
   -- the place of another's login is another
-  not_here : (b k : ℕ) → (b ≡ a → ⊥) → find_login p b ≡ At k → i ≡ k → ⊥
+  not_here : (b k : ℕ) → (b ≡ a → ⊥) → find_login p b ≡ Some k → i ≡ k → ⊥
   not_here b k n e is = apart (found_has p b k e) (ap (λ (m : ℕ). has_address b (login_at p m)) (sym is) ∙ other_has b a (login_at p i) n has)
 
   -- and so the exchange stands where it stood
@@ -172,29 +169,29 @@ module _ (u : Unit) (p : Port) (a x i j : ℕ) (w : well_formed u p ≡ true) (o
     ended_stays = changed (EndLogin b) (ends_login b n)
 
     -- a new login takes a place that is free once what it ends has ended, this login not among it
-    free_there : (q : Port) (k : ℕ) → free_login q ≡ At k → is_used (login_at q k) ≡ false
+    free_there : (q : Port) (k : ℕ) → free_login q ≡ Some k → is_used (login_at q k) ≡ false
     unfolding free_login login_at
     free_there q k e = not-true (is_used (get_or q.logins k empty_login)) (found_passes empty_login is_free q.logins e)
 
-    not_free : (q : Port) → Stays q → (k : ℕ) → free_login q ≡ At k → i ≡ k → ⊥
+    not_free : (q : Port) → Stays q → (k : ℕ) → free_login q ≡ Some k → i ≡ k → ⊥
     not_free q t k e is =
         let used : is_used (login_at q i) ≡ true = ap (λ (m : ℕ). eqb m 1) t.login.used ∙ found_used p a i (open_place p a x i j o) in
         apart used (ap (λ (m : ℕ). is_used (login_at q m)) is ∙ free_there q k e)
 
-    plogi_other : (q : Params) → (verdict_of q ≡ verdict.Accept → has_name (name_of q.port_name) (login_at p i) ≡ false) → Says (plogi_of p b q)
+    plogi_other : (q : Params) → (verdict_of q ≡ Ok tt → has_name (name_of q.port_name) (login_at p i) ≡ false) → Says (plogi_of p b q)
     unfolding plogi_of outcome_of
     plogi_other q unnamed = by (verdict_of q) (free_login (changed_all (ends_by b q) p)) refl unnamed
       where
         name : ℕ
         name = name_of q.port_name
 
-        by : (v : Verdict) (g : Found) → free_login (changed_all (ends_for v b name) p) ≡ g → (v ≡ verdict.Accept → has_name name (login_at p i) ≡ false)
+        by : (v : Result ⊤ FailedTest) (g : Option ℕ) → free_login (changed_all (ends_for v b name) p) ≡ g → (v ≡ Ok tt → has_name name (login_at p i) ≡ false)
             → Stays (outcome_port (outcome_after v g) (changed_all (ends_for v b name) p) (new_login b q))
-        by verdict.Accept (At k) e m =
+        by (Ok tt) (Some k) e m =
             let gone = changed (EndHost b name) (ends_host b name n (m refl)) in
             elsewhere (changed_all (EndHost b name) p) gone k (new_login b q) (not_free (changed_all (EndHost b name) p) gone k e)
-        by verdict.Accept Nothing e m = changed (EndHost b name) (ends_host b name n (m refl))
-        by (verdict.Reject t) g e m = ended_stays
+        by (Ok tt) None e m = changed (EndHost b name) (ends_host b name n (m refl))
+        by (Err t) g e m = ended_stays
 
     link_others : (h : Header) (f : List ℕ) → h.s_id ≡ b → h.r_ctl ≡ 0x22 → (Moves p a h f → ⊥) → Says (link_of p h f)
     unfolding link_of logo_of size_of
@@ -208,7 +205,7 @@ module _ (u : Unit) (p : Port) (a x i j : ℕ) (w : well_formed u p ≡ true) (o
         (on_found_lem Says (find_login p b) _ _ (λ k e. elsewhere p unchanged k _ (not_here b k n e)) (λ _. unchanged))))))
       where
         -- where its PLOGI passes, it has another port name
-        renamed : get_or f 24 0 ≡ 3 → not (eqb (length f) (24 + size_of (get_or f 24 0))) ≡ false → verdict_of (params_of f 28) ≡ verdict.Accept → has_name (named_in f) (login_at p i) ≡ false
+        renamed : get_or f 24 0 ≡ 3 → not (eqb (length f) (24 + size_of (get_or f 24 0))) ≡ false → verdict_of (params_of f 28) ≡ Ok tt → has_name (named_in f) (login_at p i) ≡ false
         renamed c s v =
             let size : length f ≡ 140 = eqb-true (length f) 140 (not-false (eqb (length f) 140) (rw c at s)) in
             ap (has_name (named_in f)) (sym (login_found p a i (open_place p a x i j o))) ∙ unmoved p h a f link still c size v
@@ -239,14 +236,14 @@ module _ (u : Unit) (p : Port) (a x i j : ℕ) (w : well_formed u p ≡ true) (o
     unfolding command_of commanded_at logged_out
     command_others h f is z c = rw is (on_found_lem Says (find_login p b) _ _ (λ k e. by_cond Says (eqb (login_at p k).paired 1) (paired k e) (λ _. ended_stays)) (λ _. ended_stays))
       where
-        paired : (k : ℕ) → find_login p b ≡ At k → eqb (login_at p k).paired 1 ≡ true
+        paired : (k : ℕ) → find_login p b ≡ Some k → eqb (login_at p k).paired 1 ≡ true
             → Says (done_as (task_of (cmnd_of f) (length f) b) p (served_at p k (execute_of u (login_at p k) (sought_in p b h.ox_id) h.ox_id (cmnd_of f))))
         paired k e pair =
             let its : (login_of p b).paired ≡ 1 = ap (λ (m : Login). m.paired) (login_found p b k e) ∙ eqb-true (login_at p k).paired 1 pair in
             task_others (task_of (cmnd_of f) (length f) b) _ (task_mild (cmnd_of f) (length f) b) (z its) (c its) (elsewhere p unchanged k _ (not_here b k n e))
 
   -- its own frames: the login is the one at place i
-  pub seat : find_login p a ≡ At i
+  pub seat : find_login p a ≡ Some i
   seat = open_place p a x i j o
 
   abbrev l : Login
@@ -256,7 +253,7 @@ module _ (u : Unit) (p : Port) (a x i j : ℕ) (w : well_formed u p ≡ true) (o
   Keeps s = Kept l s.login j
 
   -- an exchange of another OX_ID stands at another place, and a free place is another
-  not_its : (ox k : ℕ) → (ox ≡ x → ⊥) → find_exchange l ox ≡ At k → j ≡ k → ⊥
+  not_its : (ox k : ℕ) → (ox ≡ x → ⊥) → find_exchange l ox ≡ Some k → j ≡ k → ⊥
   unfolding has_id find_exchange exchange_at
   not_its ox k n e is =
       let there = found_passes empty_exchange (has_id ox) l.places e in
@@ -264,7 +261,7 @@ module _ (u : Unit) (p : Port) (a x i j : ℕ) (w : well_formed u p ≡ true) (o
       let here = eqb-true (get_or l.places j empty_exchange).ox_id x (and_right (not (is_closed (get_or l.places j empty_exchange))) (eqb (get_or l.places j empty_exchange).ox_id x) (open_has p a x i j o)) in
       n (sym id ∙ ap (λ (m : ℕ). (get_or l.places m empty_exchange).ox_id) (sym is) ∙ here)
 
-  not_closed : (k : ℕ) → free_exchange l ≡ At k → j ≡ k → ⊥
+  not_closed : (k : ℕ) → free_exchange l ≡ Some k → j ≡ k → ⊥
   unfolding free_exchange exchange_at
   not_closed k e is = apart (ap (λ (m : ℕ). is_closed (get_or l.places m empty_exchange)) is ∙ found_passes empty_exchange is_closed l.places e) (open_open p a x i j o)
 
@@ -276,7 +273,7 @@ module _ (u : Unit) (p : Port) (a x i j : ℕ) (w : well_formed u p ≡ true) (o
       by (Open k m) e (inl n) =
           let at = open_place p a ox k m e in
           let is : k ≡ i = let s = seat in cc in
-          let found : find_exchange l ox ≡ At m = ap (λ (c : ℕ). find_exchange (login_at p c) ox) (sym is) ∙ open_exchange p a ox k m e in
+          let found : find_exchange l ox ≡ Some m = ap (λ (c : ℕ). find_exchange (login_at p c) ox) (sym is) ∙ open_exchange p a ox k m e in
           on_cond Says (eqb rx 0xffff) (subst (λ (c : ℕ). Stays (with_login p c (ended_at (login_at p c) m))) (sym is) (stored _ (placed l l j m empty_exchange (itself l j) (not_its ox m n found)))) unchanged
       by (Open k m) e (inr n) = rw (ne_eqb rx 0xffff n) unchanged
       by (NoExchange k) e why = on_cond Says (eqb rx 0xffff) unchanged unchanged
@@ -310,13 +307,13 @@ module _ (u : Unit) (p : Port) (a x i j : ℕ) (w : well_formed u p ≡ true) (o
     answered_keeps asks.Attention = flagged l j l.proven l.paired 0
     answered_keeps (asks.Wants e) = opened_keeps e
 
-    execute_keeps : (place : Found) → place ≡ find_exchange l ox → Keeps (execute_of u l place ox c)
+    execute_keeps : (place : Option ℕ) → place ≡ find_exchange l ox → Keeps (execute_of u l place ox c)
     unfolding execute_of refused_with
     execute_keeps place is = on_found_lem Keeps place _ _ (λ k e. placed l l j k empty_exchange (itself l j) (not_its ox k n (sym is ∙ e))) (λ _. answered_keeps (asked_of u l.attention ox c))
 
   pub sought_there : (ox : ℕ) → sought_in p a ox ≡ find_exchange l ox
   unfolding login_of
-  sought_there ox = sought_is p a ox ∙ ap (λ (g : Found). find_exchange (login_in p g) ox) seat
+  sought_there ox = sought_is p a ox ∙ ap (λ (g : Option ℕ). find_exchange (login_in p g) ox) seat
 
   pub is_paired : eqb l.paired 1 ≡ true
   is_paired = (runs u p a x i j w o).pair
@@ -356,9 +353,9 @@ module _ (u : Unit) (p : Port) (a x i j : ℕ) (w : well_formed u p ≡ true) (o
   unfolding service_of prlo_of
   prlo_keeps f n = rw n (itself l j)
 
-  proven_keeps : (v : Verdict) → Keeps (proven_by v l)
-  proven_keeps verdict.Accept = flagged l j 1 l.paired l.attention
-  proven_keeps (verdict.Reject t) = itself l j
+  proven_keeps : (v : Result ⊤ FailedTest) → Keeps (proven_by v l)
+  proven_keeps (Ok tt) = flagged l j 1 l.paired l.attention
+  proven_keeps (Err t) = itself l j
 
   pdisc_keeps : (f : List ℕ) → pdisc_names l f → Keeps (service_of 0x50 l (sought_in p a) a f)
   unfolding service_of pdisc_of
@@ -381,10 +378,10 @@ module _ (u : Unit) (p : Port) (a x i j : ℕ) (w : well_formed u p ≡ true) (o
     where
       own_moved : b ≡ a → Stays q
       own_moved is =
-          let at : find_login p a ≡ At t.i = ap (find_login p) (sym is) ∙ open_place p b y t.i t.j t.stands in
+          let at : find_login p a ≡ Some t.i = ap (find_login p) (sym is) ∙ open_place p b y t.i t.j t.stands in
           let place : i ≡ t.i = let s = seat in cc in
           let other_id : y ≡ x → ⊥ = λ e. n (is, e) in
-          let found : find_exchange l y ≡ At t.j = ap (λ (c : ℕ). find_exchange (login_at p c) y) place ∙ open_exchange p b y t.i t.j t.stands in
+          let found : find_exchange l y ≡ Some t.j = ap (λ (c : ℕ). find_exchange (login_at p c) y) place ∙ open_exchange p b y t.i t.j t.stands in
           let fields : with_places (login_at q i) l.places ≡ l = subst (λ (c : ℕ). with_places (login_at q c) (login_at p c).places ≡ login_at p c) (sym place) t.fields in
           let kept : exchange_at (login_at q i) j ≡ exchange_at l j = subst (λ (c : ℕ). exchange_of q c j ≡ exchange_of p c j) (sym place) (t.exchanges j (not_its y t.j other_id found)) in
           record {
@@ -460,15 +457,15 @@ module _ (d : Drive) (a x i j : ℕ) (w : well_formed d.unit d.port ≡ true) (o
       command_others u p a x i j w o (header_of f).s_id n (header_of f) f refl (λ pair e. spares record { command = form refl; paired = pair; flags = inl e }) (λ pair e. spares record { command = form refl; paired = pair; flags = inr e })
 
   -- a refused call
-  refused_same : (c : Call) (r : Refusal) → (answer_of d c).said ≡ Refused r → after d c ≡ d
+  refused_same : (c : Call) (r : Refusal) → (answer_of d c).said ≡ Err r → after d c ≡ d
   unfolding next_frame
-  refused_same (frame f start W room known) r = frame_cases d f start W room (λ (s : Answer). s.said ≡ Refused r → s.drive ≡ d) (λ _ _ _. refl) (λ _ e. let z : ◌≡◌ {A = ℕ} 0 1 = cc in absurd (omega arith))
+  refused_same (frame f start W room known) r = frame_cases d f start W room (λ (s : Answer). s.said ≡ Err r → s.drive ≡ d) (λ _ _ _. refl) (λ _ e. let z : ◌≡◌ {A = ℕ} 0 1 = cc in absurd (omega arith))
   refused_same (next b y start W room) r = by (short_buffer room) (well_formed d.unit d.port)
     where
       answer : Bool → Bool → Answer
       answer s v = cond s (drives.refused ShortBuffer d) (cond (not v) (drives.refused IllFormed d) (next_answer d (next_of d.unit d.port b y start W)))
 
-      by : (s v : Bool) → (answer s v).said ≡ Refused r → (answer s v).drive ≡ d
+      by : (s v : Bool) → (answer s v).said ≡ Err r → (answer s v).drive ≡ d
       by true v e = refl
       by false false e = refl
       by false true e = λ n. record { unit = d.unit; port = next_stays d.unit d.port b y start W (ap is_sent e) n }

@@ -1,5 +1,6 @@
 -- A call for a next frame that says it sent one: which frame stands in the buffer, and what drive is left. And where a frame is to be sent, the call says so.
 -- Assumes nothing.
+use Rattle.std.specs.Prelude.{Ok}
 use mathlib.Core.Path.{◌≡◌, refl, ap, ◌∙◌}
 use mathlib.Core.Bool.{Bool, true, false, cond, not}
 use mathlib.Core.List.{List}
@@ -11,7 +12,6 @@ use borrow.Author.Tests.{ltb-false}
 use Rattle.wire.specs.Bytes.{onto}
 use Rattle.wire.proofs.Fronts.{onto_fits}
 use Rattle.refusal.specs.declared.Refusal.TheVariants.{ShortBuffer, IllFormed}
-use Rattle.refusal.specs.declared.Said.TheVariants.{Sent}
 use Rattle.formed.specs.Formed.{well_formed}
 use Rattle.serve.specs.Next.{Step, Refused, Frame, step_of, frame_bytes, next_at, next_of, next_buffer}
 use Rattle.arrival.specs.Arrival.{short_buffer}
@@ -32,17 +32,17 @@ module _ (d : Drive) (a x start : ℕ) (W l : List ℕ) where
     pub is : length (frame_bytes d.unit d.port a x i j k W) ≡ n
 
   from_step : (n : ℕ) (s : Step) → short_buffer (length l) ≡ false → well_formed d.unit d.port ≡ true → step_of d.port a x start (length W) ≡ s
-      → (next_at s d.unit d.port a x W).said ≡ Sent n → Gave n
+      → (next_at s d.unit d.port a x W).said ≡ Ok n → Gave n
   from_step n (Frame i j k) r w q e = record { i = i; j = j; k = k; room = r; formed = w; step = q; is = (cc) }
   from_step n (Refused y) r w q e = let z : ◌≡◌ {A = ℕ} 0 1 = cc in absurd (omega arith)
 
   -- what is said of a frame, is said of the frame of a step
-  pub gave : (n : ℕ) → (next_frame d a x start W (length l)).said ≡ Sent n → Gave n
+  pub gave : (n : ℕ) → (next_frame d a x start W (length l)).said ≡ Ok n → Gave n
   unfolding next_frame next_of
   gave n = by (short_buffer (length l)) (well_formed d.unit d.port) refl refl
     where
       by : (s w : Bool) → short_buffer (length l) ≡ s → well_formed d.unit d.port ≡ w
-          → (cond s (refused ShortBuffer d) (cond (not w) (refused IllFormed d) (next_answer d (next_of d.unit d.port a x start W)))).said ≡ Sent n → Gave n
+          → (cond s (refused ShortBuffer d) (cond (not w) (refused IllFormed d) (next_answer d (next_of d.unit d.port a x start W)))).said ≡ Ok n → Gave n
       by true w r q e = let z : ◌≡◌ {A = ℕ} 0 1 = cc in absurd (omega arith)
       by false false r q e = let z : ◌≡◌ {A = ℕ} 0 1 = cc in absurd (omega arith)
       by false true r q e = from_step n (step_of d.port a x start (length W)) r q refl e
@@ -53,7 +53,7 @@ module _ (d : Drive) (a x start : ℕ) (W l : List ℕ) where
     sent = frame_bytes d.unit d.port a x i j k W
 
     -- the call says so
-    pub says : (next_frame d a x start W (length l)).said ≡ Sent (length sent)
+    pub says : (next_frame d a x start W (length l)).said ≡ Ok (length sent)
     unfolding next_frame next_of
     says = rw (room, w, q)
 

@@ -1,4 +1,5 @@
 -- Demands 1 and 2 hold. Assumes nothing.
+use Rattle.std.specs.Prelude.{Err}
 use mathlib.Core.Path.{◌≡◌, sym, ◌∙◌}
 use mathlib.Core.List.{List}
 use Prim.Native.Nat.{ℕ, ◌≤◌, ◌<◌}
@@ -10,7 +11,6 @@ use Rattle.wire.proofs.Digits.{name_same}
 use Rattle.frame.proofs.Trips.{write_read, read_write}
 use Rattle.formed.specs.Formed.{well_formed}
 use Rattle.refusal.specs.declared.Refusal.TheVariants.{IllFormed}
-use Rattle.refusal.specs.declared.Said.TheVariants.{Refused}
 use Rattle.drive.specs.declared.Drive.{Drive}
 use Rattle.drive.specs.Entry.{frame_in, next_frame}
 use Rattle.drive.proofs.Made.{new_refused, new_made, event_refused, event_answered}
@@ -32,10 +32,10 @@ use Rattle.demands.proofs.WriteComes.{write_comes}
 use Rattle.demands.proofs.Numbers.{known_numbers}
 
 -- 2 is given where the state is not well formed, and a driven one is
-never_frame : {d : Drive} → Driven d → (f : List ℕ) (start : ℕ) (W l : List ℕ) → (frame_in d f start W (length l)).said ≡ Refused IllFormed → ⊥
+never_frame : {d : Drive} → Driven d → (f : List ℕ) (start : ℕ) (W l : List ℕ) → (frame_in d f start W (length l)).said ≡ Err IllFormed → ⊥
 never_frame {d} r f start W l e = apart (driven_fine r) (not-true (well_formed d.unit d.port) (frame_first d f start W l IllFormed e).this)
 
-never_next : {d : Drive} → Driven d → (a x start : ℕ) (W l : List ℕ) → (next_frame d a x start W (length l)).said ≡ Refused IllFormed → ⊥
+never_next : {d : Drive} → Driven d → (a x start : ℕ) (W l : List ℕ) → (next_frame d a x start W (length l)).said ≡ Err IllFormed → ⊥
 never_next {d} r a x start W l e = apart (driven_fine r) (not-true (well_formed d.unit d.port) (next_first d a x start W l IllFormed e).this)
 
 below : (n m : ℕ) → n ≤ m → m < 65536 → n < 65536

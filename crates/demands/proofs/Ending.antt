@@ -1,4 +1,6 @@
 -- The calls that end an open exchange do, where they are not refused, and every call but the exchange's own next frame, and its data frame that is taken, leaves it open or ends it. Assumes nothing.
+use Rattle.std.specs.Prelude.{Option, Some, None, Ok, Err, Result, ⊤}
+use Rattle.params.specs.declared.Fault.{Fault as FailedTest}
 use Prim.Native.Nat.{ℕ, zero, suc, ◌+◌, ◌<◌}
 use mathlib.Core.Path.{◌≡◌, refl, sym, ap, ◌∙◌, subst}
 use mathlib.Core.Bool.{Bool, true, false, cond, not, ◌&&◌, ◌||◌, or-true}
@@ -10,8 +12,6 @@ use lib.Dec.{eqb, leb}
 use lib.ListN.{length, get_or, replicate}
 use lib.Seq.{get_or-set_same}
 use borrow.Author.Tests.{eqb-true, eq-eqb, ne_eqb, leb-false}
-use Rattle.tables.specs.declared.Found.{Found}
-use Rattle.tables.specs.declared.Found.TheVariants.{At, Nothing}
 use Rattle.tables.specs.Lists.{on_found}
 use Rattle.tables.proofs.Bools.{or_right, apart}
 use Rattle.tables.proofs.Searches.{found_below}
@@ -20,12 +20,9 @@ use Rattle.wire.specs.Layout.{AllBytes}
 use Rattle.frame.specs.declared.Header.{Header}
 use Rattle.frame.specs.Head.{header_of}
 use Rattle.params.specs.declared.Params.{Params}
-use Rattle.params.specs.declared.Verdict.{Verdict}
-use Rattle.params.specs.declared.Verdict.TheVariants as verdict
 use Rattle.params.specs.Words.{params_of, verdict_of}
 use Rattle.params.proofs.Exactly.{accepted, accepts_then}
 use Rattle.refusal.specs.declared.Refusal.{Refusal}
-use Rattle.refusal.specs.declared.Said.TheVariants.{Sent, Refused}
 use Rattle.state.specs.declared.Login.{Login}
 use Rattle.state.specs.declared.Port.{Port}
 use Rattle.state.specs.declared.Unit.{Unit}
@@ -192,9 +189,9 @@ module _ (u : Unit) (p : Port) (a x i j : ℕ) (w : well_formed u p ≡ true) (o
       b : ℕ
       b = h.s_id
 
-      by : (g : Found) → (login_in p g).paired ≡ 1 → Over (on_found g (λ k. cond (eqb (login_at p k).paired 1) (commanded_at u p k h (cmnd_of f) (length f)) (logged_out p b)) (logged_out p b))
-      by (At k) e = rw (eq-eqb (login_at p k).paired 1 e) (task_gone b (task_of (cmnd_of f) (length f) b) _ flags)
-      by Nothing e = absurd (omega arith)
+      by : (g : Option ℕ) → (login_in p g).paired ≡ 1 → Over (on_found g (λ k. cond (eqb (login_at p k).paired 1) (commanded_at u p k h (cmnd_of f) (length f)) (logged_out p b)) (logged_out p b))
+      by (Some k) e = rw (eq-eqb (login_at p k).paired 1 e) (task_gone b (task_of (cmnd_of f) (length f) b) _ flags)
+      by None e = absurd (omega arith)
 
   -- its own: abort task set, and a command of its OX_ID
   aborted_gone : (h : Header) (f : List ℕ) → h.s_id ≡ a → task_of (cmnd_of f) (length f) h.s_id ≡ task.Apply (EndExchangesOf a) → Over (command_of u p h f)
@@ -231,36 +228,36 @@ module _ (u : Unit) (p : Port) (a x i j : ℕ) (w : well_formed u p ≡ true) (o
   ended_gone = changed_gone a x p (EndLogin a) (λ _. ends_login)
 
   -- a new login has no exchange
-  new_gone : (q : Params) (b k : ℕ) (ended : Port) → Gone a x ended → free_login ended ≡ At k → Gone a x (with_login ended k (new_login b q))
+  new_gone : (q : Params) (b k : ℕ) (ended : Port) → Gone a x ended → free_login ended ≡ Some k → Gone a x (with_login ended k (new_login b q))
   unfolding new_login free_login
   new_gone q b k ended g e = stored_gone a x ended k (new_login b q) (found_below empty_login is_free ended.logins e) (bare a x (new_login b q) refl) (λ n _. g n)
 
   -- a PLOGI that ends its login, accepted or not
-  ends_gone : (b : ℕ) (q : Params) → ((v : Verdict) → verdict_of q ≡ v → Gone a x (changed_all (ends_for v b (name_of q.port_name)) p)) → Over (plogi_of p b q)
+  ends_gone : (b : ℕ) (q : Params) → ((v : Result ⊤ FailedTest) → verdict_of q ≡ v → Gone a x (changed_all (ends_for v b (name_of q.port_name)) p)) → Over (plogi_of p b q)
   unfolding plogi_of outcome_of
   ends_gone b q gone = by (verdict_of q) (free_login (changed_all (ends_by b q) p)) refl (gone (verdict_of q) refl)
     where
       name : ℕ
       name = name_of q.port_name
 
-      by : (v : Verdict) (g : Found) → free_login (changed_all (ends_for v b name) p) ≡ g → Gone a x (changed_all (ends_for v b name) p)
+      by : (v : Result ⊤ FailedTest) (g : Option ℕ) → free_login (changed_all (ends_for v b name) p) ≡ g → Gone a x (changed_all (ends_for v b name) p)
           → Gone a x (outcome_port (outcome_after v g) (changed_all (ends_for v b name) p) (new_login b q))
-      by verdict.Accept (At k) e over = new_gone q b k (changed_all (EndHost b name) p) over e
-      by verdict.Accept Nothing e over = over
-      by (verdict.Reject t) g e over = over
+      by (Ok tt) (Some k) e over = new_gone q b k (changed_all (EndHost b name) p) over e
+      by (Ok tt) None e over = over
+      by (Err t) g e over = over
 
   -- its own
   plogi_gone : (q : Params) → Over (plogi_of p a q)
   plogi_gone q = ends_gone a q (λ v _. by v)
     where
-      by : (v : Verdict) → Gone a x (changed_all (ends_for v a (name_of q.port_name)) p)
-      by verdict.Accept = changed_gone a x p (EndHost a (name_of q.port_name)) (λ _. ends_host a (name_of q.port_name) (λ h. rw h))
-      by (verdict.Reject t) = ended_gone
+      by : (v : Result ⊤ FailedTest) → Gone a x (changed_all (ends_for v a (name_of q.port_name)) p)
+      by (Ok tt) = changed_gone a x p (EndHost a (name_of q.port_name)) (λ _. ends_host a (name_of q.port_name) (λ h. rw h))
+      by (Err t) = ended_gone
 
   -- one by which its host has moved
   moved_gone : (h : Header) (f : List ℕ) → Moves p a h f → Over (link_of p h f)
   unfolding link_of size_of
-  moved_gone h f m = rw (m.plogi, m.size) (ends_gone b (params_of f 28) (λ v e. subst (λ (t : Verdict). Gone a x (changed_all (ends_for t b (named_in f)) p)) (sym (accepts_then (params_of f 28) m.tests) ∙ e) gone))
+  moved_gone h f m = rw (m.plogi, m.size) (ends_gone b (params_of f 28) (λ v e. subst (λ (t : Result ⊤ FailedTest). Gone a x (changed_all (ends_for t b (named_in f)) p)) (sym (accepts_then (params_of f 28) m.tests) ∙ e) gone))
     where
       b : ℕ
       b = h.s_id
@@ -369,10 +366,10 @@ moved_or_not p a h f =
       ]
     ]
   where
-    by : h.r_ctl ≡ 0x22 → get_or f 24 0 ≡ 3 → length f ≡ 140 → (v : Verdict) (b : Bool) → verdict_of (params_of f 28) ≡ v → has_name (named_in f) (login_of p a) ≡ b → Dec (Moves p a h f)
-    by link code size verdict.Accept true e k = yes record { link = link; plogi = code; size = size; tests = accepted (params_of f 28) e; name = k }
-    by link code size verdict.Accept false e k = no (λ m. apart m.name k)
-    by link code size (verdict.Reject t) b e k = no (λ m. let c = sym (accepts_then (params_of f 28) m.tests) ∙ e in let z : ◌≡◌ {A = ℕ} 0 1 = cc in absurd (omega arith))
+    by : h.r_ctl ≡ 0x22 → get_or f 24 0 ≡ 3 → length f ≡ 140 → (v : Result ⊤ FailedTest) (b : Bool) → verdict_of (params_of f 28) ≡ v → has_name (named_in f) (login_of p a) ≡ b → Dec (Moves p a h f)
+    by link code size (Ok tt) true e k = yes record { link = link; plogi = code; size = size; tests = accepted (params_of f 28) e; name = k }
+    by link code size (Ok tt) false e k = no (λ m. apart m.name k)
+    by link code size (Err t) b e k = no (λ m. let c = sym (accepts_then (params_of f 28) m.tests) ∙ e in let z : ◌≡◌ {A = ℕ} 0 1 = cc in absurd (omega arith))
 
 -- a link request that passes has a payload
 has_payload : (h : Header) (n : ℕ) → unknown_form h n ≡ false → h.r_ctl ≡ 0x22 → 24 < n
@@ -382,7 +379,7 @@ has_payload h n known is =
     leb-false n 24 (rw (eq-eqb h.r_ctl 0x22 is) at (or_right others (eqb h.r_ctl 0x22 && leb n 24) known))
 
 -- a reply that is none has no bytes
-silent_none : (d : Drive) (h : Header) (r : Decided) → silent r.reply ≡ true → Sent (length (reply_bytes d h r)) ≡ Sent 0
+silent_none : (d : Drive) (h : Header) (r : Decided) → silent r.reply ≡ true → ◌≡◌ {A = Result ℕ Refusal} (Ok (length (reply_bytes d h r))) (Ok 0)
 unfolding reply_bytes bytes_of
 silent_none d h r s = rw s
 
@@ -397,23 +394,23 @@ module _ (d : Drive) (a x i j : ℕ) (w : well_formed d.unit d.port ≡ true) (o
   -- a frame that is not refused is decided
   frame_over : (f : List ℕ) (start : ℕ) (W : List ℕ) (room : ℕ) (known : AllBytes f) → Taken d (frame f start W room known) → Gone a x (decided_in d f start (length W)).port → Gone a x (frame_in d f start W room).drive.port
   frame_over f start W room known t g =
-      frame_cases d f start W room (λ (r : Answer). r.said ≡ Sent t.n → Gone a x r.drive.port) (λ r _ e. let z : ◌≡◌ {A = ℕ} 0 1 = cc in absurd (omega arith)) (λ _ _. g) t.said
+      frame_cases d f start W room (λ (r : Answer). r.said ≡ Ok t.n → Gone a x r.drive.port) (λ r _ e. let z : ◌≡◌ {A = ℕ} 0 1 = cc in absurd (omega arith)) (λ _ _. g) t.said
 
   own_over : (f : List ℕ) (start : ℕ) (W : List ℕ) (room : ℕ) (known : AllBytes f) (rctl : ℕ) → Taken d (frame f start W room known) → (header_of f).r_ctl ≡ rctl → Gone a x (decided_of u p (header_of f) (form_of rctl) f start (length W)).port → Gone a x (frame_in d f start W room).drive.port
   own_over f start W room known rctl t its g = frame_over f start W room known t (subst (λ (n : ℕ). Gone a x (decided_of u p (header_of f) (form_of n) f start (length W)).port) (sym its) g)
 
   -- a fault: what is answered has bytes
   fault_over : (f : List ℕ) (start : ℕ) (W : List ℕ) (room : ℕ) (known : AllBytes f) → Taken d (frame f start W room known) → Own a 0x01 f → (header_of f).ox_id ≡ x
-      → ((frame_in d f start W room).said ≡ Sent 0 → ⊥) → Gone a x (frame_in d f start W room).drive.port
+      → ((frame_in d f start W room).said ≡ Ok 0 → ⊥) → Gone a x (frame_in d f start W room).drive.port
   unfolding form_of
   fault_over f start W room known t its same =
-      frame_cases d f start W room (λ (r : Answer). r.said ≡ Sent t.n → (r.said ≡ Sent 0 → ⊥) → Gone a x r.drive.port) (λ r _ e _. let z : ◌≡◌ {A = ℕ} 0 1 = cc in absurd (omega arith))
+      frame_cases d f start W room (λ (r : Answer). r.said ≡ Ok t.n → (r.said ≡ Ok 0 → ⊥) → Gone a x r.drive.port) (λ r _ e _. let z : ◌≡◌ {A = ℕ} 0 1 = cc in absurd (omega arith))
       (λ _ _ some. subst (λ (r : Decided). Gone a x r.port) (sym decided) (data_gone u p a x i j w o (header_of f) (length f) start (length W) its.from same (λ quiet. some (bare_said quiet)))) t.said
     where
       decided : decided_in d f start (length W) ≡ data_decided p (header_of f) (length f) start (length W)
       decided = rw its.form
 
-      bare_said : silent (data_decided p (header_of f) (length f) start (length W)).reply ≡ true → Sent (length (reply_bytes d (header_of f) (decided_in d f start (length W)))) ≡ Sent 0
+      bare_said : silent (data_decided p (header_of f) (length f) start (length W)).reply ≡ true → ◌≡◌ {A = Result ℕ Refusal} (Ok (length (reply_bytes d (header_of f) (decided_in d f start (length W))))) (Ok 0)
       bare_said quiet = silent_none d (header_of f) (decided_in d f start (length W)) (ap (λ (r : Decided). silent r.reply) decided ∙ quiet)
 
   event_over : (e : Event) → Gone a x (changed_all (change_of e) p) → Gone a x (event_answer d e).drive.port
@@ -484,7 +481,7 @@ module _ (d : Drive) (a x i j : ℕ) (w : well_formed d.unit d.port ≡ true) (o
         elim (ℕ_discrete (header_of f).ox_id x) [
           | no n ↦ inl (call.data_other f start W room known own n)
           | yes same ↦ elim (ℕ_discrete t.n 0) [
-            | yes none ↦ absurd (strange_one (own, same, t.said ∙ ap Sent none))
+            | yes none ↦ absurd (strange_one (own, same, t.said ∙ ap Ok none))
             | no some ↦ inr (t, call.faulted f start W room known own same (λ e. some (same_length t.n 0 (sym t.said ∙ e))))
           ]
         ]
@@ -593,7 +590,7 @@ module _ (d : Drive) (a x i j : ℕ) (w : well_formed d.unit d.port ≡ true) (o
       S = Sorted (frame f start W room known)
 
       By : Answer → Type 0
-      By s = ((r : Refusal) → s.said ≡ Refused r → S) → ((n : ℕ) → s.said ≡ Sent n → unknown_form (header_of f) (length f) ≡ false → S) → S
+      By s = ((r : Refusal) → s.said ≡ Err r → S) → ((n : ℕ) → s.said ≡ Ok n → unknown_form (header_of f) (length f) ≡ false → S) → S
 
   -- each call
   pub no_third_call : (c : Call) → (Serves d a x c → ⊥) → LeavesOpen d a x c ⊎ (Taken d c × EndsOpen d a x c)

@@ -1,4 +1,6 @@
 -- What judges finds of a login record is what the drive answers to a PLOGI of that payload, where it has no logins. Assumes nothing.
+use Rattle.std.specs.Prelude.{Some, Ok, Err, Result, ⊤}
+use Rattle.params.specs.declared.Fault.{Fault}
 use mathlib.Core.Path.{◌≡◌, refl, sym, ap, ◌∙◌}
 use mathlib.Core.Bool.{true, false, ◌&&◌}
 use mathlib.Core.List.{List}
@@ -8,7 +10,6 @@ use native.Mathlib.Decide.{dec_le}
 use lib.Dec.{leb}
 use lib.ListN.{length, get_or}
 use borrow.Author.Tests.{le-ltb, eq-eqb}
-use Rattle.tables.specs.declared.Found.TheVariants.{At}
 use Rattle.tables.proofs.Firsts.{none_then}
 use Rattle.refusal.specs.Refusal.{frame_order}
 use Rattle.wire.specs.Bytes.{name_of}
@@ -18,8 +19,6 @@ use Rattle.frame.proofs.Trips.{read_write}
 use Rattle.tables.proofs.Bools.{and_left, and_right, apart}
 use Rattle.address.specs.Address.{valid_address}
 use Rattle.address.proofs.Map.{none_above}
-use Rattle.params.specs.declared.Verdict.{Verdict}
-use Rattle.params.specs.declared.Verdict.TheVariants as verdict
 use Rattle.params.specs.Words.{params_of, verdict_of, setup_passes}
 use Rattle.state.specs.declared.Setup.{Setup}
 use Rattle.state.specs.Changes.{has_address, has_name, ended_of, host_ended, changed_all}
@@ -45,9 +44,9 @@ small_address n v =
       | no l ↦ omega arith
     ]
 
-same_reply : (v : Verdict) → outcome_reply (outcome_after v (At 0)) ≡ reply_for (judged v)
-same_reply verdict.Accept = refl
-same_reply (verdict.Reject t) = refl
+same_reply : (v : Result ⊤ Fault) → outcome_reply (outcome_after v (Some 0)) ≡ reply_for (judged v)
+same_reply (Ok tt) = refl
+same_reply (Err t) = refl
 
 module _ (t : Setup) (rules : setup_rules t ≡ true) (from ox : ℕ) (other : bad_source t.address from ≡ false) (small : ox < 65536) (s : List ℕ) (size : length s ≡ 116)
     (plogi : get_or s 0 0 ≡ 3) where
@@ -73,10 +72,10 @@ module _ (t : Setup) (rules : setup_rules t ≡ true) (from ox : ℕ) (other : b
   same_words = refl
 
   -- an empty table has its lowest place free
-  first_free : (v : Verdict) (name : ℕ) → free_login (changed_all (ends_for v from name) d.port) ≡ At 0
+  first_free : (v : Result ⊤ Fault) (name : ℕ) → free_login (changed_all (ends_for v from name) d.port) ≡ Some 0
   unfolding made_from changed_all ended_of host_ended has_address has_name free_login
-  first_free verdict.Accept name = refl
-  first_free (verdict.Reject t) name = refl
+  first_free (Ok tt) name = refl
+  first_free (Err t) name = refl
 
   judged_is : judgement_of s ≡ judged (verdict_of (params_of s 4))
   unfolding judgement_of

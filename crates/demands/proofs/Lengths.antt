@@ -1,4 +1,6 @@
 -- How long what is sent is: a multiple of 4, at most 140 bytes for a frame in, and from 24 to 2,072 for a next frame, or nothing while data are awaited. Assumes nothing.
+use Rattle.std.specs.Prelude.{Ok, Result}
+use Rattle.refusal.specs.declared.Refusal.{Refusal}
 use mathlib.Core.Path.{◌≡◌, refl, sym, ap, ◌∙◌}
 use mathlib.Core.Bool.{Bool, true, false, cond}
 use mathlib.Core.Logic.{◌⊎◌, inl, inr}
@@ -10,7 +12,6 @@ use borrow.Author.Tests.{lt-ltb}
 use Rattle.wire.specs.Bytes.{fill_count}
 use Rattle.frame.specs.declared.Header.{Header}
 use Rattle.frame.specs.Head.{header_of, header_bytes}
-use Rattle.refusal.specs.declared.Said.TheVariants.{Sent}
 use Rattle.state.specs.declared.Exchange.{Exchange}
 use Rattle.state.specs.declared.Own.{Own}
 use Rattle.state.specs.declared.Port.{Port}
@@ -91,14 +92,14 @@ module _ (o : Own) (h : Header) (r : Reply) (source : List ℕ) where
   unfolding bytes_of
   bytes_some loud = let n = whole_long in rw loud (omega arith)
 
-pub same_length : (m n : ℕ) → Sent m ≡ Sent n → m ≡ n
+pub same_length : (m n : ℕ) → ◌≡◌ {A = Result ℕ Refusal} (Ok m) (Ok n) → m ≡ n
 same_length m n e = cc
 
 -- a frame in
-pub frame_long : (d : Drive) (f : List ℕ) (start : ℕ) (W l : List ℕ) (n : ℕ) → length d.port.accept ≡ 112 → (frame_in d f start W (length l)).said ≡ Sent n → (n ≤ 140) × (n % 4 ≡ 0)
+pub frame_long : (d : Drive) (f : List ℕ) (start : ℕ) (W l : List ℕ) (n : ℕ) → length d.port.accept ≡ 112 → (frame_in d f start W (length l)).said ≡ Ok n → (n ≤ 140) × (n % 4 ≡ 0)
 unfolding reply_bytes own_of
 frame_long d f start W l n words =
-    frame_cases d f start W (length l) (λ (a : Answer). a.said ≡ Sent n → (n ≤ 140) × (n % 4 ≡ 0)) (λ x _ e. let z : ◌≡◌ {A = ℕ} 0 1 = cc in absurd (omega arith))
+    frame_cases d f start W (length l) (λ (a : Answer). a.said ≡ Ok n → (n ≤ 140) × (n % 4 ≡ 0)) (λ x _ e. let z : ◌≡◌ {A = ℕ} 0 1 = cc in absurd (omega arith))
     (λ _ e.
     let o = own_of d.port in
     let r = (decided_in d f start (length W)).reply in
@@ -159,7 +160,7 @@ module _ (d : Drive) (a x start : ℕ) (W l : List ℕ) (n : ℕ) (g : Gave d a 
             ∙ ap (λ (q : Next). record { unit = d.unit; port = q.port }) (silent_next d.unit p a x start W g.i g.j g.k g.step (ap (λ (r : Reply). silent r) silence)),
       )
 
-module _ (d : Drive) (a x start : ℕ) (W l : List ℕ) (n : ℕ) (said : (next_frame d a x start W (length l)).said ≡ Sent n) where
+module _ (d : Drive) (a x start : ℕ) (W l : List ℕ) (n : ℕ) (said : (next_frame d a x start W (length l)).said ≡ Ok n) where
   abbrev given : Gave d a x start W l n
   given = gave d a x start W l n said
 

@@ -1,5 +1,6 @@
 -- A port login that is not refused is accepted or rejected at the entry exactly as document 01 says, with the stated reason, and the bytes in the lent buffer tell which;
 -- and it ends no login of another address but that of its port name. Assumes nothing.
+use Rattle.std.specs.Prelude.{None, Ok}
 use mathlib.Core.Path.{◌≡◌, refl, sym, ap, ◌∙◌, subst}
 use mathlib.Core.Logic.{◌⊎◌, inl, inr}
 use mathlib.Core.Bool.{true, false}
@@ -9,7 +10,6 @@ use native.Mathlib.Omega.{arith}
 use lib.ListN.{length, drop, get_or}
 use lib.Seq.{take-append_seam, drop_at, get_or-take}
 use borrow.Author.Tests.{eqb-true, eq-eqb, ltb-false}
-use Rattle.tables.specs.declared.Found.TheVariants.{Nothing}
 use Rattle.tables.specs.Lists.{pairs}
 use Rattle.tables.proofs.Bools.{apart}
 use Rattle.wire.specs.Bytes.{onto}
@@ -25,7 +25,6 @@ use Rattle.state.specs.Changes.{own_of, with_login}
 use Rattle.state.specs.Tables.{free_login}
 use Rattle.formed.specs.Formed.{apart_login}
 use Rattle.formed.proofs.Parts.{formed_parts}
-use Rattle.refusal.specs.declared.Said.TheVariants.{Sent}
 use Rattle.reply.specs.declared.Reply.TheVariants as reply
 use Rattle.reply.specs.declared.Accepted.TheVariants as accepted
 use Rattle.reply.specs.Payload.{short_bytes, login_bytes, reject_bytes}
@@ -67,7 +66,7 @@ module _ (d : Drive) (f : List ℕ) (start : ℕ) (W l : List ℕ) (p : LoginIn 
 
   -- these n bytes are sent, and this port is left
   abbrev Answers : List ℕ → ℕ → Port → Type 0
-  Answers bs n q = Begins bs after × (drop n after ≡ drop n l) × (frame_in d f start W (length l) ≡ record { said = Sent n; drive = record { unit = d.unit; port = q } })
+  Answers bs n q = Begins bs after × (drop n after ≡ drop n l) × (frame_in d f start W (length l) ≡ record { said = Ok n; drive = record { unit = d.unit; port = q } })
 
   passes : Passes d.unit port head f (length l)
   passes = (passed_in d f start (length W) (length l) p.passed).arrived
@@ -157,7 +156,7 @@ module _ (d : Drive) (f : List ℕ) (start : ℕ) (W l : List ℕ) (p : LoginIn 
   record Full : Type 0 where
     size : length f ≡ 140
     tests : (t : Fault) → fails (params_of f 28) t ≡ false
-    none : free_login (host_gone port head f) ≡ Nothing
+    none : free_login (host_gone port head f) ≡ None
 
   is_full : (r x : ℕ) → Rejects port head f r x → r ≡ 0x09 → Full
   is_full r x (wrong_size n) e = absurd (omega arith)

@@ -1,4 +1,6 @@
 -- A command from its FCP_CMND frame on: its exchange opens as the frame's bytes say, and what follows is delivered. Assumes nothing.
+use Rattle.std.specs.Prelude.{Option, None, Ok, Result}
+use Rattle.refusal.specs.declared.Refusal.{Refusal}
 use mathlib.Core.Path.{◌≡◌, refl, sym, ap, ◌∙◌, subst}
 use mathlib.Core.Bool.{Bool, true, false, cond, not}
 use mathlib.Core.List.{List, [], ◌++◌}
@@ -8,8 +10,6 @@ use lib.Dec.{eqb}
 use lib.ListN.{length, get_or}
 use lib.Seq.{get_or-set_same}
 use borrow.Author.Tests.{eqb-true, eq-eqb, not-false}
-use Rattle.tables.specs.declared.Found.{Found}
-use Rattle.tables.specs.declared.Found.TheVariants.{Nothing}
 use Rattle.tables.proofs.Searches.{found_below, found_passes}
 use Rattle.wire.specs.Bytes.{num, fill_count}
 use Rattle.wire.specs.Layout.{AllBytes}
@@ -38,7 +38,6 @@ use Rattle.command.specs.Tests.{inquiry_kind, sense_kind}
 use Rattle.command.specs.Command.{reports, told_of, command_of}
 use Rattle.command.proofs.Moves.{operation_of}
 use Rattle.command.proofs.Silent.{wish_of, OpensAt, command_silent}
-use Rattle.refusal.specs.declared.Said.TheVariants.{Sent}
 use Rattle.arrival.specs.Arrival.{spared, unproven_login, form_of}
 use Rattle.arrival.proofs.Passes.{Passes}
 use Rattle.drive.specs.declared.Drive.{Drive}
@@ -54,7 +53,7 @@ use Rattle.demands.proofs.Refusals.{frame_answers}
 use Rattle.demands.proofs.Reading.{reads_read, reads_made, reads_come}
 
 -- a reply of no bytes is none
-none_silent : (d : Drive) (h : Header) (r : Decided) → Sent (length (reply_bytes d h r)) ≡ Sent 0 → silent r.reply ≡ true
+none_silent : (d : Drive) (h : Header) (r : Decided) → ◌≡◌ {A = Result ℕ Refusal} (Ok (length (reply_bytes d h r))) (Ok 0) → silent r.reply ≡ true
 unfolding reply_bytes bytes_of
 none_silent d h r e = by (silent r.reply) refl (cc)
   where
@@ -157,10 +156,10 @@ module _ {code : ℕ} {wish : List ℕ → Login → Exchange} (opens : Opens co
   anew = wish_anew opens f its
 
   -- the login had no exchange of its OX_ID
-  none_open : find_exchange its head.ox_id ≡ Nothing
+  none_open : find_exchange its head.ox_id ≡ None
   unfolding login_of
   none_open =
-      let is = sought_is d.port head.s_id head.ox_id ∙ ap (λ (g : Found). find_exchange (login_in d.port g) head.ox_id) opens_at.seat in
+      let is = sought_is d.port head.s_id head.ox_id ∙ ap (λ (g : Option ℕ). find_exchange (login_in d.port g) head.ox_id) opens_at.seat in
       sym is ∙ opens_at.opens.none
 
   has_own : has_id head.ox_id opened ≡ true

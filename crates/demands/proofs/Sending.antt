@@ -1,4 +1,5 @@
 -- A data frame as a host sends it: its bytes, how one reads them, and that the drive takes it. Assumes nothing.
+use Rattle.std.specs.Prelude.{Some}
 use mathlib.Core.Path.{◌≡◌, refl, sym, ap, ◌∙◌}
 use mathlib.Core.Bool.{true, false, not, ◌&&◌}
 use mathlib.Core.List.{List, [], ◌∷◌, ◌++◌}
@@ -8,7 +9,6 @@ use lib.Dec.{eqb, leb}
 use lib.ListN.{length, take, drop, get_or, replicate, length-append, length-take, length-replicate}
 use lib.Seq.{take-append_seam, drop_at}
 use borrow.Author.Tests.{eqb-true, eq-eqb, le-ltb, not-true}
-use Rattle.tables.specs.declared.Found.TheVariants.{At}
 use Rattle.tables.proofs.Bools.{and_left, and_right}
 use Rattle.tables.proofs.Keeping.{all_at}
 use Rattle.wire.specs.Bytes.{bytes, fill_count}
@@ -240,7 +240,7 @@ module _ {d : Drive} {unit : List ℕ} {a x i j : ℕ} {P : List ℕ} (may : Sen
   unfolding sent_len
   lent_short = let l = length-take sent_len (drop (512 * sent_start) unit) in let few = may.few in omega arith
 
-  place_is : lent_place (position_of e.start e.sent) (length P) sent_start (length W) ≡ At (e.sent % 512)
+  place_is : lent_place (position_of e.start e.sent) (length P) sent_start (length W) ≡ Some (e.sent % 512)
   unfolding lent_place sent_start sent_len
   place_is = rw (le-ltb 65536 (length W) lent_short) (cut_covers unit e.start e.sent (length P) (length P + 512) (omega arith) may.inside)
 

@@ -1,4 +1,6 @@
 -- A data frame: what becomes of its window and of the drive. Assumes nothing.
+use Rattle.std.specs.Prelude.{Some, Ok, Result}
+use Rattle.refusal.specs.declared.Refusal.{Refusal}
 use mathlib.Core.Path.{◌≡◌, refl, sym, ap, ◌∙◌, subst}
 use mathlib.Core.Bool.{true, false}
 use mathlib.Core.List.{List}
@@ -7,14 +9,12 @@ use native.Mathlib.Omega.{arith}
 use lib.Dec.{ltb}
 use lib.ListN.{length, drop, length-take, length-drop}
 use borrow.Author.Tests.{eq-eqb, le-ltb}
-use Rattle.tables.specs.declared.Found.TheVariants.{At}
 use Rattle.tables.proofs.Firsts.{FirstSays, at_first, at_none, first_says, none_then}
 use Rattle.tables.proofs.Bools.{apart}
 use Rattle.wire.specs.Bytes.{over}
 use Rattle.frame.specs.declared.Header.{Header}
 use Rattle.frame.specs.Head.{header_of, header_bytes}
 use Rattle.cover.specs.Cover.{position_of, lent_place}
-use Rattle.refusal.specs.declared.Said.TheVariants.{Sent}
 use Rattle.refusal.specs.Refusal.{frame_order}
 use Rattle.state.specs.declared.Login.{Login}
 use Rattle.state.specs.declared.Port.{Port}
@@ -50,8 +50,8 @@ carried_long h f =
     omega arith
 
 -- the next bytes of a WRITE, within its burst and in the window, are taken
-pub step_take : (l : Login) (x offset n start len j k : ℕ) → find_exchange l x ≡ At j → is_write (exchange_at l j) ≡ true → offset ≡ (exchange_at l j).sent → offset + n ≤ burst_end (exchange_at l j)
-    → lent_place (position_of (exchange_at l j).start (exchange_at l j).sent) n start len ≡ At k → step_of l x offset n start len ≡ Take j k
+pub step_take : (l : Login) (x offset n start len j k : ℕ) → find_exchange l x ≡ Some j → is_write (exchange_at l j) ≡ true → offset ≡ (exchange_at l j).sent → offset + n ≤ burst_end (exchange_at l j)
+    → lent_place (position_of (exchange_at l j).start (exchange_at l j).sent) n start len ≡ Some k → step_of l x offset n start len ≡ Take j k
 unfolding step_of find_write fault_of covered_step
 step_take l x offset n start len j k found write next within place =
     let e = exchange_at l j in
@@ -99,7 +99,7 @@ module _ (d : Drive) (f : List ℕ) (start : ℕ) (W : List ℕ) (room : ℕ) wh
   pub record Stores (i j : ℕ) : Type 0 where
     pub k : ℕ
     pub takes : Takes (login_at p i) h.ox_id h.offset size start (length W) j k
-    pub said : (frame_in d f start W room).said ≡ Sent 0
+    pub said : (frame_in d f start W room).said ≡ Ok 0
     pub drive : (frame_in d f start W room).drive ≡ record { unit = d.unit; port = with_login p i (with_exchange (login_at p i) j (taken_on (exchange_at (login_at p i) j) size)) }
     pub window : frame_in_window d f start W room ≡ over W k (data_in h f)
 
@@ -130,21 +130,21 @@ module _ (d : Drive) (f : List ℕ) (start : ℕ) (W : List ℕ) (room : ℕ) wh
           record { k = k; takes = t.takes; said = ap (λ (r : Answer). r.said) a; drive = ap (λ (r : Answer). r.drive) a; window = window_is ∙ ap (λ (s : Step). window_by s (data_in h f) W) e })
 
       -- it is taken if nothing is sent
-      by_said : (s : Step) → data_step d f start (length W) ≡ s → (frame_in d f start W room).said ≡ Sent 0 → Stores i j
+      by_said : (s : Step) → data_step d f start (length W) ≡ s → (frame_in d f start W room).said ≡ Ok 0 → Stores i j
       unfolding reply_bytes bytes_of filled header_bytes status_bytes code_bytes
       by_said NoWrite e q = apart {a = true} refl (rw (form, e) at n.open_write)
       by_said Uncovered e q = apart {a = true} refl (rw (form, e) at n.covers)
       by_said (Fault m code) e q =
           let a = ap (λ (r : Answer). r.said) (answer_is (data_fault p h (length f) start (length W) m code e).is) in
-          let b : Sent 56 ≡ Sent 0 = sym a ∙ q in
+          let b : ◌≡◌ {A = Result ℕ Refusal} (Ok 56) (Ok 0) = sym a ∙ q in
           let c : ◌≡◌ {A = ℕ} 56 0 = cc in
           absurd (omega arith)
       by_said (Take m k) e q = stores_taken m k e
 
-  pub stores_said : (i j : ℕ) → h.r_ctl ≡ 0x01 → lookup_of p h.s_id h.ox_id ≡ Open i j → (frame_in d f start W room).said ≡ Sent 0 → Stores i j
+  pub stores_said : (i j : ℕ) → h.r_ctl ≡ 0x01 → lookup_of p h.s_id h.ox_id ≡ Open i j → (frame_in d f start W room).said ≡ Ok 0 → Stores i j
   unfolding frame_in
   stores_said i j form stands q = by (first_says (applies d f start (length W) room) frame_order (λ x. refused x d) (answered d h (decided_in d f start (length W))) refl) q
     where
-      by : {y : Answer} → FirstSays (applies d f start (length W) room) frame_order (λ x. refused x d) (answered d h (decided_in d f start (length W))) y → y.said ≡ Sent 0 → Stores i j
+      by : {y : Answer} → FirstSays (applies d f start (length W) room) frame_order (λ x. refused x d) (answered d h (decided_in d f start (length W))) y → y.said ≡ Ok 0 → Stores i j
       by (at_first x g e) r = never (cc)
       by (at_none n e) r = by_said form (passed_in d f start (length W) room n) i j stands (data_step d f start (length W)) refl q

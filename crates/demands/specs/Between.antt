@@ -1,11 +1,10 @@
 -- Calls that come between the frames of an open exchange: those that leave it open, and those that end it (document 01, "Link services", "Commands", "Events"; document 02, requests 1 and 2).
-use Rattle.std.specs.Prelude.{◌≡◌, true, false, ◌⊎◌, List, ℕ, ◌+◌, length, get_or}
+use Rattle.std.specs.Prelude.{◌≡◌, true, false, ◌⊎◌, List, ℕ, ◌+◌, length, get_or, Ok, Err}
 use Rattle.wire.specs.Bytes.{num, part}
 use Rattle.wire.specs.Layout.{AllBytes}
 use Rattle.frame.specs.Head.{header_of}
 use Rattle.params.specs.Words.{params_of}
 use Rattle.refusal.specs.declared.Refusal.{Refusal}
-use Rattle.refusal.specs.declared.Said.TheVariants.{Sent, Refused}
 use Rattle.state.specs.declared.Login.{Login}
 use Rattle.state.specs.declared.Port.{Port}
 use Rattle.state.specs.declared.Change.TheVariants.{EndExchangesOf, Reset, Clear}
@@ -71,7 +70,7 @@ adisc_names l f = names_differ l (part 8 f 32) (part 8 f 40) ≡ false
 -- the calls that leave the exchange of a and x open, as it was, at the drive d
 pub data LeavesOpen (d : Drive) (a x : ℕ) : Call → Type 0 where
   -- "returns its number and the state unchanged": any call that is refused
-  refused : {c : Call} (r : Refusal) → (answer_of d c).said ≡ Refused r → LeavesOpen d a x c
+  refused : {c : Call} (r : Refusal) → (answer_of d c).said ≡ Err r → LeavesOpen d a x c
   -- a next frame of another exchange, of this login or of another
   next_other : (b y start : ℕ) (W : List ℕ) (room : ℕ) → ((b ≡ a) × (y ≡ x) → ⊥) → LeavesOpen d a x (next b y start W room)
   -- "loop reset marks every login unproven"
@@ -118,7 +117,7 @@ pub data EndsOpen (d : Drive) (a x : ℕ) : Call → Type 0 where
   -- ABTS: "the sender's exchange of that OX_ID, if any, ends"
   abts : (f : List ℕ) (start : ℕ) (W : List ℕ) (room : ℕ) (known : AllBytes f) → Own a 0x81 f → (header_of f).ox_id ≡ x → (header_of f).rx_id ≡ 0xffff → EndsOpen d a x (frame f start W room known)
   -- a data frame of this OX_ID "at another offset than the next is answered at once with RSP_CODE 03, else past the burst with 01, and ends the exchange" (02, 2): one that is answered with a frame
-  faulted : (f : List ℕ) (start : ℕ) (W : List ℕ) (room : ℕ) (known : AllBytes f) → Own a 0x01 f → (header_of f).ox_id ≡ x → ((frame_in d f start W room).said ≡ Sent 0 → ⊥) → EndsOpen d a x (frame f start W room known)
+  faulted : (f : List ℕ) (start : ℕ) (W : List ℕ) (room : ℕ) (known : AllBytes f) → Own a 0x01 f → (header_of f).ox_id ≡ x → ((frame_in d f start W room).said ≡ Ok 0 → ⊥) → EndsOpen d a x (frame f start W room known)
   -- PLOGI "ends the sender's login and exchanges first, accepted or not"; LOGO "Ends the login if any"; PRLO "ends the pairing and its exchanges"
   plogi : (f : List ℕ) (start : ℕ) (W : List ℕ) (room : ℕ) (known : AllBytes f) → Service a 0x03 f → EndsOpen d a x (frame f start W room known)
   logo : (f : List ℕ) (start : ℕ) (W : List ℕ) (room : ℕ) (known : AllBytes f) → Service a 0x05 f → num 3 f 29 ≡ a → EndsOpen d a x (frame f start W room known)
@@ -129,14 +128,14 @@ pub data EndsOpen (d : Drive) (a x : ℕ) : Call → Type 0 where
 
 -- the exchange's own next frame, and a data frame of its own that is taken in silence: these serve it
 abbrev pub Serves : Drive → ℕ → ℕ → Call → Type 0
-Serves d a x (frame f start W room known) = Own a 0x01 f × ((header_of f).ox_id ≡ x) × ((frame_in d f start W room).said ≡ Sent 0)
+Serves d a x (frame f start W room known) = Own a 0x01 f × ((header_of f).ox_id ≡ x) × ((frame_in d f start W room).said ≡ Ok 0)
 Serves d a x (next b y start W room) = (b ≡ a) × (y ≡ x)
 Serves d a x (event e) = ⊥
 
 -- a call that was not refused
 pub record Taken (d : Drive) (c : Call) : Type 0 where
   pub n : ℕ
-  pub said : (answer_of d c).said ≡ Sent n
+  pub said : (answer_of d c).said ≡ Ok n
 
 -- what a call that leaves it open leaves, where the exchange stood at place j of the login at place i: it stands there as it was, and the drive is well formed and of the same unit
 pub record Left (a x i j : ℕ) (d e : Drive) : Type 0 where

@@ -1,6 +1,6 @@
 -- Demands 1 and 2 over the four entries, from top to bottom; demand 3 is `Drive3` of the crate belief. `frame_in`, `next_frame`, `event_answer` and `new_answer` are the definitions of record:
 -- the entries' contracts say that their answers are these, for all input. Each is proved in `proofs/Demands.antt`, and assumes nothing but what stands in it.
-use Rattle.std.specs.Prelude.{◌≡◌, true, false, ◌⊎◌, List, [], ◌++◌, ℕ, ◌-◌, ◌*◌, ◌%◌, ◌≤◌, ◌<◌, length, take, drop, get_or}
+use Rattle.std.specs.Prelude.{◌≡◌, true, false, ◌⊎◌, List, [], ◌++◌, ℕ, ◌-◌, ◌*◌, ◌%◌, ◌≤◌, ◌<◌, length, take, drop, get_or, Ok, Err}
 use seplogic.Ra.Ura.{Ura}
 use base.Logic.{SProp}
 use prog.Memory.{Memory}
@@ -22,7 +22,6 @@ use Rattle.state.specs.Tables.{lookup_of}
 use Rattle.formed.specs.Formed.{setup_rules, well_formed, total}
 use Rattle.refusal.specs.declared.Refusal.{Refusal}
 use Rattle.refusal.specs.declared.Refusal.TheVariants.{IllFormed, BadSetup}
-use Rattle.refusal.specs.declared.Said.TheVariants.{Sent, Refused}
 use Rattle.refusal.specs.Refusal.{frame_order, next_order}
 use Rattle.serve.specs.Made.{made_bytes}
 use Rattle.serve.specs.Next.{exchange_of, full_of}
@@ -49,12 +48,12 @@ pub record Demand1 : Type 2 where
   -- No input allows two replies: of the contracts of all entries, of the C functions and of the programs' functions, two outcomes that one allows are the same, answer and all that is left of what was lent.
   pub no_two_replies : {M : Type 1} {𝓤 : Ura M} (𝓛 : Logic 𝓤) (mem : Memory → SProp 𝓤) (run : Routine → Fun 𝓤) → OneReply 𝓛 mem run
   -- Refusals of a frame in: a number is given exactly when it is the first of 1 to 7, 11, 10 that applies, with the drive unchanged and no byte of the buffer and of the window changed.
-  pub frame_given : (d : Drive) (f : List ℕ) (start : ℕ) (W l : List ℕ) (x : Refusal) → (frame_in d f start W (length l)).said ≡ Refused x → IsFirst (applies d f start (length W) (length l)) frame_order x
+  pub frame_given : (d : Drive) (f : List ℕ) (start : ℕ) (W l : List ℕ) (x : Refusal) → (frame_in d f start W (length l)).said ≡ Err x → IsFirst (applies d f start (length W) (length l)) frame_order x
   pub frame_then : (d : Drive) (f : List ℕ) (start : ℕ) (W l : List ℕ) (x : Refusal) → IsFirst (applies d f start (length W) (length l)) frame_order x → (frame_in d f start W (length l) ≡ refused x d) × (frame_in_buffer d f start W l ≡ l) × (frame_in_window d f start W (length l) ≡ W)
   -- Refusals of a next frame out: the same, in the order 1, 2, 9, 7, 10.
-  pub next_given : (d : Drive) (a x start : ℕ) (W l : List ℕ) (r : Refusal) → (next_frame d a x start W (length l)).said ≡ Refused r → IsFirst (applies_out d a x start W l) next_order r
-  pub next_then : (d : Drive) (a x start : ℕ) (W l : List ℕ) (r : Refusal) → IsFirst (applies_out d a x start W l) next_order r → (next_frame d a x start W (length l)).said ≡ Refused r
-  pub next_same : (d : Drive) (a x start : ℕ) (W l : List ℕ) (r : Refusal) → (next_frame d a x start W (length l)).said ≡ Refused r
+  pub next_given : (d : Drive) (a x start : ℕ) (W l : List ℕ) (r : Refusal) → (next_frame d a x start W (length l)).said ≡ Err r → IsFirst (applies_out d a x start W l) next_order r
+  pub next_then : (d : Drive) (a x start : ℕ) (W l : List ℕ) (r : Refusal) → IsFirst (applies_out d a x start W l) next_order r → (next_frame d a x start W (length l)).said ≡ Err r
+  pub next_same : (d : Drive) (a x start : ℕ) (W l : List ℕ) (r : Refusal) → (next_frame d a x start W (length l)).said ≡ Err r
       → ((next_frame d a x start W (length l)).drive ≡ d) × (next_frame_buffer d a x start W l ≡ l)
   -- An event is refused, with 2, exactly when the state is not well formed; making a drive, with 8, exactly when a setup rule fails.
   pub event_given : (d : Drive) (e : Event) → (well_formed d.unit d.port ≡ false → event_answer d e ≡ refused IllFormed d) × (well_formed d.unit d.port ≡ true → event_answer d e ≡ nothing_sent (after_event e d))
@@ -62,19 +61,19 @@ pub record Demand1 : Type 2 where
       × (setup_rules s ≡ true → new_answer s ≡ nothing_sent (made_from s))
   -- Well formed is kept: a drive that was made, and driven only by the entries, is well formed, and no call of it is refused with 2.
   pub driven_formed : {d : Drive} → Driven d → well_formed d.unit d.port ≡ true
-  pub frame_never_2 : {d : Drive} → Driven d → (f : List ℕ) (start : ℕ) (W l : List ℕ) → (frame_in d f start W (length l)).said ≡ Refused IllFormed → ⊥
-  pub next_never_2 : {d : Drive} → Driven d → (a x start : ℕ) (W l : List ℕ) → (next_frame d a x start W (length l)).said ≡ Refused IllFormed → ⊥
+  pub frame_never_2 : {d : Drive} → Driven d → (f : List ℕ) (start : ℕ) (W l : List ℕ) → (frame_in d f start W (length l)).said ≡ Err IllFormed → ⊥
+  pub next_never_2 : {d : Drive} → Driven d → (a x start : ℕ) (W l : List ℕ) → (next_frame d a x start W (length l)).said ≡ Err IllFormed → ⊥
   pub event_never_2 : {d : Drive} → Driven d → (e : Event) → event_answer d e ≡ nothing_sent (after_event e d)
   -- The length of what is sent: of a reply to a frame in at most 140 bytes (PLOGI's ACC), of a next frame from 24 to 2,072, and 0 exactly while data are awaited (02, 2), when nothing of the drive changes; a multiple of 4 always.
   -- The accept words are a list here; in the code they are an array of 112 bytes, so every drive there has that many.
-  pub frame_length : (d : Drive) (f : List ℕ) (start : ℕ) (W l : List ℕ) (n : ℕ) → length d.port.accept ≡ 112 → (frame_in d f start W (length l)).said ≡ Sent n → (n ≤ 140) × (n % 4 ≡ 0)
-  pub next_length : (d : Drive) (a x start : ℕ) (W l : List ℕ) (n : ℕ) → (next_frame d a x start W (length l)).said ≡ Sent n
+  pub frame_length : (d : Drive) (f : List ℕ) (start : ℕ) (W l : List ℕ) (n : ℕ) → length d.port.accept ≡ 112 → (frame_in d f start W (length l)).said ≡ Ok n → (n ≤ 140) × (n % 4 ≡ 0)
+  pub next_length : (d : Drive) (a x start : ℕ) (W l : List ℕ) (n : ℕ) → (next_frame d a x start W (length l)).said ≡ Ok n
       → ((n ≡ 0) × Awaits d a x) ⊎ ((24 ≤ n) × (n ≤ 2072) × (n % 4 ≡ 0))
-  pub next_awaits : (d : Drive) (a x start : ℕ) (W l : List ℕ) (n : ℕ) → (next_frame d a x start W (length l)).said ≡ Sent n → Awaits d a x
+  pub next_awaits : (d : Drive) (a x start : ℕ) (W l : List ℕ) (n : ℕ) → (next_frame d a x start W (length l)).said ≡ Ok n → Awaits d a x
       → (n ≡ 0) × ((next_frame d a x start W (length l)).drive ≡ d)
   -- So a length is below 65,536, from where on the C boundary tells refusals.
-  pub frame_below : (d : Drive) (f : List ℕ) (start : ℕ) (W l : List ℕ) (n : ℕ) → length d.port.accept ≡ 112 → (frame_in d f start W (length l)).said ≡ Sent n → n < 65536
-  pub next_below : (d : Drive) (a x start : ℕ) (W l : List ℕ) (n : ℕ) → (next_frame d a x start W (length l)).said ≡ Sent n → n < 65536
+  pub frame_below : (d : Drive) (f : List ℕ) (start : ℕ) (W l : List ℕ) (n : ℕ) → length d.port.accept ≡ 112 → (frame_in d f start W (length l)).said ≡ Ok n → n < 65536
+  pub next_below : (d : Drive) (a x start : ℕ) (W l : List ℕ) (n : ℕ) → (next_frame d a x start W (length l)).said ≡ Ok n → n < 65536
 
 -- "Each frame is read, and each reply written, exactly as document 01 condenses ..": what a reply is, is the definitions' (`frame_in_buffer`, `next_frame_buffer`), which the contracts cite. "Writing a header's
 -- fields gives back the bytes read. A port login that is not refused is rejected exactly when its size is wrong, a parameter rule fails or no place is free, with the stated reason."

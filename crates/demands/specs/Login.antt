@@ -1,13 +1,12 @@
 -- A port login that reaches the link services: the bytes of its two answers, and when each of them stands in the lent buffer (document 01, "Header and reply headers" and "Link services"),
 -- and what it does to the logins of other addresses (document 02, request 1).
-use Rattle.std.specs.Prelude.{◌≡◌, true, false, ◌⊎◌, List, [], ◌∷◌, ◌++◌, ℕ, length, take, drop, get_or}
+use Rattle.std.specs.Prelude.{◌≡◌, true, false, ◌⊎◌, List, [], ◌∷◌, ◌++◌, ℕ, length, take, drop, get_or, Ok}
 use Rattle.tables.specs.Firsts.{NoneOf}
 use Rattle.frame.specs.declared.Header.{Header}
 use Rattle.frame.specs.Head.{header_of, header_bytes}
 use Rattle.params.specs.Words.{params_of}
 use Rattle.state.specs.Changes.{empty_login, has_name, with_login}
 use Rattle.state.specs.Tables.{login_of}
-use Rattle.refusal.specs.declared.Said.TheVariants.{Sent}
 use Rattle.refusal.specs.Refusal.{frame_order}
 use Rattle.link.specs.Link.{new_login}
 use Rattle.link.specs.Login.{named_in, host_gone, left_by, Accepts, Rejects}
@@ -57,7 +56,7 @@ pub record PortLogin (d : Drive) (f : List ℕ) (start : ℕ) (W l : List ℕ) :
   pub accepts : (a : Accepts d.port (header_of f) f)
       → Begins (acc_bytes d f) (frame_in_buffer d f start W l)
       × (drop 140 (frame_in_buffer d f start W l) ≡ drop 140 l)
-      × (frame_in d f start W (length l) ≡ record { said = Sent 140; drive = record { unit = d.unit; port = with_login (host_gone d.port (header_of f) f) a.place (new_login (header_of f).s_id (params_of f 28)) } })
+      × (frame_in d f start W (length l) ≡ record { said = Ok 140; drive = record { unit = d.unit; port = with_login (host_gone d.port (header_of f) f) a.place (new_login (header_of f).s_id (params_of f 28)) } })
   -- "(demand 2's exactly-when)": ACC stands in the buffer only so
   pub accepts_only : Begins (acc_bytes d f) (frame_in_buffer d f start W l) → Accepts d.port (header_of f) f
   -- "Of right size, it ends the sender's login and exchanges first, accepted or not": where a word test fails, and no other's; of wrong size, and where no place is free, nothing changes (`left_by`);
@@ -65,7 +64,7 @@ pub record PortLogin (d : Drive) (f : List ℕ) (start : ℕ) (W l : List ℕ) :
   pub rejects : (r x : ℕ) → Rejects d.port (header_of f) f r x
       → Begins (rjt_bytes d f r x) (frame_in_buffer d f start W l)
       × (drop 32 (frame_in_buffer d f start W l) ≡ drop 32 l)
-      × (frame_in d f start W (length l) ≡ record { said = Sent 32; drive = record { unit = d.unit; port = left_by d.port (header_of f) f } })
+      × (frame_in d f start W (length l) ≡ record { said = Ok 32; drive = record { unit = d.unit; port = left_by d.port (header_of f) f } })
   -- and LS_RJT with this reason and explanation only so
   pub rejects_only : (r x : ℕ) → Begins (rjt_bytes d f r x) (frame_in_buffer d f start W l) → Rejects d.port (header_of f) f r x
   -- "accepted or not": always one of the two

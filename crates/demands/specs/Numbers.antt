@@ -1,11 +1,10 @@
 -- Document 01's known numbers that are marked P, at the entries, as one table; and the frames and drives that it takes (document 01, "Known numbers and slips").
-use Rattle.std.specs.Prelude.{ℕ, ◌*◌, ◌≡◌, List, [], ◌∷◌, ◌++◌, length, take, drop, get_or, replicate}
+use Rattle.std.specs.Prelude.{ℕ, ◌*◌, ◌≡◌, List, [], ◌∷◌, ◌++◌, length, take, drop, get_or, replicate, Ok, Err, Result}
+use Rattle.refusal.specs.declared.Refusal.{Refusal}
 use Rattle.wire.specs.Bytes.{bytes}
 use Rattle.frame.specs.Head.{header_bytes}
 use Rattle.refusal.specs.declared.Refusal.TheVariants.{BadSize, BadWindow}
 use Rattle.drive.specs.declared.Drive.{Drive}
-use Rattle.refusal.specs.declared.Said.{Said}
-use Rattle.refusal.specs.declared.Said.TheVariants.{Sent, Refused}
 use Rattle.drive.specs.Drive.{made_from}
 use Rattle.drive.specs.Entry.{frame_in, frame_in_buffer, next_frame, next_frame_buffer}
 use Rattle.demands.specs.Reading.{Reads, Comes}
@@ -63,7 +62,7 @@ after d [] = d
 after d (f ∷ fs) = after (frame_in d f 0 [] 2136).drive fs
 
 -- what is said of a frame
-abbrev pub said : Drive → List ℕ → Said
+abbrev pub said : Drive → List ℕ → Result ℕ Refusal
 said d f = (frame_in d f 0 [] 2136).said
 
 -- so many of the buffer's bytes from a place on, after a frame; before it each is 5Ah
@@ -79,7 +78,7 @@ abbrev pub lent : ℕ → List ℕ
 lent len = replicate len 0xa5
 
 -- what is said of the next frame out of exchange 0004h to address 01h, with these bytes lent from a block on
-abbrev pub next_said : Drive → ℕ → List ℕ → Said
+abbrev pub next_said : Drive → ℕ → List ℕ → Result ℕ Refusal
 next_said d start window = (next_frame d 0x01 0x0004 start window 2136).said
 
 -- so many of the buffer's bytes from a place on, after that call
@@ -109,10 +108,10 @@ far address = after (paired 8388609 2048) (read 0x01 0x0004 address 1 512 ∷ []
 -- "the cases marked P together, as a table"
 pub record KnownNumbers : Type 0 where
   -- "frame 20, 24, 2,136, 2,140 bytes: 3, read, read, 3"
-  pub frame_20 : said (made 100) (take 20 (frame 0x23 0x01 0x01 1 [])) ≡ Refused BadSize
-  pub frame_24 : said (made 100) (frame 0x23 0x01 0x01 1 []) ≡ Sent 0
-  pub frame_2136 : said (made 100) (frame 0x23 0x01 0x01 1 (replicate 2112 0)) ≡ Sent 0
-  pub frame_2140 : said (made 100) (frame 0x23 0x01 0x01 1 (replicate 2116 0)) ≡ Refused BadSize
+  pub frame_20 : said (made 100) (take 20 (frame 0x23 0x01 0x01 1 [])) ≡ Err BadSize
+  pub frame_24 : said (made 100) (frame 0x23 0x01 0x01 1 []) ≡ Ok 0
+  pub frame_2136 : said (made 100) (frame 0x23 0x01 0x01 1 (replicate 2112 0)) ≡ Ok 0
+  pub frame_2140 : said (made 100) (frame 0x23 0x01 0x01 1 (replicate 2116 0)) ≡ Err BadSize
   -- "W18 size 252, 256, 258, 2,112, 2,116: reject, accept, reject, accept, reject"
   pub size_252 : sent (made 100) (plogi 0x01 252) 24 8 ≡ 0x01 ∷ 0x00 ∷ 0x00 ∷ 0x00 ∷ 0x00 ∷ 0x03 ∷ 0x07 ∷ 0x00 ∷ []
   pub size_256 : sent (made 100) (plogi 0x01 256) 24 4 ≡ 0x02 ∷ 0x00 ∷ 0x00 ∷ 0x00 ∷ []
@@ -122,8 +121,8 @@ pub record KnownNumbers : Type 0 where
   -- "ninth login 09,29"
   pub ninth : sent eight (plogi 0x1b 256) 24 8 ≡ 0x01 ∷ 0x00 ∷ 0x00 ∷ 0x00 ∷ 0x00 ∷ 0x09 ∷ 0x29 ∷ 0x00 ∷ []
   -- "capacity 100, address 99 count 1 read; 99 count 2, 100 count 0 refused": the one opens silently and is served, the others get 05/21/00
-  pub read_99_1 : said (paired 100 2048) (read 0x01 0x0004 99 1 512) ≡ Sent 0
-  pub served_99_1 : next_said (after (paired 100 2048) (read 0x01 0x0004 99 1 512 ∷ [])) 99 (lent 512) ≡ Sent 536
+  pub read_99_1 : said (paired 100 2048) (read 0x01 0x0004 99 1 512) ≡ Ok 0
+  pub served_99_1 : next_said (after (paired 100 2048) (read 0x01 0x0004 99 1 512 ∷ [])) 99 (lent 512) ≡ Ok 536
   pub read_99_2 : sent (paired 100 2048) (read 0x01 0x0004 99 2 1024) 48 14 ≡ 0x70 ∷ 0x00 ∷ 0x05 ∷ 0x00 ∷ 0x00 ∷ 0x00 ∷ 0x00 ∷ 0x0a ∷ 0x00 ∷ 0x00 ∷ 0x00 ∷ 0x00 ∷ 0x21 ∷ 0x00 ∷ []
   pub read_100_0 : sent (paired 100 2048) (read 0x01 0x0004 100 0 0) 48 14 ≡ 0x70 ∷ 0x00 ∷ 0x05 ∷ 0x00 ∷ 0x00 ∷ 0x00 ∷ 0x00 ∷ 0x0a ∷ 0x00 ∷ 0x00 ∷ 0x00 ∷ 0x00 ∷ 0x21 ∷ 0x00 ∷ []
   -- "wanted 1,024 with FCP_DL 1,000, 2,048: flag 04h by 24, 08h by 1,024": flags, status and FCP_RESID of the FCP_RSP after the data
@@ -132,9 +131,9 @@ pub record KnownNumbers : Type 0 where
   -- "block 8,388,608 is byte 4,294,967,296": of a window of the block before it (A5h) and of itself (C3h) its own bytes are delivered, at OFFSET 0;
   -- a window of block 0 does not cover it, and a READ of block 0 is delivered the bytes of block 0
   pub byte : ◌≡◌ {A = ℕ} (512 * 8388608) 4294967296
-  pub block : next_said (far 8388608) 8388608 (lent 512) ≡ Sent 536
+  pub block : next_said (far 8388608) 8388608 (lent 512) ≡ Ok 536
   pub bytes_there : next_sent (far 8388608) 8388607 (lent 512 ++ replicate 512 0xc3) 20 516 ≡ bytes 4 0 ++ replicate 512 0xc3
-  pub not_zero : next_said (far 8388608) 0 (lent 512) ≡ Refused BadWindow
+  pub not_zero : next_said (far 8388608) 0 (lent 512) ≡ Err BadWindow
   pub bytes_zero : next_sent (far 0) 0 (lent 512 ++ replicate 512 0xc3) 20 516 ≡ bytes 4 0 ++ replicate 512 0xa5
   -- "size 256, frame 65,537 has SEQ_CNT 0": over all next frames of a READ, from its FCP_CMND on, frame 65,536 has FFFFh and OFFSET 65,535 × 256, and the one after it 0 and 65,536 × 256;
   -- whatever windows are lent, and whatever comes between that leaves it open; and such frames there are

@@ -1,6 +1,5 @@
 -- A whole exchange and what it delivers, a READ or made data, read from the bytes that stand in the lent buffers, as one reads them who knows document 01 and not the code.
-use Rattle.std.specs.Prelude.{◌≡◌, Bool, true, false, cond, ◌&&◌, ◌||◌, List, [], ◌∷◌, ◌++◌, map, ℕ, zero, suc, ◌+◌, ◌-◌, ◌*◌, ◌%◌, ◌<◌, min, eqb, leb, length, take, drop, get_or, replicate}
-use Rattle.tables.specs.declared.Found.TheVariants.{At}
+use Rattle.std.specs.Prelude.{◌≡◌, Bool, true, false, cond, ◌&&◌, ◌||◌, List, [], ◌∷◌, ◌++◌, map, ℕ, zero, suc, ◌+◌, ◌-◌, ◌*◌, ◌%◌, ◌<◌, min, eqb, leb, length, take, drop, get_or, replicate, Some, Ok}
 use Rattle.tables.specs.Firsts.{NoneOf}
 use Rattle.wire.specs.Bytes.{num, bytes, fill_count}
 use Rattle.frame.specs.declared.Header.{Header}
@@ -20,12 +19,11 @@ use Rattle.command.specs.Command.{told_of}
 use Rattle.cover.specs.Cover.{cut}
 use Rattle.serve.specs.Whole.{Piece, joined, InOrder}
 use Rattle.drive.specs.declared.Drive.{Drive}
-use Rattle.refusal.specs.declared.Said.TheVariants.{Sent}
 use Rattle.refusal.specs.Refusal.{frame_order}
 use Rattle.drive.specs.Entry.{applies, frame_in, next_frame, next_frame_buffer}
 use Rattle.demands.specs.Between.{Call, after, LeavesOpen}
 
--- "the reply stands at the front of the buffer, its length .. in the answer": the frame in the buffer l after a call that said `Sent n`
+-- "the reply stands at the front of the buffer, its length .. in the answer": the frame in the buffer l after a call that said `Ok n`
 abbrev pub frame_at : List ℕ → ℕ → List ℕ
 frame_at l n = take n l
 
@@ -72,7 +70,7 @@ pub record Sends (unit : List ℕ) (a x : ℕ) (d : Drive) (f : List ℕ) (e : D
   pub len : ℕ
   pub buffer : List ℕ
   pub n : ℕ
-  pub said : (next_frame d a x start (cut unit start len) (length buffer)).said ≡ Sent n
+  pub said : (next_frame d a x start (cut unit start len) (length buffer)).said ≡ Ok n
   pub frame : f ≡ frame_at (next_frame_buffer d a x start (cut unit start len) buffer) n
   pub drive : e ≡ (next_frame d a x start (cut unit start len) (length buffer)).drive
 
@@ -116,7 +114,7 @@ pub record CommandIn (operation : ℕ) (d : Drive) (f : List ℕ) (start : ℕ) 
   pub passed : NoneOf (applies d f start (length W) (length l)) frame_order
   pub command : (header_of f).r_ctl ≡ 0x06
   pub code : get_or f 36 0 ≡ operation
-  pub silent : (frame_in d f start W (length l)).said ≡ Sent 0
+  pub silent : (frame_in d f start W (length l)).said ≡ Ok 0
 
 -- the exchange of a READ(10), from the bytes of its frame: "LUN 8, .. CDB 16, FCP_DL 4" begin at bytes 24, 36 and 52
 abbrev pub read_of : List ℕ → Exchange
@@ -179,7 +177,7 @@ pub data Opens : ℕ → (List ℕ → Login → Exchange) → Type 0 where
 pub record Opened (d : Drive) (f : List ℕ) (wish : Login → Exchange) (e : Drive) : Type 0 where
   pub i : ℕ
   pub j : ℕ
-  pub seat : find_login d.port (header_of f).s_id ≡ At i
+  pub seat : find_login d.port (header_of f).s_id ≡ Some i
   pub free : is_closed (exchange_of d.port i j) ≡ true
   pub fresh : Fresh e (header_of f).s_id (header_of f).ox_id i j
   pub is : exchange_of e.port i j ≡ wish (login_at d.port i)

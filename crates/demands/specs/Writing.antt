@@ -1,5 +1,5 @@
 -- A whole WRITE and what it stores, read from the bytes of its frames and of the unit, as one reads them who knows the documents and not the code (document 02, request 2).
-use Rattle.std.specs.Prelude.{◌≡◌, Bool, true, false, List, [], ◌∷◌, ◌++◌, map, ℕ, ◌+◌, ◌-◌, ◌*◌, ◌≤◌, ◌<◌, min, length, take, drop, replicate}
+use Rattle.std.specs.Prelude.{◌≡◌, Bool, true, false, List, [], ◌∷◌, ◌++◌, map, ℕ, ◌+◌, ◌-◌, ◌*◌, ◌≤◌, ◌<◌, min, length, take, drop, replicate, Ok}
 use Rattle.wire.specs.Bytes.{num, over}
 use Rattle.wire.specs.Layout.{AllBytes}
 use Rattle.frame.specs.Head.{header_of}
@@ -12,7 +12,6 @@ use Rattle.residual.specs.Residual.{residual_of}
 use Rattle.reply.specs.Payload.{residual_flag, residual_size}
 use Rattle.serve.specs.Next.{exchange_of}
 use Rattle.cover.specs.Cover.{cut}
-use Rattle.refusal.specs.declared.Said.TheVariants.{Sent}
 use Rattle.drive.specs.declared.Drive.{Drive}
 use Rattle.drive.specs.declared.Event.{Event}
 use Rattle.drive.specs.Entry.{frame_in, frame_in_window, next_frame, next_frame_buffer}
@@ -81,7 +80,7 @@ pub record Gives (a x : ℕ) (w : World) (g : List ℕ) (e : World) : Type 0 whe
   pub len : ℕ
   pub buffer : List ℕ
   pub n : ℕ
-  pub said : (next_frame w.drive a x start (cut w.unit start len) (length buffer)).said ≡ Sent n
+  pub said : (next_frame w.drive a x start (cut w.unit start len) (length buffer)).said ≡ Ok n
   pub frame_is : g ≡ frame_at (next_frame_buffer w.drive a x start (cut w.unit start len) buffer) n
   pub world : e ≡ acted w (next a x start len (length buffer))
 
@@ -93,7 +92,7 @@ pub record Takes (a x : ℕ) (w : World) (f : List ℕ) (e : World) : Type 0 whe
   pub known : AllBytes f
   pub own : Own a 0x01 f
   pub exchange : (header_of f).ox_id ≡ x
-  pub said : (frame_in w.drive f start (cut w.unit start len) room).said ≡ Sent 0
+  pub said : (frame_in w.drive f start (cut w.unit start len) room).said ≡ Ok 0
   pub world : e ≡ acted w (frame f start len room known)
 
 -- so many bytes of the unit from one on are as they were

@@ -1,4 +1,5 @@
 -- A made drive is well formed, every event keeps a drive well formed, and a refusal leaves it as it was. Assumes nothing.
+use Rattle.std.specs.Prelude.{Ok, Err, Result}
 use mathlib.Core.Path.{◌≡◌, refl, sym, ap, ◌∙◌}
 use mathlib.Core.Bool.{Bool, true, false}
 use Prim.Native.Nat.{ℕ}
@@ -12,7 +13,6 @@ use Rattle.drive.specs.declared.Drive.{Drive}
 use Rattle.drive.specs.declared.Event.{Event}
 use Rattle.refusal.specs.declared.Refusal.{Refusal}
 use Rattle.refusal.specs.declared.Refusal.TheVariants.{IllFormed, BadSetup}
-use Rattle.refusal.specs.declared.Said.TheVariants.{Sent, Refused}
 use Rattle.drive.specs.declared.Answer.{Answer}
 use Rattle.drive.specs.Drive.{made_from, no_drive, nothing_sent, refused, new_answer, change_of, after_event, event_answer}
 
@@ -53,9 +53,9 @@ unfolding event_answer
 event_answered d e w = rw w
 
 -- so a refused event hands back the drive that it was given
-pub event_unchanged : (d : Drive) (e : Event) (r : Refusal) → (event_answer d e).said ≡ Refused r → (event_answer d e).drive ≡ d
+pub event_unchanged : (d : Drive) (e : Event) (r : Refusal) → (event_answer d e).said ≡ Err r → (event_answer d e).drive ≡ d
 event_unchanged d e r = by (fine d) refl
   where
-    by : (b : Bool) → fine d ≡ b → (event_answer d e).said ≡ Refused r → (event_answer d e).drive ≡ d
-    by true w s = let h : Sent 0 ≡ Refused r = sym (ap (λ (a : Answer). a.said) (event_answered d e w)) ∙ s in let z : ◌≡◌ {A = ℕ} 0 1 = cc in absurd (omega arith)
+    by : (b : Bool) → fine d ≡ b → (event_answer d e).said ≡ Err r → (event_answer d e).drive ≡ d
+    by true w s = let h : ◌≡◌ {A = Result ℕ Refusal} (Ok 0) (Err r) = sym (ap (λ (a : Answer). a.said) (event_answered d e w)) ∙ s in let z : ◌≡◌ {A = ℕ} 0 1 = cc in absurd (omega arith)
     by false w s = ap (λ (a : Answer). a.drive) (event_refused d e w)

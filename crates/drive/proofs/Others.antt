@@ -1,4 +1,5 @@
 -- After any call that is none of its own, the login of an address is what the turn's change of every login makes of it, and its record is as it was, but where its host moved; its own next frame leaves its record too. Assumes nothing.
+use Rattle.std.specs.Prelude.{Err, Ok, Result}
 use Prim.Native.Nat.{ℕ}
 use mathlib.Core.Path.{◌≡◌, refl, sym, ap, ◌∙◌, subst}
 use mathlib.Core.Bool.{Bool, true, false, cond, not}
@@ -36,8 +37,6 @@ use Rattle.arrival.specs.declared.Form.{Form}
 use Rattle.arrival.specs.declared.Form.TheVariants.{Link, Done, Abort, Command, Data}
 use Rattle.taking.specs.Taking.{is_data, taking_turn}
 use Rattle.taking.proofs.Others.{taking_keeps, taking_another}
-use Rattle.arrival.specs.declared.Judged.{Judged}
-use Rattle.arrival.specs.declared.Judged.TheVariants as judged
 use Rattle.arrival.specs.Arrival.{short_buffer, form_of}
 use Rattle.arrival.proofs.Passes.{link_form}
 use Rattle.drive.specs.declared.Drive.{Drive}
@@ -91,12 +90,12 @@ module _ (d : Drive) (w : well_formed d.unit d.port ≡ true) where
     unfolding turn_in
     turn_in_lem = by (short_buffer room) refl
       where
-        arrives : Judged → Turn
+        arrives : Result Form Refusal → Turn
         arrives j = on_judged j refused_turn (λ _. arrived_turn v (header_of f) f start len room)
 
-        on : (j : Judged) → short_buffer room ≡ false → arrived_in v (header_of f) f ≡ j → answer_to d (arrives j) ≡ frame_in d f start W room
-        on (judged.Refused x) s e = stays_is d x ∙ sym (frame_came d f start W room s ∙ rw e)
-        on (judged.Passed k) s e = arrived_turn_lem d f start W k e room s
+        on : (j : Result Form Refusal) → short_buffer room ≡ false → arrived_in v (header_of f) f ≡ j → answer_to d (arrives j) ≡ frame_in d f start W room
+        on (Err x) s e = stays_is d x ∙ sym (frame_came d f start W room s ∙ rw e)
+        on (Ok k) s e = arrived_turn_lem d f start W k e room s
 
         by : (s : Bool) → short_buffer room ≡ s → answer_to d (cond s (refused_turn ShortBuffer) (arrives (arrived_in v (header_of f) f))) ≡ frame_in d f start W room
         by true s = stays_is d ShortBuffer ∙ sym (frame_short d f start W room s)
@@ -107,9 +106,9 @@ module _ (d : Drive) (w : well_formed d.unit d.port ≡ true) where
     unfolding turn_in arrived_turn
     turn_cases P refuses takes passes = on_cond P (short_buffer room) (refuses ShortBuffer) (by (arrived_in v (header_of f) f))
       where
-        by : (j : Judged) → P (on_judged j refused_turn (λ _. cond (is_data (header_of f)) (taking_turn v (header_of f) (length f) start len room) (passed_turn v (header_of f) f room)))
-        by (judged.Refused x) = refuses x
-        by (judged.Passed k) = by_cond P (is_data (header_of f)) takes (λ _. passes)
+        by : (j : Result Form Refusal) → P (on_judged j refused_turn (λ _. cond (is_data (header_of f)) (taking_turn v (header_of f) (length f) start len room) (passed_turn v (header_of f) f room)))
+        by (Err x) = refuses x
+        by (Ok k) = by_cond P (is_data (header_of f)) takes (λ _. passes)
 
     in_aside : (a : ℕ) → (is_data (header_of f) ≡ true → Aside a (taking_turn v (header_of f) (length f) start len room)) → Elsewhere p a (decision_of v (header_of f) f) → Aside a (turn_in d f start len room)
     unfolding passed_turn

@@ -1,4 +1,5 @@
 -- Each entry is the answer to its turn, and a next frame changes no login but the one it stores. Assumes nothing.
+use Rattle.std.specs.Prelude.{Option, Some, None, Ok, Err, Result}
 use Prim.Native.Nat.{ℕ}
 use mathlib.Core.Path.{◌≡◌, refl, sym, ap, ◌∙◌, subst}
 use mathlib.Core.Bool.{Bool, true, false, cond, not, ◌&&◌, ◌||◌, or-false}
@@ -7,8 +8,6 @@ use native.Mathlib.Omega.{arith}
 use lib.Dec.{T, eqb, eqb→eq}
 use borrow.Author.Tests.{eq-eqb}
 use lib.ListN.{length}
-use Rattle.tables.specs.declared.Found.{Found}
-use Rattle.tables.specs.declared.Found.TheVariants.{At, Nothing}
 use Rattle.tables.specs.Lists.{on_found, all}
 use Rattle.tables.specs.Firsts.{first_of}
 use Rattle.tables.proofs.Firsts.{first_over}
@@ -17,7 +16,6 @@ use Rattle.frame.specs.declared.Header.{Header}
 use Rattle.frame.specs.Head.{header_of}
 use Rattle.refusal.specs.declared.Refusal.{Refusal}
 use Rattle.refusal.specs.declared.Refusal.TheVariants.{IllFormed, BadSize, NotOurs, BadSource, UnknownForm, Unproven, NoWrite, BadWindow}
-use Rattle.refusal.specs.declared.Said.TheVariants.{Sent}
 use Rattle.refusal.specs.Refusal.{number_of, frame_order}
 use Rattle.refusal.proofs.Numbers.{numbers}
 use Rattle.state.specs.declared.Login.{Login}
@@ -48,8 +46,6 @@ use Rattle.taking.specs.declared.Step.TheVariants as step
 use Rattle.taking.specs.Taking.{is_data, step_in, no_write, uncovered, applies_data, on_step, served_data, window_after, data_decided, taking_turn, taking_buffer, taking_window}
 use Rattle.taking.proofs.Turns.{served_decided, taking_turn_lem, taking_buffer_lem, taking_window_lem}
 use Rattle.arrival.specs.declared.Form.TheVariants.{Link, Done, Abort, Command, Data}
-use Rattle.arrival.specs.declared.Judged.{Judged}
-use Rattle.arrival.specs.declared.Judged.TheVariants as judged
 use Rattle.arrival.specs.Arrival.{short_buffer, unproven_login, form_of, applies_to, judged_by}
 use Rattle.arrival.proofs.Passes.{data_form, is_data_form}
 use Rattle.drive.specs.declared.Drive.{Drive}
@@ -59,7 +55,7 @@ use Rattle.drive.specs.Entry.{applies, decided_of, decided_in, reply_bytes, answ
 use Rattle.drive.specs.Turn.{unproven_at, unproven_in, arrived_in, on_judged, refusal_of, decision_as, decision_of, passed_turn, passed_buffer, arrived_turn, arrived_buffer, arrived_window, next_out_turn, next_out_buffer, answer_to}
 
 -- a judgement is a refusal or a pass, not both
-not_both : (x : Refusal) (k : Form) → judged.Refused x ≡ judged.Passed k → ⊥
+not_both : (x : Refusal) (k : Form) → Err x ≡ Ok k → ⊥
 not_both x k e = let z : ◌≡◌ {A = ℕ} 0 1 = cc in omega arith
 
 module _ (d : Drive) where
@@ -81,9 +77,9 @@ module _ (d : Drive) where
     unfolding unproven_at unproven_login
     unproven_is a = rw (view_seat u p a fine) (by (find_login p a) refl)
       where
-        by : (s : Found) → find_login p a ≡ s → on_found s (λ _. not (eqb (view_of u p a).login.proven 1)) false ≡ on_found s (λ i. not (eqb (login_at p i).proven 1)) false
-        by (At i) e = ap (λ (l : Login). not (eqb l.proven 1)) (view_login u p a fine i e)
-        by Nothing e = refl
+        by : (s : Option ℕ) → find_login p a ≡ s → on_found s (λ _. not (eqb (view_of u p a).login.proven 1)) false ≡ on_found s (λ i. not (eqb (login_at p i).proven 1)) false
+        by (Some i) e = ap (λ (l : Login). not (eqb l.proven 1)) (view_login u p a fine i e)
+        by None e = refl
 
   -- a frame in, with a window W that starts at a block
   module _ (f : List ℕ) (start : ℕ) (W : List ℕ) where
@@ -130,15 +126,15 @@ module _ (d : Drive) where
         by true (step.Take i k) = refl
 
     -- and come after the numbers by what arrived
-    abbrev came : {B : Type 0} → (Refusal → B) → B → Judged → B
+    abbrev came : {B : Type 0} → (Refusal → B) → B → Result Form Refusal → B
     came g b j = on_judged j g (λ _. cond (is_data h) (on_step coming g b) b)
 
     came_first : {B : Type 0} (g : Refusal → B) (b : B) → tested g b v.fine (unproven_in v) v.own.address v.login ≡ came g b (arrived_in v h f)
     unfolding arrived_in judged_by
     came_first g b =
         rw (or-false (is_data h && no_write coming), or-false (is_data h && uncovered coming))
-        (sym (first_over (λ (j : Judged). on_judged j g (λ _. first_of (applies_data h coming) (NoWrite ∷ BadWindow ∷ []) g b))
-        (applies_to false v.fine (unproven_in v) v.own.address h f) (IllFormed ∷ BadSize ∷ NotOurs ∷ BadSource ∷ UnknownForm ∷ Unproven ∷ []) judged.Refused (judged.Passed (form_of h.r_ctl))))
+        (sym (first_over (λ (j : Result Form Refusal). on_judged j g (λ _. first_of (applies_data h coming) (NoWrite ∷ BadWindow ∷ []) g b))
+        (applies_to false v.fine (unproven_in v) v.own.address h f) (IllFormed ∷ BadSize ∷ NotOurs ∷ BadSource ∷ UnknownForm ∷ Unproven ∷ []) Err (Ok (form_of h.r_ctl))))
         ∙ ap (λ (z : _). on_judged (arrived_in v h f) g (λ _. z)) (data_first g b)
 
     -- so, where there is room, the first number that applies is told by what arrived, and then by what a data frame comes to
@@ -170,7 +166,7 @@ module _ (d : Drive) where
     window_came room e = first_came (λ _. W) left room e
 
     -- one that arrived well is of a drive that is well formed
-    arrived_fine : (k : Form) → arrived_in v h f ≡ judged.Passed k → well_formed u p ≡ true
+    arrived_fine : (k : Form) → arrived_in v h f ≡ Ok k → well_formed u p ≡ true
     unfolding arrived_in judged_by
     arrived_fine k e = by (well_formed u p) refl
       where
@@ -182,7 +178,7 @@ module _ (d : Drive) where
     module _ (w : well_formed u p ≡ true) (t : Decision) (r : Decided) (is : decided_by p t ≡ r) where
       sent_answer : (room : ℕ) → short_buffer room ≡ false → answer_to d (sent_turn (sent_of v.own h t.reply [] room) t) ≡ answered d h r
       unfolding sent_of reply_bytes
-      sent_answer room e = rw e (λ i. record { said = Sent (length (bytes_of (view_own u p h.s_id i) h (is i).reply [])); drive = record { unit = u; port = (is i).port } })
+      sent_answer room e = rw e (λ i. record { said = Ok (length (bytes_of (view_own u p h.s_id i) h (is i).reply [])); drive = record { unit = u; port = (is i).port } })
 
       sent_buffer : (l : List ℕ) → short_buffer (length l) ≡ false → written_of v.own h t.reply [] l ≡ onto (reply_bytes d h r) l
       unfolding written_of reply_bytes
@@ -222,7 +218,7 @@ module _ (d : Drive) where
       data_decided_lem : decided_in d f start len ≡ data_decided p h (length f) start len
       data_decided_lem = ap (λ (k : Form). decided_of u p h k f start len) form_is
 
-      served_is : (i : ℕ) → find_login p h.s_id ≡ At i → decided_by p (served_in i (served_data v.login h (length f) start len)) ≡ decided_in d f start len
+      served_is : (i : ℕ) → find_login p h.s_id ≡ Some i → decided_by p (served_in i (served_data v.login h (length f) start len)) ≡ decided_in d f start len
       served_is i at = served_decided u p (fine w) h start (length f) len i at ∙ sym data_decided_lem
 
       data_answer : (room : ℕ) → short_buffer room ≡ false → answer_to d (taking_turn v h (length f) start len room) ≡ on_step coming (λ x. refused x d) result
@@ -253,7 +249,7 @@ module _ (d : Drive) where
           by (step.Take i k) e = left_is
 
     -- arrived well: a frame in is the answer to its turn, and buffer and window are what that leaves
-    module _ (k : Form) (e : arrived_in v h f ≡ judged.Passed k) where
+    module _ (k : Form) (e : arrived_in v h f ≡ Ok k) where
       pub arrived_turn_lem : (room : ℕ) → short_buffer room ≡ false → answer_to d (arrived_turn v h f start len room) ≡ frame_in d f start W room
       unfolding arrived_turn passed_turn
       arrived_turn_lem room s =
@@ -283,17 +279,17 @@ module _ (d : Drive) where
     number = refusal_of v.fine (unproven_in v) v.own.address h f
 
     -- it is 0 where it arrived well, else that of the refusal
-    number_cases : (P : ℕ → Type 0) → ((k : Form) → arrived_in v h f ≡ judged.Passed k → P 0) → ((x : Refusal) → arrived_in v h f ≡ judged.Refused x → P (number_of x)) → P number
+    number_cases : (P : ℕ → Type 0) → ((k : Form) → arrived_in v h f ≡ Ok k → P 0) → ((x : Refusal) → arrived_in v h f ≡ Err x → P (number_of x)) → P number
     unfolding refusal_of arrived_in
     number_cases P passes refuses = by (arrived_in v h f) refl
       where
-        by : (j : Judged) → arrived_in v h f ≡ j → P (on_judged j number_of (λ _. 0))
-        by (judged.Refused x) e = refuses x e
-        by (judged.Passed k) e = passes k e
+        by : (j : Result Form Refusal) → arrived_in v h f ≡ j → P (on_judged j number_of (λ _. 0))
+        by (Err x) e = refuses x e
+        by (Ok k) e = passes k e
 
     -- number 0: what follows where it arrived well
     module _ (zero : number ≡ 0) where
-      as_arrived : {P : Type 0} → ((k : Form) → arrived_in v h f ≡ judged.Passed k → P) → P
+      as_arrived : {P : Type 0} → ((k : Form) → arrived_in v h f ≡ Ok k → P) → P
       as_arrived {P} passes = number_cases (λ n. n ≡ 0 → P) (λ k e _. passes k e) (λ x _ z. let some = (numbers x).0 in absurd (omega (arith, some, z))) zero
 
       pub arrived_formed : well_formed u p ≡ true

@@ -1,4 +1,5 @@
 -- The ways through the entries and through what they come to, over plain values. Assumes nothing.
+use Rattle.std.specs.Prelude.{Err, Ok, Result}
 use Prim.Native.Nat.{ℕ, ◌≤◌, ◌<◌}
 use mathlib.Core.Path.{◌≡◌, refl, sym, ap, ◌∙◌}
 use mathlib.Core.Bool.{Bool, true, false, cond, ◌&&◌}
@@ -22,8 +23,6 @@ use Rattle.calls.specs.Turn.{refused_turn, sent_turn}
 use Rattle.serve.specs.Turn.{next_turn, next_turn_buffer}
 use Rattle.taking.specs.Taking.{is_data, no_write, uncovered, taking_turn, taking_buffer, taking_window}
 use Rattle.arrival.specs.declared.Form.{Form}
-use Rattle.arrival.specs.declared.Judged.{Judged}
-use Rattle.arrival.specs.declared.Judged.TheVariants as judged
 use Rattle.arrival.specs.Arrival.{short_buffer, judged_by}
 use Rattle.arrival.proofs.Passes.{Passes, passed, passes}
 use Rattle.drive.specs.declared.Drive.{Drive}
@@ -99,23 +98,23 @@ module _ (d : Drive) (f : List ℕ) (start : ℕ) (W l : List ℕ) where
       let b = lt-ltb (length l) 2136 s in
       (e ∙ sym (frame_short d f start W (length l) b), (sym (frame_short_buffer d f start W l b), sym (frame_short_window d f start W (length l) b)))
 
-  module _ (room : 2136 ≤ length l) (h : Header) (eh : h ≡ header_of f) (v : View) (ev : v ≡ view_of d.unit d.port h.s_id) (j : Judged) (ej : j ≡ arrived_in v h f) where
+  module _ (room : 2136 ≤ length l) (h : Header) (eh : h ≡ header_of f) (v : View) (ev : v ≡ view_of d.unit d.port h.s_id) (j : Result Form Refusal) (ej : j ≡ arrived_in v h f) where
     roomy : short_buffer (length l) ≡ false
     roomy = le-ltb (length l) 2136 room
 
     view_as : v ≡ view_of d.unit d.port (header_of f).s_id
     view_as = ev ∙ ap (λ (g : Header). view_of d.unit d.port g.s_id) eh
 
-    judged_as : {k : Judged} → j ≡ k → arrived_in (view_of d.unit d.port (header_of f).s_id) (header_of f) f ≡ k
+    judged_as : {k : Result Form Refusal} → j ≡ k → arrived_in (view_of d.unit d.port (header_of f).s_id) (header_of f) f ≡ k
     judged_as e = sym (rw (view_as, eh) at ej) ∙ e
 
-    pub says_refused : (x : Refusal) (r : Answer) → j ≡ judged.Refused x → r ≡ refused x d → Says r l W
+    pub says_refused : (x : Refusal) (r : Answer) → j ≡ Err x → r ≡ refused x d → Says r l W
     says_refused x r e er = (
       er ∙ sym (frame_came d f start W (length l) roomy ∙ rw (judged_as e)),
       (sym (buffer_came d f start W l roomy ∙ rw (judged_as e)), sym (window_came d f start W (length l) roomy ∙ rw (judged_as e))),
     )
 
-    pub says_arrived : (k : Form) (t : Turn) (l₁ W₁ : List ℕ) (r : Answer) → j ≡ judged.Passed k → t ≡ arrived_turn v h f start (length W) (length l) → l₁ ≡ arrived_buffer v h f start (length W) l
+    pub says_arrived : (k : Form) (t : Turn) (l₁ W₁ : List ℕ) (r : Answer) → j ≡ Ok k → t ≡ arrived_turn v h f start (length W) (length l) → l₁ ≡ arrived_buffer v h f start (length W) l
         → W₁ ≡ arrived_window v h f start W → r ≡ answer_to d t → Says r l₁ W₁
     says_arrived k t l₁ W₁ r e et el ew er = (
       er ∙ ap (answer_to d) (rw (view_as, eh) at et) ∙ arrived_turn_lem d f start W k (judged_as e) (length l) roomy,
@@ -124,11 +123,11 @@ module _ (d : Drive) (f : List ℕ) (start : ℕ) (W l : List ℕ) where
 
 -- what `refusal_number` answers
 module _ (fine unproven : Bool) (own : ℕ) (h : Header) (f : List ℕ) where
-  pub number_refused : (j : Judged) (x : Refusal) (n : ℕ) → j ≡ judged_by fine unproven own h f → j ≡ judged.Refused x → n ≡ number_of x → n ≡ refusal_of fine unproven own h f
+  pub number_refused : (j : Result Form Refusal) (x : Refusal) (n : ℕ) → j ≡ judged_by fine unproven own h f → j ≡ Err x → n ≡ number_of x → n ≡ refusal_of fine unproven own h f
   unfolding refusal_of
   number_refused j x n ej e en = rw (sym ej ∙ e) en
 
-  pub number_passed : (j : Judged) (k : Form) → j ≡ judged_by fine unproven own h f → j ≡ judged.Passed k → 0 ≡ refusal_of fine unproven own h f
+  pub number_passed : (j : Result Form Refusal) (k : Form) → j ≡ judged_by fine unproven own h f → j ≡ Ok k → 0 ≡ refusal_of fine unproven own h f
   unfolding refusal_of
   number_passed j k ej e = rw (sym ej ∙ e)
 

@@ -1,8 +1,7 @@
 -- Making a drive, and events (document 01, "Numbers returned for refused calls", "Events").
-use Rattle.std.specs.Prelude.{cond, replicate}
+use Rattle.std.specs.Prelude.{cond, replicate, Ok, Err}
 use Rattle.refusal.specs.declared.Refusal.{Refusal}
 use Rattle.refusal.specs.declared.Refusal.TheVariants.{IllFormed, BadSetup}
-use Rattle.refusal.specs.declared.Said.TheVariants.{Sent, Refused}
 use Rattle.state.specs.declared.Setup.{Setup}
 use Rattle.state.specs.declared.Change.{Change}
 use Rattle.state.specs.declared.Change.TheVariants.{EndAll, Unprove, EndUnproven}
@@ -31,11 +30,11 @@ no_drive = made_from no_setup
 
 -- "returns its number and the state unchanged"
 abbrev pub refused : Refusal → Drive → Answer
-refused r d = record { said = Refused r; drive = d }
+refused r d = record { said = Err r; drive = d }
 
 -- nothing to send, and the next state
 abbrev pub nothing_sent : Drive → Answer
-nothing_sent d = record { said = Sent 0; drive = d }
+nothing_sent d = record { said = Ok 0; drive = d }
 
 -- "Making a drive: 8"
 unfoldable pub new_answer : Setup → Answer

@@ -1,12 +1,11 @@
 -- A frame in and a next frame out: the definitions of record (document 01, "Numbers returned for refused calls"; document 02, request 2).
-use Rattle.std.specs.Prelude.{ℕ, Bool, cond, not, ◌||◌, List, [], length}
+use Rattle.std.specs.Prelude.{ℕ, Bool, cond, not, ◌||◌, List, [], length, Ok}
 use Rattle.tables.specs.Firsts.{first_of}
 use Rattle.wire.specs.Bytes.{onto}
 use Rattle.frame.specs.declared.Header.{Header}
 use Rattle.frame.specs.Head.{header_of}
 use Rattle.refusal.specs.declared.Refusal.{Refusal}
 use Rattle.refusal.specs.declared.Refusal.TheVariants.{ShortBuffer, IllFormed}
-use Rattle.refusal.specs.declared.Said.TheVariants.{Sent}
 use Rattle.refusal.specs.Refusal.{frame_order}
 use Rattle.state.specs.declared.Port.{Port}
 use Rattle.state.specs.declared.Unit.{Unit}
@@ -46,7 +45,7 @@ reply_bytes d h r = bytes_of (own_of d.port) h r.reply []
 
 -- the reply's length in the answer, and the next state
 abbrev pub answered : Drive → Header → Decided → Answer
-answered d h r = record { said = Sent (length (reply_bytes d h r)); drive = record { unit = d.unit; port = r.port } }
+answered d h r = record { said = Ok (length (reply_bytes d h r)); drive = record { unit = d.unit; port = r.port } }
 
 -- what the frame comes to if it is a data frame
 abbrev pub data_step : Drive → List ℕ → ℕ → ℕ → Step

@@ -1,6 +1,5 @@
 -- Frames told by what changes: what each comes to, seen by the port that calls, and the drive after that. `Drive.antt` and `Entry.antt` say what each entry answers; that these are the same is `frame_turn_lem`, `next_out_turn_lem`.
-use Rattle.std.specs.Prelude.{ℕ, Bool, false, cond, not, List, [], eqb, length}
-use Rattle.tables.specs.declared.Found.{Found}
+use Rattle.std.specs.Prelude.{ℕ, Bool, false, cond, not, List, [], eqb, length, Option, Err, Ok, Result}
 use Rattle.tables.specs.Lists.{on_found}
 use Rattle.frame.specs.declared.Header.{Header}
 use Rattle.refusal.specs.declared.Refusal.{Refusal}
@@ -18,26 +17,24 @@ use Rattle.serve.specs.Turn.{next_turn, next_turn_buffer}
 use Rattle.taking.specs.Taking.{is_data, taking_turn, taking_buffer, taking_window}
 use Rattle.arrival.specs.declared.Form.{Form}
 use Rattle.arrival.specs.declared.Form.TheVariants.{Link, Done, Abort, Command, Data}
-use Rattle.arrival.specs.declared.Judged.{Judged}
-use Rattle.arrival.specs.declared.Judged.TheVariants as judged
 use Rattle.arrival.specs.Arrival.{form_of, judged_by}
 use Rattle.drive.specs.declared.Drive.{Drive}
 use Rattle.drive.specs.declared.Answer.{Answer}
 
 -- 7: "login unproven", by the flag of the login at a seat; that of the port that sees it
-unfoldable pub unproven_at : Found → ℕ → Bool
+unfoldable pub unproven_at : Option ℕ → ℕ → Bool
 unproven_at seat proven = on_found seat (λ _. not (eqb proven 1)) false
 
 abbrev pub unproven_in : View → Bool
 unproven_in v = unproven_at v.seat v.login.proven
 
 -- refused by what arrived or not, once 1 is told
-unfoldable pub arrived_in : View → Header → List ℕ → Judged
+unfoldable pub arrived_in : View → Header → List ℕ → Result Form Refusal
 arrived_in v h f = judged_by v.fine (unproven_in v) v.own.address h f
 
-abbrev pub on_judged : {A : Type 0} → Judged → (Refusal → A) → (Form → A) → A
-on_judged (judged.Refused x) g k = g x
-on_judged (judged.Passed t) g k = k t
+abbrev pub on_judged : {A : Type 0} → Result Form Refusal → (Refusal → A) → (Form → A) → A
+on_judged (Err x) g k = g x
+on_judged (Ok t) g k = k t
 
 -- the number of the refusal, or 0 where the frame arrived well
 unfoldable pub refusal_of : Bool → Bool → ℕ → Header → List ℕ → ℕ

@@ -6,7 +6,7 @@ ghost use Rattle.drive.specs.Drive.{refused, made_from, no_drive, new_answer, ch
 ghost use Rattle.drive.specs.Entry.{frame_in, frame_in_buffer, frame_in_window};
 ghost use Rattle.drive.specs.Turn.{unproven_at, arrived_in, refusal_of, decision_of, passed_turn, passed_buffer, arrived_turn, arrived_buffer, arrived_window, next_out_turn, next_out_buffer, answer_to};
 
-use arrival::{Form, Judged, form_of, judge};
+use arrival::{Form, form_of, judge};
 use calls::{
     Decision, Turn, View, answer_only, look, port_after, refuse_turn, send_turn, sight_of,
 };
@@ -14,11 +14,10 @@ use command::command;
 use formed::setup_rules;
 use frame::{Header, read_header};
 use link::{abts, link};
-use refusal::{Refusal, Said};
+use refusal::Refusal;
 use reply::{Reply, write};
 use serve::next;
 use state::{Change, Port, Setup, Unit, change_all, empty_login};
-use tables::Found;
 use taking::data_turn;
 
 // The R_CTL of a data frame.
@@ -36,7 +35,7 @@ pub struct Drive {
 
 #[derive(Clone, Copy)]
 pub struct Answer {
-    pub said: Said,
+    pub said: Result<usize, Refusal>,
     pub drive: Drive,
 }
 
@@ -56,7 +55,7 @@ impl Drive {
     {
         if setup_rules(setup) {
             Answer {
-                said: Said::Sent(0),
+                said: Ok(0),
                 drive: made_from(setup),
             }
         } else {
@@ -81,8 +80,8 @@ impl Drive {
         let v = look(u, p, h.s_id);
         let j = arrived(v, h, frame);
         match j {
-            Judged::Refused(x) => self.refuse(x),
-            Judged::Passed(_) => self.after(arrived_turn(v, h, frame, start, window, reply)),
+            Err(x) => self.refuse(x),
+            Ok(_) => self.after(arrived_turn(v, h, frame, start, window, reply)),
         }
     }
 
@@ -97,7 +96,7 @@ impl Drive {
             let q = change_all(p, change_of(e));
             let d = Drive { unit: u, port: q };
             Answer {
-                said: Said::Sent(0),
+                said: Ok(0),
                 drive: d,
             }
         } else {
@@ -124,7 +123,7 @@ impl Drive {
         ensures { result ≡ refused x self }
     {
         Answer {
-            said: Said::Refused(x),
+            said: Err(x),
             drive: self,
         }
     }
@@ -138,8 +137,8 @@ pub fn refusal_number(fine: bool, unproven: bool, own: u32, h: Header, frame: &[
 {
     let j = judge(fine, unproven, own, h, frame);
     match j {
-        Judged::Refused(x) => x.number() as u64,
-        Judged::Passed(_) => 0,
+        Err(x) => x.number() as u64,
+        Ok(_) => 0,
     }
 }
 
@@ -159,10 +158,10 @@ pub fn passed_turn(v: View, h: Header, frame: &[u8], reply: &mut [u8]) -> Turn
 
 // Whether a login stands at a seat, and its flag says that it is unproven.
 #[tactic(auto, unfolding(crate::specs::Turn::unproven_at))]
-pub fn unproven_at(seat: Found, proven: u8) -> bool
+pub fn unproven_at(seat: Option<usize>, proven: u8) -> bool
     ensures { result ≡ unproven_at seat proven }
 {
-    let Found::At(_) = seat else {
+    let Some(_) = seat else {
         return false;
     };
     proven != 1
@@ -216,7 +215,7 @@ pub fn no_drive() -> Drive
 
 // A frame in, refused by the first of 2 to 7 that fits it, or passed.
 #[tactic(auto, unfolding(crate::specs::Turn::arrived_in))]
-fn arrived(v: View, h: Header, frame: &[u8]) -> Judged
+fn arrived(v: View, h: Header, frame: &[u8]) -> Result<Form, Refusal>
     ensures { result ≡ arrived_in v h frame.now }
 {
     let o = v.own;

@@ -1,4 +1,5 @@
 -- What each change keeps of the rule, under its stated condition. Assumes nothing.
+use Rattle.std.specs.Prelude.{None}
 use mathlib.Core.Path.{◌≡◌, refl, sym, ap}
 use mathlib.Core.Bool.{Bool, true, false, cond, not, ◌&&◌, ◌||◌, or-true}
 use mathlib.Core.List.{List}
@@ -6,7 +7,6 @@ use Prim.Native.Nat.{ℕ}
 use lib.Dec.{eqb, leb}
 use lib.ListN.{set, replicate}
 use borrow.Author.Tests.{eqb-false, ne_eqb, not-true}
-use Rattle.tables.specs.declared.Found.TheVariants.{Nothing}
 use Rattle.tables.specs.Lists.{all, pairs}
 use Rattle.tables.proofs.Bools.{and_left, and_right, or_left, or_right, apart}
 use Rattle.tables.proofs.Searches.{missed}
@@ -201,7 +201,7 @@ module _ {u : Unit} {own : ℕ} {l : Login} (used : Used u own l) where
       (none_fine u (full_frame l.size) 0) none_apart
 
   -- an exchange that is fine, and whose OX_ID no other has, may open at any place
-  pub open_used : (j : ℕ) (e : Exchange) → exchange_fine u (full_frame l.size) l.paired e ≡ true → find_exchange l e.ox_id ≡ Nothing → Used u own (with_exchange l j e)
+  pub open_used : (j : ℕ) (e : Exchange) → exchange_fine u (full_frame l.size) l.paired e ≡ true → find_exchange l e.ox_id ≡ None → Used u own (with_exchange l j e)
   unfolding with_exchange find_exchange
   open_used j e fine none =
       let alone = missed (has_id e.ox_id) l.places none in

@@ -8,7 +8,7 @@ ghost use Rattle.saying.specs.Text.{LineIs};
 ghost use Rattle.judging.specs.Judgement.{judgement_of, line_of};
 ghost use Rattle.judging.specs.Text.{text_of, hex_digit, accept_text, reject_text, not_plogi_text, short_text};
 
-use params::{Fault, Params, Verdict};
+use params::{Fault, Params};
 use saying::{Line, put_decimal};
 use wire::{byte_at, put_front};
 
@@ -34,8 +34,8 @@ pub fn judge(login: &[u8]) -> Judgement
     }
     let v = Params::read(login, 4).verdict();
     match v {
-        Verdict::Accept => Judgement::Accept,
-        Verdict::Reject(f) => Judgement::Reject(f),
+        Ok(()) => Judgement::Accept,
+        Err(f) => Judgement::Reject(f),
     }
 }
 

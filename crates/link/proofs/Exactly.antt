@@ -1,5 +1,6 @@
 -- A port login is accepted exactly when its size is right, every word test passes and a place is free once the sender's own login has ended and that of its port name;
 -- else it is rejected, with the stated reason: where a word test fails the sender's login has ended all the same and no other, else nothing changed. Both directions, for every frame with PLOGI's code. Assumes nothing.
+use Rattle.std.specs.Prelude.{Option, Some, None, Ok, Err, Result, ⊤}
 use mathlib.Core.Path.{◌≡◌, refl, ap, ◌∙◌, subst}
 use mathlib.Core.Logic.{◌⊎◌, inl, inr}
 use mathlib.Core.Bool.{Bool, true, false}
@@ -9,12 +10,8 @@ use native.Mathlib.Omega.{arith}
 use lib.Dec.{eqb}
 use lib.ListN.{length, get_or}
 use borrow.Author.Tests.{eq-eqb, ne_eqb, eqb-true, eqb-false}
-use Rattle.tables.specs.declared.Found.{Found}
-use Rattle.tables.specs.declared.Found.TheVariants.{At, Nothing}
 use Rattle.frame.specs.declared.Header.{Header}
 use Rattle.params.specs.declared.Fault.{Fault}
-use Rattle.params.specs.declared.Verdict.{Verdict}
-use Rattle.params.specs.declared.Verdict.TheVariants as verdict
 use Rattle.params.specs.Words.{params_of, verdict_of, reason_of}
 use Rattle.params.proofs.Exactly.{accepted, accepts_then, rejected, rejects_then}
 use Rattle.state.specs.declared.Port.{Port}
@@ -41,11 +38,11 @@ module _ (p : Port) (h : Header) (f : List ℕ) (plogi : get_or f 24 0 ≡ 3) wh
   unfolding link_of size_of
   of_wrong n = rw (plogi, ne_eqb (length f) 140 n)
 
-  of_test : length f ≡ 140 → (t : Fault) → verdict_of (params_of f 28) ≡ verdict.Reject t → link_of p h f ≡ decided_as (reply.Reject (reason_of t).reason (reason_of t).explanation) (left_by p h f)
+  of_test : length f ≡ 140 → (t : Fault) → verdict_of (params_of f 28) ≡ Err t → link_of p h f ≡ decided_as (reply.Reject (reason_of t).reason (reason_of t).explanation) (left_by p h f)
   unfolding plogi_of outcome_of
   of_test e t v = sized e ∙ rw (v, eq-eqb (length f) 140 e)
 
-  of_full : length f ≡ 140 → verdict_of (params_of f 28) ≡ verdict.Accept → free_login (host_gone p h f) ≡ Nothing → link_of p h f ≡ decided_as (reply.Reject 0x09 0x29) (left_by p h f)
+  of_full : length f ≡ 140 → verdict_of (params_of f 28) ≡ Ok tt → free_login (host_gone p h f) ≡ None → link_of p h f ≡ decided_as (reply.Reject 0x09 0x29) (left_by p h f)
   unfolding plogi_of outcome_of
   of_full e v n = sized e ∙ rw (v, n, eq-eqb (length f) 140 e) (ap (decided_as (reply.Reject 0x09 0x29)) (full_none p h.s_id (named_in f) n))
 
@@ -59,13 +56,13 @@ module _ (p : Port) (h : Header) (f : List ℕ) (plogi : get_or f 24 0 ≡ 3) wh
   pub no_third : Accepts p h f ⊎ ((r : ℕ) × (x : ℕ) × Rejects p h f r x)
   no_third = by_size (eqb (length f) 140) refl
     where
-      by_room : length f ≡ 140 → verdict_of (params_of f 28) ≡ verdict.Accept → (g : Found) → free_login (host_gone p h f) ≡ g → Accepts p h f ⊎ ((r : ℕ) × (x : ℕ) × Rejects p h f r x)
-      by_room e v (At i) n = inl (record { size = e; tests = accepted (params_of f 28) v; place = i; free = n })
-      by_room e v Nothing n = inr (0x09, 0x29, no_place e (accepted (params_of f 28) v) n)
+      by_room : length f ≡ 140 → verdict_of (params_of f 28) ≡ Ok tt → (g : Option ℕ) → free_login (host_gone p h f) ≡ g → Accepts p h f ⊎ ((r : ℕ) × (x : ℕ) × Rejects p h f r x)
+      by_room e v (Some i) n = inl (record { size = e; tests = accepted (params_of f 28) v; place = i; free = n })
+      by_room e v None n = inr (0x09, 0x29, no_place e (accepted (params_of f 28) v) n)
 
-      by_test : length f ≡ 140 → (v : Verdict) → verdict_of (params_of f 28) ≡ v → Accepts p h f ⊎ ((r : ℕ) × (x : ℕ) × Rejects p h f r x)
-      by_test e verdict.Accept v = by_room e v (free_login (host_gone p h f)) refl
-      by_test e (verdict.Reject t) v = inr ((reason_of t).reason, (reason_of t).explanation, test_fails e t (rejected (params_of f 28) t v))
+      by_test : length f ≡ 140 → (v : Result ⊤ Fault) → verdict_of (params_of f 28) ≡ v → Accepts p h f ⊎ ((r : ℕ) × (x : ℕ) × Rejects p h f r x)
+      by_test e (Ok tt) v = by_room e v (free_login (host_gone p h f)) refl
+      by_test e (Err t) v = inr ((reason_of t).reason, (reason_of t).explanation, test_fails e t (rejected (params_of f 28) t v))
 
       by_size : (b : Bool) → eqb (length f) 140 ≡ b → Accepts p h f ⊎ ((r : ℕ) × (x : ℕ) × Rejects p h f r x)
       by_size true e = by_test (eqb-true (length f) 140 e) (verdict_of (params_of f 28)) refl

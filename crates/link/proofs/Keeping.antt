@@ -1,12 +1,11 @@
 -- No link service makes a state ill formed. Assumes nothing.
+use Rattle.std.specs.Prelude.{Option, Some, None, Ok, Err, Result, ⊤}
 use mathlib.Core.Path.{◌≡◌, refl, ap}
 use mathlib.Core.Bool.{Bool, true, false, cond, not}
 use mathlib.Core.List.{List}
 use Prim.Native.Nat.{ℕ, ◌+◌}
 use lib.Dec.{eqb}
 use lib.ListN.{length, get_or}
-use Rattle.tables.specs.declared.Found.{Found}
-use Rattle.tables.specs.declared.Found.TheVariants.{At, Nothing}
 use Rattle.tables.specs.Lists.{all, on_found}
 use Rattle.tables.proofs.Keeping.{all_always, all_map}
 use Rattle.wire.specs.Bytes.{num, part, name_of}
@@ -15,8 +14,6 @@ use Rattle.address.specs.Address.{valid_address}
 use Rattle.params.specs.declared.Params.{Params}
 use Rattle.params.specs.declared.Fault.{Fault}
 use Rattle.params.specs.declared.Fault.TheVariants.{PortName, NodeName, DataSize, ConcurrentSequences, OpenSequences}
-use Rattle.params.specs.declared.Verdict.{Verdict}
-use Rattle.params.specs.declared.Verdict.TheVariants as verdict
 use Rattle.params.specs.Words.{params_of, fails, verdict_of}
 use Rattle.params.proofs.Exactly.{accepted}
 use Rattle.state.specs.declared.Login.{Login}
@@ -46,15 +43,15 @@ module _ (u : Unit) (own : ℕ) (l : Login) where
   mild_cond true s t p q = p
   mild_cond false s t p q = q
 
-  proven_mild : (v : Verdict) → Mild (proven_by v l)
-  proven_mild verdict.Accept = stays refl refl refl (λ h. proven_used h 1 refl)
-  proven_mild (verdict.Reject t) = itself
+  proven_mild : (v : Result ⊤ Fault) → Mild (proven_by v l)
+  proven_mild (Ok tt) = stays refl refl refl (λ h. proven_used h 1 refl)
+  proven_mild (Err t) = itself
 
-  rrq_mild : (f : Found) (s t : Served) → Mild s → Mild t → Mild (on_found f (λ _. s) t)
-  rrq_mild (At j) s t p q = p
-  rrq_mild Nothing s t p q = q
+  rrq_mild : (f : Option ℕ) (s t : Served) → Mild s → Mild t → Mild (on_found f (λ _. s) t)
+  rrq_mild (Some j) s t p q = p
+  rrq_mild None s t p q = q
 
-  service_mild : (code : ℕ) (sought : ℕ → Found) (from : ℕ) (f : List ℕ) → Mild (service_of code l sought from f)
+  service_mild : (code : ℕ) (sought : ℕ → Option ℕ) (from : ℕ) (f : List ℕ) → Mild (service_of code l sought from f)
   unfolding service_of pdisc_of adisc_of prli_of prlo_of rrq_of without_exchanges
   service_mild code sought from f =
       mild_cond (eqb code 0x50) _ _ (mild_cond (names_differ l (params_of f 28).port_name (params_of f 28).node_name) _ _ gone (proven_mild (verdict_of (params_of f 28))))
@@ -98,13 +95,13 @@ module _ (u : Unit) (p : Port) (w : well_formed u p ≡ true) (from : ℕ) (vali
   Kept q = well_formed u q ≡ true
 
   -- PLOGI
-  place_kept : (q : Params) (v : Verdict) → verdict_of q ≡ v → (g : Found) → Kept (outcome_port (outcome_after v g) (changed_all (ends_for v from (name_of q.port_name)) p) (new_login from q))
+  place_kept : (q : Params) (v : Result ⊤ Fault) → verdict_of q ≡ v → (g : Option ℕ) → Kept (outcome_port (outcome_after v g) (changed_all (ends_for v from (name_of q.port_name)) p) (new_login from q))
   unfolding changed_all new_login
-  place_kept q verdict.Accept e (At i) =
+  place_kept q (Ok tt) e (Some i) =
       let name = name_of q.port_name in
       store_kept u (changed_all (EndHost from name) p) (change_kept u p w (EndHost from name)) i (new_login from q) (new_fine u p.address from q valid other (accepted q e)) (host_gone_lem p from name)
-  place_kept q verdict.Accept e Nothing = change_kept u p w (EndHost from (name_of q.port_name))
-  place_kept q (verdict.Reject t) e g = change_kept u p w (EndLogin from)
+  place_kept q (Ok tt) e None = change_kept u p w (EndHost from (name_of q.port_name))
+  place_kept q (Err t) e g = change_kept u p w (EndLogin from)
 
   pub plogi_kept : (q : Params) → Kept (plogi_of p from q).port
   unfolding plogi_of outcome_of
@@ -115,10 +112,10 @@ module _ (u : Unit) (p : Port) (w : well_formed u p ≡ true) (from : ℕ) (vali
   logo_kept named = port_cond u (eqb named from) _ _ (change_kept u p w (EndLogin from)) w
 
   -- a service on the sender's login
-  served_kept : (g : Found) → find_login p from ≡ g → (code : ℕ) (f : List ℕ) (d : Decided) → Kept d.port
+  served_kept : (g : Option ℕ) → find_login p from ≡ g → (code : ℕ) (f : List ℕ) (d : Decided) → Kept d.port
       → Kept (on_found g (λ i. served_at p i (service_of code (login_at p i) (sought_in p from) from f)) d).port
-  served_kept (At i) e code f d x = stored_kept u p w from i _ e (service_mild u p.address (login_at p i) code (sought_in p from) from f)
-  served_kept Nothing e code f d x = x
+  served_kept (Some i) e code f d x = stored_kept u p w from i _ e (service_mild u p.address (login_at p i) code (sought_in p from) from f)
+  served_kept None e code f d x = x
 
 -- no frame to the link services makes a state ill formed, whose sender is a valid address and not ours
 pub link_kept : (u : Unit) (p : Port) (h : Header) (f : List ℕ) → valid_address h.s_id ≡ true → eqb h.s_id p.address ≡ false → well_formed u p ≡ true → well_formed u (link_of p h f).port ≡ true

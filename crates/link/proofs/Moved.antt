@@ -1,15 +1,14 @@
 -- A PLOGI and the logins of other addresses (document 02, request 1): accepted, it ends the login of its port name and no other's; rejected, none. Assumes nothing.
+use Rattle.std.specs.Prelude.{Some, Ok, Err, Result, ⊤}
+use Rattle.params.specs.declared.Fault.{Fault}
 use Prim.Native.Nat.{ℕ}
 use mathlib.Core.Path.{◌≡◌, refl, sym, ap, ◌∙◌}
 use mathlib.Core.Bool.{Bool, true, false, cond, or-true}
 use mathlib.Core.List.{List}
 use lib.Dec.{eqb}
 use lib.ListN.{length}
-use Rattle.tables.specs.declared.Found.TheVariants.{At}
 use Rattle.tables.specs.Lists.{pairs}
 use Rattle.frame.specs.declared.Header.{Header}
-use Rattle.params.specs.declared.Verdict.{Verdict}
-use Rattle.params.specs.declared.Verdict.TheVariants as verdict
 use Rattle.params.specs.Words.{params_of, verdict_of}
 use Rattle.state.specs.declared.Port.{Port}
 use Rattle.state.specs.declared.Change.TheVariants.{EndLogin, EndHost}
@@ -49,7 +48,7 @@ module _ (p : Port) (d : pairs apart_login p.logins ≡ true) (h : Header) (f : 
       ends_host : login_of after b ≡ host_ended from (named_in f) (login_of p b)
       ends_host =
           let new = new_login from (params_of f 28) in
-          stored_sees (host_gone p h f) b (At a.place) new (place_another (host_gone p h f) b a.place a.free, other_has b from new n (new_has from (params_of f 28)))
+          stored_sees (host_gone p h f) b (Some a.place) new (place_another (host_gone p h f) b a.place a.free, other_has b from new n (new_has from (params_of f 28)))
           ∙ changed_sees p d (EndHost from (named_in f)) b
 
       -- the login of its port name at another address has ended, with its exchanges, and its record is `out`
@@ -70,7 +69,7 @@ module _ (p : Port) (d : pairs apart_login p.logins ≡ true) (h : Header) (f : 
   unfolding ended_of
   rejected_alone b n = by (eqb (length f) 140) (verdict_of (params_of f 28))
     where
-      by : (s : Bool) (v : Verdict) → login_of (cond s (left_after v p h) p) b ≡ login_of p b
-      by true verdict.Accept = refl
-      by true (verdict.Reject t) = changed_sees p d (EndLogin from) b ∙ rw (other_address p from b n)
+      by : (s : Bool) (v : Result ⊤ Fault) → login_of (cond s (left_after v p h) p) b ≡ login_of p b
+      by true (Ok tt) = refl
+      by true (Err t) = changed_sees p d (EndLogin from) b ∙ rw (other_address p from b n)
       by false v = refl

@@ -1,4 +1,6 @@
 -- A request is a turn of its sender alone: it stores nothing of another address, and its change of every login leaves another's record, but that of a host that moved. Assumes nothing.
+use Rattle.std.specs.Prelude.{Option, Some, None, Ok, Err, Result, ⊤, ℕ}
+use Rattle.params.specs.declared.Fault.{Fault}
 use Prim.Native.Nat.{ℕ, ◌+◌}
 use mathlib.Core.Path.{◌≡◌, refl, sym, ap, ◌∙◌}
 use mathlib.Core.Bool.{Bool, true, false, not}
@@ -6,14 +8,10 @@ use mathlib.Core.List.{List}
 use lib.Dec.{eqb}
 use lib.ListN.{length, get_or}
 use borrow.Author.Tests.{eqb-true, not-false}
-use Rattle.tables.specs.declared.Found.{Found}
-use Rattle.tables.specs.declared.Found.TheVariants.{At, Nothing}
 use Rattle.tables.specs.Lists.{all, on_found}
 use Rattle.wire.specs.Bytes.{num, name_of}
 use Rattle.frame.specs.declared.Header.{Header}
 use Rattle.params.specs.declared.Params.{Params}
-use Rattle.params.specs.declared.Verdict.{Verdict}
-use Rattle.params.specs.declared.Verdict.TheVariants as verdict
 use Rattle.params.specs.Words.{params_of, verdict_of}
 use Rattle.params.proofs.Exactly.{accepted}
 use Rattle.state.specs.declared.Login.{Login}
@@ -31,8 +29,7 @@ use Rattle.calls.specs.Others.{Another, Leaves, Elsewhere, LeavesLogin}
 use Rattle.calls.proofs.Views.{view_seat, view_login, view_place}
 use Rattle.calls.proofs.Decisions.{by_cond, on_cond, on_found_lem}
 use Rattle.calls.proofs.Others.{other_has, seat_another, place_another}
-use Rattle.link.specs.declared.Outcome.{Outcome}
-use Rattle.link.specs.declared.Outcome.TheVariants.{Place, Rejected}
+use Rattle.params.specs.declared.Reason.{Reason}
 use Rattle.link.specs.Link.{size_of, new_login, outcome_after, ends_for}
 use Rattle.link.specs.Login.{named_in, Moves}
 use Rattle.link.specs.Turn.{outcome_in, login_decision, plogi_turn, logo_turn, link_turn, aborted_login, abts_turn}
@@ -43,12 +40,12 @@ aborted_has : (l : Login) (ox a : ℕ) → has_address a (aborted_login l ox) �
 unfolding aborted_login with_exchange has_address
 aborted_has l ox a = by (find_exchange l ox)
   where
-    by : (f : Found) → has_address a (on_found f (λ j. ended_at l j) l) ≡ has_address a l
-    by (At j) = refl
-    by Nothing = refl
+    by : (f : Option ℕ) → has_address a (on_found f (λ j. ended_at l j) l) ≡ has_address a l
+    by (Some j) = refl
+    by None = refl
 
 -- what a PLOGI by which the host of a has not moved has: where it is of right size and passes, another name than a's login
-pub unmoved : (p : Port) (h : Header) (a : ℕ) (f : List ℕ) → h.r_ctl ≡ 0x22 → (Moves p a h f → ⊥) → get_or f 24 0 ≡ 3 → length f ≡ 140 → verdict_of (params_of f 28) ≡ verdict.Accept
+pub unmoved : (p : Port) (h : Header) (a : ℕ) (f : List ℕ) → h.r_ctl ≡ 0x22 → (Moves p a h f → ⊥) → get_or f 24 0 ≡ 3 → length f ≡ 140 → verdict_of (params_of f 28) ≡ (Ok tt)
     → has_name (named_in f) (login_of p a) ≡ false
 unmoved p h a f link still c s e = by (has_name (named_in f) (login_of p a)) refl
   where
@@ -64,14 +61,14 @@ module _ (u : Unit) (p : Port) (fine : all (login_fine u p.address) p.logins ≡
   Other d = Elsewhere p a d
 
   -- the login that is seen is not a's, and neither is the place where it stands
-  module _ (i : ℕ) (e : v.seat ≡ At i) where
-    at : find_login p h.s_id ≡ At i
+  module _ (i : ℕ) (e : v.seat ≡ Some i) where
+    at : find_login p h.s_id ≡ Some i
     at = sym (view_seat u p h.s_id fine) ∙ e
 
     login_other : has_address a v.login ≡ false
     login_other = ap (has_address a) (view_login u p h.s_id fine i at) ∙ other_has a h.s_id (login_at p i) n (found_has p h.s_id i at)
 
-    stores_other : (m : Login) → has_address a m ≡ false → Another (changed_all Keep p) a (At i) m
+    stores_other : (m : Login) → has_address a m ≡ false → Another (changed_all Keep p) a (Some i) m
     stores_other m k = (seat_another p a h.s_id i Keep n at, k)
 
   plogi_another : (q : Params) → Other (plogi_turn v.keys h.s_id q)
@@ -81,11 +78,11 @@ module _ (u : Unit) (p : Port) (fine : all (login_fine u p.address) p.logins ≡
       name : ℕ
       name = name_of q.port_name
 
-      by : (t : Verdict) (f : Found) → place_for v.keys h.s_id name ≡ f → Other (login_decision (outcome_after t f) (ends_for t h.s_id name) h.s_id q)
-      by verdict.Accept (At j) e =
+      by : (t : Result ⊤ Fault) (f : Option ℕ) → place_for v.keys h.s_id name ≡ f → Other (login_decision (outcome_after t f) (ends_for t h.s_id name) h.s_id q)
+      by (Ok tt) (Some j) e =
           (place_another (changed_all (EndHost h.s_id name) p) a j (sym (view_place u p h.s_id fine name) ∙ e), other_has a h.s_id (new_login h.s_id q) n (new_has h.s_id q))
-      by verdict.Accept Nothing e = tt
-      by (verdict.Reject t) f e = tt
+      by (Ok tt) None e = tt
+      by (Err t) f e = tt
 
   pub link_another : (f : List ℕ) → Other (link_turn v h f)
   unfolding link_turn logo_turn
@@ -107,20 +104,20 @@ module _ (u : Unit) (p : Port) (fine : all (login_fine u p.address) p.logins ≡
   abbrev Left : Decision → Type 0
   Left d = LeavesLogin p a d
 
-  plogi_leaves : (q : Params) → (verdict_of q ≡ verdict.Accept → has_name (name_of q.port_name) (login_of p a) ≡ false) → Left (plogi_turn v.keys h.s_id q)
+  plogi_leaves : (q : Params) → (verdict_of q ≡ Ok tt → has_name (name_of q.port_name) (login_of p a) ≡ false) → Left (plogi_turn v.keys h.s_id q)
   unfolding plogi_turn
   plogi_leaves q k = by (verdict_of q) (outcome_in (verdict_of q) v.keys h.s_id name) k
     where
       name : ℕ
       name = name_of q.port_name
 
-      ends : (t : Verdict) → (t ≡ verdict.Accept → has_name name (login_of p a) ≡ false) → Leaves a (login_of p a) (ends_for t h.s_id name)
-      ends verdict.Accept g = (n, g refl)
-      ends (verdict.Reject t) g = n
+      ends : (t : Result ⊤ Fault) → (t ≡ Ok tt → has_name name (login_of p a) ≡ false) → Leaves a (login_of p a) (ends_for t h.s_id name)
+      ends (Ok tt) g = (n, g refl)
+      ends (Err t) g = n
 
-      by : (t : Verdict) (o : Outcome) → (t ≡ verdict.Accept → has_name name (login_of p a) ≡ false) → Left (login_decision o (ends_for t h.s_id name) h.s_id q)
-      by t (Place j) g = ends t g
-      by t (Rejected r e) g = ends t g
+      by : (t : Result ⊤ Fault) (o : Result ℕ Reason) → (t ≡ Ok tt → has_name name (login_of p a) ≡ false) → Left (login_decision o (ends_for t h.s_id name) h.s_id q)
+      by t (Ok j) g = ends t g
+      by t (Err w) g = ends t g
 
   pub link_leaves : (f : List ℕ) → h.r_ctl ≡ 0x22 → (Moves p a h f → ⊥) → Left (link_turn v h f)
   unfolding link_turn logo_turn size_of

@@ -1,4 +1,5 @@
 -- What each change of the table of logins makes of the record of an address. Assumes nothing.
+use Rattle.std.specs.Prelude.{Option, Some, None}
 use Prim.Native.Nat.{ℕ, zero, suc, ◌+◌, ◌<◌}
 use mathlib.Core.Path.{◌≡◌, refl, sym, ap, ◌∙◌}
 use mathlib.Core.Bool.{Bool, true, false, cond, not, ◌||◌}
@@ -8,8 +9,6 @@ use native.Mathlib.Nat.{add-zero}
 use lib.Dec.{eqb}
 use lib.ListN.{length, get_or, set}
 use borrow.Author.Tests.{not-true}
-use Rattle.tables.specs.declared.Found.{Found}
-use Rattle.tables.specs.declared.Found.TheVariants.{At, Nothing}
 use Rattle.tables.specs.Lists.{first_from, on_found, all, pairs}
 use Rattle.tables.proofs.Bools.{and_left, and_right, or_left}
 use Rattle.tables.proofs.Searches.{found_below, found_passes, found_lowest, missed}
@@ -39,20 +38,20 @@ abbrev pub record_in : Login → Record
 record_in l = cond (is_used l) (record_at l) out
 
 -- no login of an address: exactly when its record is `out`
-pub out_missing : (p : Port) (a : ℕ) → record_of p a ≡ out → find_login p a ≡ Nothing
+pub out_missing : (p : Port) (a : ℕ) → record_of p a ≡ out → find_login p a ≡ None
 unfolding record_of
 out_missing p a e = step (find_login p a) e
   where
-    step : (x : Found) → on_found x (λ i. record_at (login_at p i)) out ≡ out → x ≡ Nothing
-    step (At i) h = let z : ◌≡◌ {A = ℕ} 0 1 = cc in absurd (omega arith)
-    step Nothing h = refl
+    step : (x : Option ℕ) → on_found x (λ i. record_at (login_at p i)) out ≡ out → x ≡ None
+    step (Some i) h = let z : ◌≡◌ {A = ℕ} 0 1 = cc in absurd (omega arith)
+    step None h = refl
 
-pub missing_out : (p : Port) (a : ℕ) → find_login p a ≡ Nothing → record_of p a ≡ out
+pub missing_out : (p : Port) (a : ℕ) → find_login p a ≡ None → record_of p a ≡ out
 unfolding record_of
 missing_out p a e = rw e
 
 -- the record of a login that is found is what the login says
-pub found_record : (p : Port) (a i : ℕ) → find_login p a ≡ At i → record_of p a ≡ record_at (login_at p i)
+pub found_record : (p : Port) (a i : ℕ) → find_login p a ≡ Some i → record_of p a ≡ record_at (login_at p i)
 unfolding record_of
 found_record p a i e = rw e
 
@@ -62,17 +61,17 @@ module _ (p : Port) (a : ℕ) where
   unfolding record_of login_of
   record_is = by (find_login p a) refl
     where
-      by : (f : Found) → find_login p a ≡ f → on_found f (λ i. record_at (login_at p i)) out ≡ record_in (login_in p f)
-      by (At i) e = rw (found_used p a i e)
-      by Nothing e = refl
+      by : (f : Option ℕ) → find_login p a ≡ f → on_found f (λ i. record_at (login_at p i)) out ≡ record_in (login_in p f)
+      by (Some i) e = rw (found_used p a i e)
+      by None e = refl
 
   pub login_has : has_address a (login_of p a) ≡ is_used (login_of p a)
   unfolding login_of
   login_has = by (find_login p a) refl
     where
-      by : (f : Found) → find_login p a ≡ f → has_address a (login_in p f) ≡ is_used (login_in p f)
-      by (At i) e = found_has p a i e ∙ sym (found_used p a i e)
-      by Nothing e = empty_has a
+      by : (f : Option ℕ) → find_login p a ≡ f → has_address a (login_in p f) ≡ is_used (login_in p f)
+      by (Some i) e = found_has p a i e ∙ sym (found_used p a i e)
+      by None e = empty_has a
 
 -- one passes, and it is not the second
 or_other : (a b : Bool) → (a || b) ≡ true → b ≡ false → a ≡ true
@@ -184,29 +183,29 @@ module _ (p : Port) (d : pairs apart_login p.logins ≡ true) where
 
 -- a login of an address, stored where none before it has the address, is the first that has it
 first_set : (a : ℕ) (ls : List Login) (k i : ℕ) (l : Login) → i < length ls → ((j : ℕ) → j < i → has_address a (get_or ls j empty_login) ≡ false) → has_address a l ≡ true
-    → first_from (has_address a) k (set ls i l) ≡ At (k + i)
+    → first_from (has_address a) k (set ls i l) ≡ Some (k + i)
 first_set a [] k i l h none t = absurd (omega arith)
-first_set a (m ∷ ls) k zero l h none t = rw t (ap At (sym (add-zero k)))
+first_set a (m ∷ ls) k zero l h none t = rw t (ap Some (sym (add-zero k)))
 first_set a (m ∷ ls) k (suc i) l h none t =
-    rw (none 0 (omega arith)) (first_set a ls (suc k) i l (omega arith) (λ j q. none (suc j) (omega arith)) t ∙ ap At (let e : suc k + i ≡ k + suc i = omega arith in e))
+    rw (none 0 (omega arith)) (first_set a ls (suc k) i l (omega arith) (λ j q. none (suc j) (omega arith)) t ∙ ap Some (let e : suc k + i ≡ k + suc i = omega arith in e))
 
 module _ (p : Port) (a i : ℕ) (l : Login) (below : i < length p.logins) (none : (j : ℕ) → j < i → has_address a (get_or p.logins j empty_login) ≡ false) (h : has_address a l ≡ true) where
-  found_put : find_login (with_login p i l) a ≡ At i
+  found_put : find_login (with_login p i l) a ≡ Some i
   unfolding find_login with_login
-  found_put = first_set a p.logins 0 i l below none h ∙ ap At (let e : 0 + i ≡ i = omega arith in e)
+  found_put = first_set a p.logins 0 i l below none h ∙ ap Some (let e : 0 + i ≡ i = omega arith in e)
 
   put_record : record_of (with_login p i l) a ≡ record_at l
   put_record = found_record (with_login p i l) a i found_put ∙ ap record_at (stored_at p i l below)
 
 -- no login behind one of an address has it, where the addresses are distinct; so none has it once that one ends
-none_behind : (a : ℕ) (l : Login) (ls : List Login) (k : ℕ) → has_address a l ≡ true → all (apart_login l) ls ≡ true → first_from (has_address a) k ls ≡ Nothing
+none_behind : (a : ℕ) (l : Login) (ls : List Login) (k : ℕ) → has_address a l ≡ true → all (apart_login l) ls ≡ true → first_from (has_address a) k ls ≡ None
 none_behind a l [] k h d = refl
 none_behind a l (m ∷ ls) k h d =
     rw (apart_has a l m (and_left (apart_login l m) (all (apart_login l) ls) d) h (has_address a m) refl)
     (none_behind a l ls (suc k) h (and_right (apart_login l m) (all (apart_login l) ls) d))
 
 first_gone : (a : ℕ) (ls : List Login) (k i : ℕ) → pairs apart_login ls ≡ true → i < length ls → has_address a (get_or ls i empty_login) ≡ true
-    → first_from (has_address a) k (set ls i empty_login) ≡ Nothing
+    → first_from (has_address a) k (set ls i empty_login) ≡ None
 first_gone a [] k i d h t = refl
 first_gone a (m ∷ ls) k zero d h t = rw (empty_has a) (none_behind a m ls (suc k) t (and_left (all (apart_login m) ls) (pairs apart_login ls) d))
 first_gone a (m ∷ ls) k (suc i) d h t =
@@ -219,7 +218,7 @@ first_gone a (m ∷ ls) k (suc i) d h t =
     only false e = refl
 
 -- what is stored where the login of address a stood
-module _ (p : Port) (a i : ℕ) (at : find_login p a ≡ At i) where
+module _ (p : Port) (a i : ℕ) (at : find_login p a ≡ Some i) where
   inside : i < length p.logins
   unfolding find_login
   inside = found_below empty_login (has_address a) p.logins at
@@ -235,7 +234,7 @@ module _ (p : Port) (a i : ℕ) (at : find_login p a ≡ At i) where
   drop_record d = missing_out (with_login p i empty_login) a (first_gone a p.logins 0 i d inside (found_passes empty_login (has_address a) p.logins at))
 
 -- a login of address a, stored in the lowest free place where no login has that address: the record of a is what it says
-pub place_record : (p : Port) (a i : ℕ) (l : Login) → free_login p ≡ At i → has_address a l ≡ true → record_of p a ≡ out → record_of (with_login p i l) a ≡ record_at l
+pub place_record : (p : Port) (a i : ℕ) (l : Login) → free_login p ≡ Some i → has_address a l ≡ true → record_of p a ≡ out → record_of (with_login p i l) a ≡ record_at l
 unfolding find_login free_login
 place_record p a i l at h none =
     let below : i < length p.logins = found_below empty_login is_free p.logins at in

@@ -1,4 +1,5 @@
 -- What a request, as a whole frame, and ABTS make of the record of the sender. Assumes nothing.
+use Rattle.std.specs.Prelude.{Option, Some, None}
 use Prim.Native.Nat.{ℕ, ◌+◌}
 use mathlib.Core.Path.{◌≡◌, refl, sym, subst, ◌∙◌}
 use mathlib.Core.Bool.{true}
@@ -7,8 +8,6 @@ use native.Mathlib.Omega.{arith}
 use lib.Dec.{eqb}
 use lib.ListN.{length, get_or}
 use borrow.Author.Tests.{eq-eqb, ne_eqb}
-use Rattle.tables.specs.declared.Found.{Found}
-use Rattle.tables.specs.declared.Found.TheVariants.{At, Nothing}
 use Rattle.tables.specs.Lists.{on_found, pairs}
 use Rattle.wire.specs.Bytes.{num}
 use Rattle.frame.specs.declared.Header.{Header}
@@ -47,13 +46,13 @@ module _ (p : Port) (a ox rx : ℕ) where
   unfolding abts_of lookup_of
   abts_reply = by (find_login p a) refl (find_exchange (login_of p a) ox)
     where
-      there : (i : ℕ) → find_login p a ≡ At i → record_of p a ≡ out → ⊥
+      there : (i : ℕ) → find_login p a ≡ Some i → record_of p a ≡ out → ⊥
       there i e h = let q = sym (found_record p a i e) ∙ h in let z : ◌≡◌ {A = ℕ} 0 1 = cc in absurd (omega arith)
 
-      by : (x : Found) → find_login p a ≡ x → (y : Found) → AfterAbort (record_of p a) (aborted_at (standing_in x y) rx p).reply
-      by (At i) e (At j) = on_cond (λ (d : Decided). AfterAbort (record_of p a) d.reply) (eqb rx 0xffff) (there i e) (there i e)
-      by (At i) e Nothing = on_cond (λ (d : Decided). AfterAbort (record_of p a) d.reply) (eqb rx 0xffff) (there i e) (there i e)
-      by Nothing e y = missing_out p a e
+      by : (x : Option ℕ) → find_login p a ≡ x → (y : Option ℕ) → AfterAbort (record_of p a) (aborted_at (standing_in x y) rx p).reply
+      by (Some i) e (Some j) = on_cond (λ (d : Decided). AfterAbort (record_of p a) d.reply) (eqb rx 0xffff) (there i e) (there i e)
+      by (Some i) e None = on_cond (λ (d : Decided). AfterAbort (record_of p a) d.reply) (eqb rx 0xffff) (there i e) (there i e)
+      by None e y = missing_out p a e
 
 module _ (p : Port) (h : Header) (f : List ℕ) where
   -- a code that needs a login, in a frame of its size, where the record of the sender is `out`: a drive LOGO, and the port as it was
@@ -88,6 +87,6 @@ module _ (p : Port) (h : Header) (f : List ℕ) where
         met : Decided → Type 0
         met x = AfterService (effect_of (get_or f 24 0)) (record_of p h.s_id) x.reply (record_of x.port h.s_id)
 
-        at : (x : Found) → find_login p h.s_id ≡ x → met (on_found x (λ i. served_at p i (service_of (get_or f 24 0) (login_at p i) (sought_in p h.s_id) h.s_id f)) (decided_as reply.Logout p))
-        at (At i) e = service_record p h.s_id i e d (get_or f 24 0) (sought_in p h.s_id) f
-        at Nothing e = missing_out p h.s_id e
+        at : (x : Option ℕ) → find_login p h.s_id ≡ x → met (on_found x (λ i. served_at p i (service_of (get_or f 24 0) (login_at p i) (sought_in p h.s_id) h.s_id f)) (decided_as reply.Logout p))
+        at (Some i) e = service_record p h.s_id i e d (get_or f 24 0) (sought_in p h.s_id) f
+        at None e = missing_out p h.s_id e

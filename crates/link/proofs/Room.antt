@@ -1,12 +1,11 @@
 -- The room test, once the logins of an address and of a port name have ended: where it fails nothing ended, and where a login has the name it cannot fail. Assumes nothing.
+use Rattle.std.specs.Prelude.{Option, Some, None}
 use Prim.Native.Nat.{ℕ}
 use mathlib.Core.Path.{◌≡◌, refl, ap}
 use mathlib.Core.Bool.{Bool, true, false, cond, not}
 use mathlib.Core.List.{List, [], ◌∷◌, map}
 use lib.ListN.{get_or}
 use borrow.Author.Tests.{not-true}
-use Rattle.tables.specs.declared.Found.{Found}
-use Rattle.tables.specs.declared.Found.TheVariants.{At, Nothing}
 use Rattle.tables.specs.Lists.{all}
 use Rattle.tables.proofs.Bools.{and_left, and_right, and_both, or_right}
 use Rattle.tables.proofs.Keeping.{all_at}
@@ -42,7 +41,7 @@ module _ (a n : ℕ) where
   all_stay (l ∷ ls) h =
       rw (stays l (and_left (not (is_host a n l)) (all (λ m. not (is_host a n m)) ls) h), all_stay ls (and_right (not (is_host a n l)) (all (λ m. not (is_host a n m)) ls) h))
 
-module _ (p : Port) (a n : ℕ) (full : free_login (changed_all (EndHost a n) p) ≡ Nothing) where
+module _ (p : Port) (a n : ℕ) (full : free_login (changed_all (EndHost a n) p) ≡ None) where
   strangers : all (λ l. not (is_host a n l)) p.logins ≡ true
   unfolding free_login changed_all
   strangers = none_host a n p.logins (missed is_free (map (host_ended a n) p.logins) full)
@@ -57,8 +56,8 @@ module _ (p : Port) (a n : ℕ) (full : free_login (changed_all (EndHost a n) p)
   unfolding login_of find_login login_at has_name
   full_unnamed b = by (find_login p b) refl
     where
-      by : (f : Found) → find_login p b ≡ f → has_name n (login_in p f) ≡ false
-      by (At i) g =
+      by : (f : Option ℕ) → find_login p b ≡ f → has_name n (login_in p f) ≡ false
+      by (Some i) g =
           let l = get_or p.logins i empty_login in
           or_right (has_address a l) (has_name n l) (not-true (is_host a n l) (all_at (λ m. not (is_host a n m)) empty_login p.logins i (found_below empty_login (has_address b) p.logins g) strangers))
-      by Nothing g = refl
+      by None g = refl

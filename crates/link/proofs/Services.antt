@@ -1,4 +1,6 @@
 -- What each link service makes of the record of its sender. Assumes nothing.
+use Rattle.std.specs.Prelude.{Option, Some, None, Ok, Err, Result, ⊤, ℕ}
+use Rattle.params.specs.declared.Fault.{Fault}
 use Prim.Native.Nat.{ℕ}
 use mathlib.Core.Path.{◌≡◌, refl, sym, ap, ◌∙◌}
 use mathlib.Core.Bool.{Bool, true, false, cond}
@@ -7,13 +9,9 @@ use native.Mathlib.Omega.{arith}
 use lib.Dec.{eqb}
 use lib.ListN.{get_or}
 use borrow.Author.Tests.{eq-eqb}
-use Rattle.tables.specs.declared.Found.{Found}
-use Rattle.tables.specs.declared.Found.TheVariants.{At, Nothing}
 use Rattle.tables.specs.Lists.{on_found, pairs}
 use Rattle.wire.specs.Bytes.{num, part, name_of}
 use Rattle.params.specs.declared.Params.{Params}
-use Rattle.params.specs.declared.Verdict.{Verdict}
-use Rattle.params.specs.declared.Verdict.TheVariants as verdict
 use Rattle.params.specs.Words.{params_of, verdict_of}
 use Rattle.state.specs.declared.Login.{Login}
 use Rattle.state.specs.declared.Port.{Port}
@@ -29,8 +27,7 @@ use Rattle.reply.specs.declared.Accepted.TheVariants as accepted
 use Rattle.calls.specs.declared.Served.{Served}
 use Rattle.calls.specs.Turn.{decided_as, served_as, served_at}
 use Rattle.calls.proofs.Others.{empty_has}
-use Rattle.link.specs.declared.Outcome.{Outcome}
-use Rattle.link.specs.declared.Outcome.TheVariants.{Place, Rejected}
+use Rattle.params.specs.declared.Reason.{Reason}
 use Rattle.link.specs.Link.{new_login, outcome_after, ends_for, ends_by, outcome_of, outcome_reply, outcome_port, plogi_of, names_differ, proven_by, pdisc_of, adisc_of, logo_of, pair_fine, page_fine, prli_of, prlo_of, rrq_of, service_of}
 use Rattle.link.specs.Record.{Record, out, held, kept_from, record_at, record_of, proved, paired, unpaired}
 use Rattle.link.proofs.Records.{found_record, end_record, host_record, store_record, drop_record, place_record}
@@ -92,19 +89,19 @@ pub new_record : (a : ℕ) (q : Params) → record_at (new_login a q) ≡ held f
 unfolding new_login
 new_record a q = refl
 
-placed_free : (v : Verdict) (x : Found) (i : ℕ) → outcome_after v x ≡ Place i → x ≡ At i
-placed_free verdict.Accept (At j) i e = cc
-placed_free verdict.Accept Nothing i e = let z : ◌≡◌ {A = ℕ} 0 1 = cc in absurd (omega arith)
-placed_free (verdict.Reject t) x i e = let z : ◌≡◌ {A = ℕ} 0 1 = cc in absurd (omega arith)
+placed_free : (v : Result ⊤ Fault) (x : Option ℕ) (i : ℕ) → outcome_after v x ≡ Ok i → x ≡ Some i
+placed_free (Ok tt) (Some j) i e = cc
+placed_free (Ok tt) None i e = let z : ◌≡◌ {A = ℕ} 0 1 = cc in absurd (omega arith)
+placed_free (Err t) x i e = let z : ◌≡◌ {A = ℕ} 0 1 = cc in absurd (omega arith)
 
-outcome_free : (p : Port) (q : Params) (i : ℕ) → outcome_of p q ≡ Place i → free_login p ≡ At i
+outcome_free : (p : Port) (q : Params) (i : ℕ) → outcome_of p q ≡ Ok i → free_login p ≡ Some i
 unfolding outcome_of
 outcome_free p q i e = placed_free (verdict_of q) (free_login p) i e
 
-outcome_record : (p : Port) (a : ℕ) (q : Params) (o : Outcome) → outcome_of p q ≡ o → record_of p a ≡ out
+outcome_record : (p : Port) (a : ℕ) (q : Params) (o : Result ℕ Reason) → outcome_of p q ≡ o → record_of p a ≡ out
     → AfterPlogi q (outcome_reply o) (record_of (outcome_port o p (new_login a q)) a)
-outcome_record p a q (Place i) e n = place_record p a i (new_login a q) (outcome_free p q i e) (new_has a q) n ∙ new_record a q
-outcome_record p a q (Rejected x y) e n = n
+outcome_record p a q (Ok i) e n = place_record p a i (new_login a q) (outcome_free p q i e) (new_has a q) n ∙ new_record a q
+outcome_record p a q (Err w) e n = n
 
 -- a service on a login, as the record sees it
 data Does (g : Record → Record) (l : Login) : Served → Type 0 where
@@ -120,9 +117,9 @@ pdisc_does : (l : Login) (q : Params) → Does proved l (pdisc_of l q)
 unfolding pdisc_of has_address
 pdisc_does l q = does_cond (names_differ l q.port_name q.node_name) ends (by (verdict_of q))
   where
-    by : (v : Verdict) → Does proved l (proven_by v l)
-    by verdict.Accept = takes _ _ (λ b. refl) refl
-    by (verdict.Reject t) = rejects _ _
+    by : (v : Result ⊤ Fault) → Does proved l (proven_by v l)
+    by (Ok tt) = takes _ _ (λ b. refl) refl
+    by (Err t) = rejects _ _
 
 adisc_does : (l : Login) (from named : ℕ) (port node : List ℕ) → Does proved l (adisc_of l from named port node)
 unfolding adisc_of has_address
@@ -136,13 +133,13 @@ prlo_does : (l : Login) (page protocol : ℕ) → Does unpaired l (prlo_of l pag
 unfolding prlo_of without_exchanges has_address
 prlo_does l page protocol = does_cond (page_fine page protocol) (takes _ _ (λ b. refl) refl) (rejects _ _)
 
-rrq_does : (l : Login) (from named : ℕ) (place : Found) → Does (λ r. r) l (rrq_of l from named place)
+rrq_does : (l : Login) (from named : ℕ) (place : Option ℕ) → Does (λ r. r) l (rrq_of l from named place)
 unfolding rrq_of
 rrq_does l from named place = does_cond (eqb named from) (by place) (rejects _ _)
   where
-    by : (x : Found) → Does (λ r. r) l (on_found x (λ j. served_as (reply.Reject 0x03 0x17) l) (served_as (reply.Accept accepted.Short) l))
-    by (At j) = rejects _ _
-    by Nothing = takes _ _ (λ b. refl) refl
+    by : (x : Option ℕ) → Does (λ r. r) l (on_found x (λ j. served_as (reply.Reject 0x03 0x17) l) (served_as (reply.Accept accepted.Short) l))
+    by (Some j) = rejects _ _
+    by None = takes _ _ (λ b. refl) refl
 
 -- what ACC of a code stands for: PDISC and ADISC prove, PRLI pairs, PRLO unpairs, RRQ changes nothing
 unfoldable pub effect_of : ℕ → Record → Record
@@ -152,7 +149,7 @@ does_code : {l : Login} (b : Bool) {g k : Record → Record} {s t : Served} → 
 does_code true x y = x
 does_code false x y = y
 
-service_does : (code : ℕ) (l : Login) (sought : ℕ → Found) (from : ℕ) (f : List ℕ) → Does (effect_of code) l (service_of code l sought from f)
+service_does : (code : ℕ) (l : Login) (sought : ℕ → Option ℕ) (from : ℕ) (f : List ℕ) → Does (effect_of code) l (service_of code l sought from f)
 unfolding effect_of service_of
 service_does code l sought from f =
     does_code (eqb code 0x50) (pdisc_does l (params_of f 28))
@@ -161,7 +158,7 @@ service_does code l sought from f =
     (does_code (eqb code 0x21) (prlo_does l (num 3 f 25) (get_or f 28 0)) (rrq_does l from (num 3 f 29) (sought (num 2 f 32))))))
 
 -- a service leaves the login that of the same address, or ends it
-pub service_other : (code : ℕ) (l : Login) (sought : ℕ → Found) (from : ℕ) (f : List ℕ) (a : ℕ) → has_address a l ≡ false → has_address a (service_of code l sought from f).login ≡ false
+pub service_other : (code : ℕ) (l : Login) (sought : ℕ → Option ℕ) (from : ℕ) (f : List ℕ) (a : ℕ) → has_address a l ≡ false → has_address a (service_of code l sought from f).login ≡ false
 service_other code l sought from f a h = by (service_does code l sought from f)
   where
     by : {g : Record → Record} {s : Served} → Does g l s → has_address a s.login ≡ false
@@ -170,7 +167,7 @@ service_other code l sought from f a h = by (service_does code l sought from f)
     by ends = empty_has a
 
 -- the sender's login is at place i
-module _ (p : Port) (a i : ℕ) (at : find_login p a ≡ At i) where
+module _ (p : Port) (a i : ℕ) (at : find_login p a ≡ Some i) where
   does_record : pairs apart_login p.logins ≡ true → {g : Record → Record} {s : Served} → Does g (login_at p i) s
       → AfterService g (record_of p a) s.reply (record_of (served_at p i s).port a)
   does_record d {g} (takes x m h e) = store_record p a i at m (h a ∙ found_has p a i at) ∙ e ∙ ap g (sym (found_record p a i at))
@@ -188,15 +185,15 @@ module _ (p : Port) (a i : ℕ) (at : find_login p a ≡ At i) where
 
   module _ (d : pairs apart_login p.logins ≡ true) where
     -- the service of any code
-    pub service_record : (code : ℕ) (sought : ℕ → Found) (f : List ℕ)
+    pub service_record : (code : ℕ) (sought : ℕ → Option ℕ) (f : List ℕ)
         → AfterService (effect_of code) (record_of p a) (served_at p i (service_of code (login_at p i) sought a f)).reply (record_of (served_at p i (service_of code (login_at p i) sought a f)).port a)
     service_record code sought f = does_record d (service_does code (login_at p i) sought a f)
 
 module _ (p : Port) (d : pairs apart_login p.logins ≡ true) where
   -- PLOGI: what it ends, ends its sender's login
-  ends_record : (v : Verdict) (a n : ℕ) → record_of (changed_all (ends_for v a n) p) a ≡ out
-  ends_record verdict.Accept a n = host_record p d a n
-  ends_record (verdict.Reject t) a n = end_record p d a
+  ends_record : (v : Result ⊤ Fault) (a n : ℕ) → record_of (changed_all (ends_for v a n) p) a ≡ out
+  ends_record (Ok tt) a n = host_record p d a n
+  ends_record (Err t) a n = end_record p d a
 
   pub plogi_record : (a : ℕ) (q : Params) → AfterPlogi q (plogi_of p a q).reply (record_of (plogi_of p a q).port a)
   unfolding plogi_of

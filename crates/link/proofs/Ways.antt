@@ -1,15 +1,15 @@
 -- A law over plain variables for each way through the dispatch and through PLOGI. Assumes nothing.
+use Rattle.std.specs.Prelude.{Some, None, Result, ⊤, Ok, Err, ℕ}
+use Rattle.params.specs.declared.Fault.{Fault}
 use mathlib.Core.Path.{◌≡◌, sym}
 use mathlib.Core.List.{List}
 use Prim.Native.Nat.{ℕ, ◌+◌}
 use lib.ListN.{length, get_or}
 use borrow.Author.Tests.{eq-eqb, ne_eqb}
-use Rattle.tables.specs.declared.Found.TheVariants.{At, Nothing}
 use Rattle.tables.specs.Lists.{on_found}
 use Rattle.wire.specs.Bytes.{num, name_of}
 use Rattle.frame.specs.declared.Header.{Header}
 use Rattle.params.specs.declared.Params.{Params}
-use Rattle.params.specs.declared.Verdict.{Verdict}
 use Rattle.params.specs.Words.{params_of, verdict_of}
 use Rattle.state.specs.declared.Login.{Login}
 use Rattle.state.specs.declared.Port.{Port}
@@ -23,12 +23,11 @@ use Rattle.calls.specs.declared.View.{View}
 use Rattle.calls.specs.declared.Served.{Served}
 use Rattle.calls.specs.declared.Decision.{Decision}
 use Rattle.calls.specs.Turn.{Decided, decided_as, served_at, changes, answers_only, served_in}
-use Rattle.link.specs.declared.Outcome.{Outcome}
-use Rattle.link.specs.declared.Outcome.TheVariants.{Place, Rejected}
+use Rattle.params.specs.declared.Reason.{Reason}
 use Rattle.link.specs.Link.{size_of, outcome_reply, new_login, ends_for, ends_by, plogi_of, logo_of, service_of, link_of}
 use Rattle.link.specs.Turn.{outcome_in, plogi_turn, logo_turn, link_turn}
 
-module _ (keys : List Key) (from : ℕ) (q : Params) (name : ℕ) (v : Verdict) (c : Change) (o : Outcome) (r : Reply)
+module _ (keys : List Key) (from : ℕ) (q : Params) (name : ℕ) (v : Result ⊤ Fault) (c : Change) (o : Result ℕ Reason) (r : Reply)
     (en : name ≡ name_of q.port_name) (ev : v ≡ verdict_of q) (ec : c ≡ ends_for v from name) (eo : o ≡ outcome_in v keys from name) (er : r ≡ outcome_reply o) where
   ends : c ≡ ends_by from q
   ends = rw (ec, ev, en)
@@ -36,12 +35,12 @@ module _ (keys : List Key) (from : ℕ) (q : Params) (name : ℕ) (v : Verdict) 
   outcome : outcome_in (verdict_of q) keys from (name_of q.port_name) ≡ o
   outcome = rw (sym ev, sym en) (sym eo)
 
-  pub plogi_rejected : (a b : ℕ) → o ≡ Rejected a b → changes r c ≡ plogi_turn keys from q
+  pub plogi_rejected : (w : Reason) → o ≡ Err w → changes r c ≡ plogi_turn keys from q
   unfolding plogi_turn
-  plogi_rejected a b e = rw (er, ends, outcome, e)
+  plogi_rejected w e = rw (er, ends, outcome, e)
 
-  pub plogi_placed : (j : ℕ) (m : Login) → o ≡ Place j → m ≡ new_login from q
-      → ◌≡◌ {A = Decision} record { reply = r; change = c; at = At j; login = m } (plogi_turn keys from q)
+  pub plogi_placed : (j : ℕ) (m : Login) → o ≡ Ok j → m ≡ new_login from q
+      → ◌≡◌ {A = Decision} record { reply = r; change = c; at = Some j; login = m } (plogi_turn keys from q)
   unfolding plogi_turn
   plogi_placed j m e em = rw (er, ends, outcome, e, em)
 
@@ -66,11 +65,11 @@ module _ (v : View) (h : Header) (f : List ℕ) (code size : ℕ) (ec : code ≡
         logo_way c e = rw (sym ec, sym es, ne_eqb size 0 nz, eq-eqb (length f) (24 + size) fits, ne_eqb code 3 np, eq-eqb code 5 c) e
 
         module _ (nl : code ≡ 5 → ⊥) where
-          pub no_seat : v.seat ≡ Nothing → d ≡ answers_only reply.Logout → d ≡ link_turn v h f
+          pub no_seat : v.seat ≡ None → d ≡ answers_only reply.Logout → d ≡ link_turn v h f
           unfolding link_turn
           no_seat n e = rw (sym ec, sym es, ne_eqb size 0 nz, eq-eqb (length f) (24 + size) fits, ne_eqb code 3 np, ne_eqb code 5 nl, n) e
 
-          pub at_seat : (i : ℕ) (s : Served) → v.seat ≡ At i → s ≡ service_of code v.login (find_exchange v.login) h.s_id f → d ≡ served_in i s → d ≡ link_turn v h f
+          pub at_seat : (i : ℕ) (s : Served) → v.seat ≡ Some i → s ≡ service_of code v.login (find_exchange v.login) h.s_id f → d ≡ served_in i s → d ≡ link_turn v h f
           unfolding link_turn
           at_seat i s n ev e = rw (sym ec, sym es, ne_eqb size 0 nz, eq-eqb (length f) (24 + size) fits, ne_eqb code 3 np, ne_eqb code 5 nl, n, sym ev) e
 

@@ -1,14 +1,11 @@
 -- What each link service answers and what it stores (document 01, "Link services"; document 02, request 1).
-use Rattle.std.specs.Prelude.{ℕ, ◌+◌, ◌/◌, ◌%◌, Bool, cond, not, ◌&&◌, ◌||◌, List, eqb, length, get_or, replicate}
-use Rattle.tables.specs.declared.Found.{Found}
-use Rattle.tables.specs.declared.Found.TheVariants.{At, Nothing}
+use Rattle.std.specs.Prelude.{ℕ, ◌+◌, ◌/◌, ◌%◌, Bool, cond, not, ◌&&◌, ◌||◌, List, eqb, length, get_or, replicate, Option, Some, None, Ok, Err, Result, ⊤}
+use Rattle.params.specs.declared.Fault.{Fault}
 use Rattle.tables.specs.Lists.{on_found, same}
 use Rattle.wire.specs.Bytes.{num, part, name_of}
 use Rattle.frame.specs.declared.Header.{Header}
 use Rattle.params.specs.declared.Params.{Params}
-use Rattle.params.specs.declared.Verdict.{Verdict}
-use Rattle.params.specs.declared.Verdict.TheVariants as verdict
-use Rattle.params.specs.Words.{params_of, verdict_of, reason_of}
+use Rattle.params.specs.Words.{rejection, params_of, verdict_of, reason_of}
 use Rattle.state.specs.declared.Login.{Login}
 use Rattle.state.specs.declared.Port.{Port}
 use Rattle.state.specs.declared.Change.{Change}
@@ -22,8 +19,7 @@ use Rattle.reply.specs.declared.Accepted.{Accepted}
 use Rattle.reply.specs.declared.Accepted.TheVariants as accepted
 use Rattle.calls.specs.declared.Served.{Served}
 use Rattle.calls.specs.Turn.{Decided, decided_as, served_as, served_at}
-use Rattle.link.specs.declared.Outcome.{Outcome}
-use Rattle.link.specs.declared.Outcome.TheVariants.{Place, Rejected}
+use Rattle.params.specs.declared.Reason.{Reason}
 
 -- "Codes and payload sizes: PLOGI 03h 116, LOGO 05h 16, RRQ 12h 44, PRLI 20h 20, PRLO 21h 20, PDISC 50h 116, ADISC 52h 28"; 0 for another code
 unfoldable pub size_of : ℕ → ℕ
@@ -55,33 +51,33 @@ new_login from q =
     }
 
 -- "a free place, else 09,29"; "the lowest free place"
-abbrev pub room_for : Found → Outcome
-room_for (At i) = Place i
-room_for Nothing = Rejected 0x09 0x29
+abbrev pub room_for : Option ℕ → Result ℕ Reason
+room_for (Some i) = Ok i
+room_for None = Err (rejection 0x09 0x29)
 
 -- the word tests, and then the room test
-abbrev pub outcome_after : Verdict → Found → Outcome
-outcome_after verdict.Accept f = room_for f
-outcome_after (verdict.Reject t) f = Rejected (reason_of t).reason (reason_of t).explanation
+abbrev pub outcome_after : Result ⊤ Fault → Option ℕ → Result ℕ Reason
+outcome_after (Ok tt) f = room_for f
+outcome_after (Err t) f = Err (reason_of t)
 
-unfoldable pub outcome_of : Port → Params → Outcome
+unfoldable pub outcome_of : Port → Params → Result ℕ Reason
 outcome_of p q = outcome_after (verdict_of q) (free_login p)
 
 -- ACC, or LS_RJT with the reason
-abbrev pub outcome_reply : Outcome → Reply
-outcome_reply (Place i) = reply.Accept accepted.Login
-outcome_reply (Rejected r e) = reply.Reject r e
+abbrev pub outcome_reply : Result ℕ Reason → Reply
+outcome_reply (Ok i) = reply.Accept accepted.Login
+outcome_reply (Err w) = reply.Reject w.reason w.explanation
 
 -- an accepted login is stored at its place
-abbrev pub outcome_port : Outcome → Port → Login → Port
-outcome_port (Place i) p l = with_login p i l
-outcome_port (Rejected r e) p l = p
+abbrev pub outcome_port : Result ℕ Reason → Port → Login → Port
+outcome_port (Ok i) p l = with_login p i l
+outcome_port (Err w) p l = p
 
 -- "Of right size, it ends the sender's login and exchanges first, accepted or not";
 -- "A PLOGI whose parameters pass, with a port name logged in at another address, ends that login and its exchanges before the room test" (02, 1)
-abbrev pub ends_for : Verdict → ℕ → ℕ → Change
-ends_for verdict.Accept from name = EndHost from name
-ends_for (verdict.Reject t) from name = EndLogin from
+abbrev pub ends_for : Result ⊤ Fault → ℕ → ℕ → Change
+ends_for (Ok tt) from name = EndHost from name
+ends_for (Err t) from name = EndLogin from
 
 -- what a PLOGI with these parameters ends
 abbrev pub ends_by : ℕ → Params → Change
@@ -102,9 +98,9 @@ abbrev pub proven_as : Accepted → Login → Served
 proven_as a l = served_as (reply.Accept a) (with_proven l 1)
 
 -- PDISC: "tests as PLOGI, without the room test, changing nothing on reject"; "PDISC's [ACC] is PLOGI's"
-abbrev pub proven_by : Verdict → Login → Served
-proven_by verdict.Accept l = proven_as accepted.Login l
-proven_by (verdict.Reject t) l = served_as (reply.Reject (reason_of t).reason (reason_of t).explanation) l
+abbrev pub proven_by : Result ⊤ Fault → Login → Served
+proven_by (Ok tt) l = proven_as accepted.Login l
+proven_by (Err t) l = served_as (reply.Reject (reason_of t).reason (reason_of t).explanation) l
 
 -- PDISC: "Names differ from the login's ..: drive LOGO, login ended"
 unfoldable pub pdisc_of : Login → Params → Served
@@ -143,12 +139,12 @@ unfoldable pub prlo_of : Login → ℕ → ℕ → Served
 prlo_of l page protocol = cond (page_fine page protocol) (served_as (reply.Accept accepted.Unpair) (with_paired (without_exchanges l) 0)) (served_as (reply.Reject 0x09 0x00) l)
 
 -- RRQ: "W1/B1-3 not S_ID 03,15; that OX_ID open 03,17; else ACC of 4 bytes", by the place where that exchange was found
-unfoldable pub rrq_of : Login → ℕ → ℕ → Found → Served
+unfoldable pub rrq_of : Login → ℕ → ℕ → Option ℕ → Served
 rrq_of l from named place =
     cond (eqb named from) (on_found place (λ j. served_as (reply.Reject 0x03 0x17) l) (served_as (reply.Accept accepted.Short) l)) (served_as (reply.Reject 0x03 0x15) l)
 
 -- a service on the sender's login, from the words of the payload: word w starts at byte 24 + 4 w of the frame; sought is where an exchange of that login stands, by its OX_ID
-unfoldable pub service_of : ℕ → Login → (ℕ → Found) → ℕ → List ℕ → Served
+unfoldable pub service_of : ℕ → Login → (ℕ → Option ℕ) → ℕ → List ℕ → Served
 service_of code l sought from f =
     cond (eqb code 0x50) (pdisc_of l (params_of f 28))
     (cond (eqb code 0x52) (adisc_of l from (num 3 f 49) (part 8 f 32) (part 8 f 40))

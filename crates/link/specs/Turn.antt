@@ -1,11 +1,10 @@
 -- What a request to the link services does, told by what changes. `Link.antt` says what it makes of the whole port; that this is the same, at a port that is well formed, is `link_turn_lem` and `abts_turn_lem`.
-use Rattle.std.specs.Prelude.{ℕ, ◌+◌, cond, not, List, eqb, length, get_or}
-use Rattle.tables.specs.declared.Found.TheVariants.{At}
+use Rattle.std.specs.Prelude.{ℕ, ◌+◌, cond, not, List, eqb, length, get_or, Some, Result, ⊤, Ok, Err}
+use Rattle.params.specs.declared.Fault.{Fault}
 use Rattle.tables.specs.Lists.{on_found}
 use Rattle.wire.specs.Bytes.{num, name_of}
 use Rattle.frame.specs.declared.Header.{Header}
 use Rattle.params.specs.declared.Params.{Params}
-use Rattle.params.specs.declared.Verdict.{Verdict}
 use Rattle.params.specs.Words.{params_of, verdict_of}
 use Rattle.state.specs.declared.Login.{Login}
 use Rattle.state.specs.declared.Change.{Change}
@@ -19,18 +18,17 @@ use Rattle.calls.specs.declared.View.{View}
 use Rattle.calls.specs.declared.Decision.{Decision}
 use Rattle.calls.specs.View.{place_for}
 use Rattle.calls.specs.Turn.{changes, answers_only, stores, served_in}
-use Rattle.link.specs.declared.Outcome.{Outcome}
-use Rattle.link.specs.declared.Outcome.TheVariants.{Place, Rejected}
+use Rattle.params.specs.declared.Reason.{Reason}
 use Rattle.link.specs.Link.{size_of, new_login, ends_by, outcome_after, outcome_reply, service_of}
 
 -- the word tests, and then the room test, once the logins of the sender and of its port name have ended
-unfoldable pub outcome_in : Verdict → List Key → ℕ → ℕ → Outcome
+unfoldable pub outcome_in : Result ⊤ Fault → List Key → ℕ → ℕ → Result ℕ Reason
 outcome_in v keys from name = outcome_after v (place_for keys from name)
 
 -- what the PLOGI ends, ends, accepted or not; an accepted login is stored at its place
-abbrev pub login_decision : Outcome → Change → ℕ → Params → Decision
-login_decision (Place j) ends from q = record { reply = outcome_reply (Place j); change = ends; at = At j; login = new_login from q }
-login_decision (Rejected r e) ends from q = changes (outcome_reply (Rejected r e)) ends
+abbrev pub login_decision : Result ℕ Reason → Change → ℕ → Params → Decision
+login_decision (Ok j) ends from q = record { reply = outcome_reply (Ok j); change = ends; at = Some j; login = new_login from q }
+login_decision (Err w) ends from q = changes (outcome_reply (Err w)) ends
 
 unfoldable pub plogi_turn : List Key → ℕ → Params → Decision
 plogi_turn keys from q = login_decision (outcome_in (verdict_of q) keys from (name_of q.port_name)) (ends_by from q) from q

@@ -11,18 +11,16 @@ use calls::{Decision, View, answer_only, change_logins, place_for, serve_at, sto
 use formed::Key;
 use frame::Header;
 use on_login::service;
-use params::{Params, Verdict};
+use params::{Fault, Params, Reason};
 use reply::{Accepted, Reply};
 use state::{Change, Login, empty_login, end_exchange, find_exchange};
-use tables::Found;
 use wire::{be24, byte_at, name_number};
 
-// What becomes of a PLOGI: the place of its login, or why it is rejected.
-#[derive(Clone, Copy)]
-pub enum Outcome {
-    Place(usize),
-    Rejected(u8, u8),
-}
+// Why a login is rejected that no place is free for.
+const NO_ROOM: Reason = Reason {
+    reason: 0x09,
+    explanation: 0x29,
+};
 
 // A request to the link services: other code, wrong size, PLOGI, LOGO, no login, and then the services on the sender's login.
 #[tactic(auto, using(crate::proofs::Ways::other_code, crate::proofs::Ways::wrong_size, crate::proofs::Ways::plogi_way, crate::proofs::Ways::logo_way, crate::proofs::Ways::no_seat))]
@@ -46,7 +44,7 @@ pub fn link(v: View, h: Header, frame: &[u8]) -> Decision
         return logo(from, be24(frame, 29));
     }
     let seat = v.seat;
-    let Found::At(i) = seat else {
+    let Some(i) = seat else {
         return answer_only(Reply::Logout);
     };
     let l = v.login;
@@ -58,7 +56,7 @@ pub fn abts(v: View, h: Header) -> Decision
     ensures { result ≡ abts_turn v h }
 {
     let seat = v.seat;
-    let Found::At(i) = seat else {
+    let Some(i) = seat else {
         return answer_only(Reply::Logout);
     };
     if h.rx_id == 0xffff {
@@ -75,8 +73,8 @@ fn end_named(l: Login, ox_id: u16) -> Login
 {
     let f = find_exchange(l, ox_id);
     match f {
-        Found::At(j) => end_exchange(l, j),
-        Found::Nothing => l,
+        Some(j) => end_exchange(l, j),
+        None => l,
     }
 }
 
@@ -108,52 +106,44 @@ fn plogi(keys: [Key; 8], from: u32, q: Params) -> Decision
     let c = ends_for(v, from, name);
     let o = judged(v, keys, from, name);
     let r = outcome_reply(o);
-    let Outcome::Place(j) = o else {
+    let Ok(j) = o else {
         return change_logins(r, c);
     };
     let m = new_login(from, q);
     Decision {
         reply: r,
         change: c,
-        at: Found::At(j),
+        at: Some(j),
         login: m,
     }
 }
 
 // The logins that end: a PLOGI that fails a word test ends the sender's own and no other.
-fn ends_for(v: Verdict, from: u32, name: u64) -> Change
+fn ends_for(v: Result<(), Fault>, from: u32, name: u64) -> Change
     ensures { result ≡ ends_for v from name }
 {
     match v {
-        Verdict::Accept => Change::EndHost(from, name),
-        Verdict::Reject(_) => Change::EndLogin(from),
+        Ok(()) => Change::EndHost(from, name),
+        Err(_) => Change::EndLogin(from),
     }
 }
 
-fn judged(v: Verdict, keys: [Key; 8], from: u32, name: u64) -> Outcome
+// Where the login of a PLOGI goes, or why it is rejected: the word tests, and then the room test.
+fn judged(v: Result<(), Fault>, keys: [Key; 8], from: u32, name: u64) -> Result<usize, Reason>
     ensures { result ≡ outcome_in v keys from name }
 {
-    match v {
-        Verdict::Reject(t) => {
-            let w = t.why();
-            Outcome::Rejected(w.reason, w.explanation)
-        }
-        Verdict::Accept => {
-            let f = place_for(keys, from, name);
-            match f {
-                Found::At(i) => Outcome::Place(i),
-                Found::Nothing => Outcome::Rejected(0x09, 0x29),
-            }
-        }
+    if let Err(t) = v {
+        return Err(t.why());
     }
+    place_for(keys, from, name).ok_or(NO_ROOM)
 }
 
-fn outcome_reply(o: Outcome) -> Reply
+fn outcome_reply(o: Result<usize, Reason>) -> Reply
     ensures { result ≡ outcome_reply o }
 {
     match o {
-        Outcome::Place(_) => Reply::Accept(Accepted::Login),
-        Outcome::Rejected(reason, explanation) => Reply::Reject(reason, explanation),
+        Ok(_) => Reply::Accept(Accepted::Login),
+        Err(w) => Reply::Reject(w.reason, w.explanation),
     }
 }
 

@@ -7,10 +7,9 @@ ghost use Rattle.state.specs.Tables.{find_exchange};
 ghost use Rattle.link.specs.Link.{proven_as, names_differ, pdisc_of, adisc_of, page_fine, pair_fine, prli_of, prlo_of, rrq_of, service_of};
 
 use calls::{Served, serve_as};
-use params::{Params, Verdict};
+use params::Params;
 use reply::{Accepted, Reply};
 use state::{Login, empty_login, end_exchanges, find_exchange};
-use tables::Found;
 use wire::{be16, be24, byte_at, name_at};
 
 // The services on the sender's login: PDISC, ADISC, PRLI, PRLO, RRQ.
@@ -51,8 +50,8 @@ fn pdisc(l: Login, q: Params) -> Served
     }
     let v = q.verdict();
     match v {
-        Verdict::Accept => proven(Accepted::Login, l),
-        Verdict::Reject(t) => {
+        Ok(()) => proven(Accepted::Login, l),
+        Err(t) => {
             let w = t.why();
             serve_as(Reply::Reject(w.reason, w.explanation), l)
         }
@@ -119,8 +118,8 @@ fn rrq(l: Login, from: u32, named: u32, ox_id: u16) -> Served
     if named == from {
         let f = find_exchange(l, ox_id);
         match f {
-            Found::At(_) => serve_as(Reply::Reject(0x03, 0x17), l),
-            Found::Nothing => serve_as(Reply::Accept(Accepted::Short), l),
+            Some(_) => serve_as(Reply::Reject(0x03, 0x17), l),
+            None => serve_as(Reply::Accept(Accepted::Short), l),
         }
     } else {
         serve_as(Reply::Reject(0x03, 0x15), l)

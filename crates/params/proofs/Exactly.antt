@@ -1,5 +1,6 @@
 -- Accepted exactly when no test fails, and rejected by a test exactly when it is the first that fails.
 -- Assumes nothing.
+use Rattle.std.specs.Prelude.{Result, ⊤, Ok, Err}
 use mathlib.Core.Path.{◌≡◌}
 use mathlib.Core.Bool.{false}
 use Prim.Native.Nat.{ℕ}
@@ -9,10 +10,9 @@ use Rattle.tables.proofs.Firsts.{none_always, first_then, none_then, then_first,
 use Rattle.params.specs.declared.Params.{Params}
 use Rattle.params.specs.declared.Fault.{Fault}
 use Rattle.params.specs.declared.Fault.TheVariants.{BufferSize, PortName, NodeName, ClassThree, DataSize, ConcurrentSequences, OpenSequences}
-use Rattle.params.specs.declared.Verdict.TheVariants.{Accept, Reject}
 use Rattle.params.specs.Words.{fails, faults, verdict_of}
 
-other : (f : Fault) → Reject f ≡ Accept → ⊥
+other : (f : Fault) → ◌≡◌ {A = Result ⊤ Fault} (Err f) (Ok tt) → ⊥
 other f e = let z : ◌≡◌ {A = ℕ} 0 1 = cc in omega arith
 
 module _ (p : Params) where
@@ -27,21 +27,21 @@ module _ (p : Params) where
   each n OpenSequences = n.1.1.1.1.1.1.0
 
   -- accepted: no test fails
-  pub accepted : verdict_of p ≡ Accept → (f : Fault) → fails p f ≡ false
+  pub accepted : verdict_of p ≡ Ok tt → (f : Fault) → fails p f ≡ false
   unfolding verdict_of
-  accepted e = each (then_none (fails p) faults Reject Accept other e)
+  accepted e = each (then_none (fails p) faults Err (Ok tt) other e)
 
   -- no test fails: accepted
-  pub accepts_then : ((f : Fault) → fails p f ≡ false) → verdict_of p ≡ Accept
+  pub accepts_then : ((f : Fault) → fails p f ≡ false) → verdict_of p ≡ (Ok tt)
   unfolding verdict_of
-  accepts_then h = none_then (fails p) faults Reject Accept (none_always (fails p) h faults)
+  accepts_then h = none_then (fails p) faults Err (Ok tt) (none_always (fails p) h faults)
 
   -- rejected by a test: it is the first that fails
-  pub rejected : (f : Fault) → verdict_of p ≡ Reject f → IsFirst (fails p) faults f
+  pub rejected : (f : Fault) → verdict_of p ≡ Err f → IsFirst (fails p) faults f
   unfolding verdict_of
-  rejected f e = then_first (fails p) faults Reject Accept other (λ x y q. cc) f e
+  rejected f e = then_first (fails p) faults Err (Ok tt) other (λ x y q. cc) f e
 
   -- the first test that fails: rejected by it
-  pub rejects_then : (f : Fault) → IsFirst (fails p) faults f → verdict_of p ≡ Reject f
+  pub rejects_then : (f : Fault) → IsFirst (fails p) faults f → verdict_of p ≡ Err f
   unfolding verdict_of
-  rejects_then f i = first_then (fails p) faults Reject Accept i
+  rejects_then f i = first_then (fails p) faults Err (Ok tt) i

@@ -1,13 +1,11 @@
 -- PLOGI's word tests (document 01, "Link services").
-use Rattle.std.specs.Prelude.{ℕ, ◌+◌, ◌-◌, ◌*◌, ◌%◌, Bool, true, false, not, ◌&&◌, ◌||◌, List, [], ◌∷◌, eqb, ltb, get_or}
+use Rattle.std.specs.Prelude.{ℕ, ◌+◌, ◌-◌, ◌*◌, ◌%◌, Bool, true, false, not, ◌&&◌, ◌||◌, List, [], ◌∷◌, eqb, ltb, get_or, Ok, Err, Result, ⊤}
 use Rattle.tables.specs.Lists.{all}
 use Rattle.tables.specs.Firsts.{first_of}
 use Rattle.wire.specs.Bytes.{num, part}
 use Rattle.params.specs.declared.Params.{Params}
 use Rattle.params.specs.declared.Fault.{Fault}
 use Rattle.params.specs.declared.Fault.TheVariants.{BufferSize, PortName, NodeName, ClassThree, DataSize, ConcurrentSequences, OpenSequences}
-use Rattle.params.specs.declared.Verdict.{Verdict}
-use Rattle.params.specs.declared.Verdict.TheVariants.{Accept, Reject}
 use Rattle.params.specs.declared.Reason.{Reason}
 
 -- "W and B are word and byte of the payload": the place of byte b of word w, where word 1 starts at word1
@@ -50,12 +48,12 @@ abbrev pub faults : List Fault
 faults = BufferSize ∷ PortName ∷ NodeName ∷ ClassThree ∷ DataSize ∷ ConcurrentSequences ∷ OpenSequences ∷ []
 
 -- rejected by the first test that fails, accepted where none does
-unfoldable pub verdict_of : Params → Verdict
-verdict_of p = first_of (fails p) faults Reject Accept
+unfoldable pub verdict_of : Params → Result ⊤ Fault
+verdict_of p = first_of (fails p) faults Err (Ok tt)
 
-abbrev pub accepts : Verdict → Bool
-accepts Accept = true
-accepts (Reject f) = false
+abbrev pub accepts : Result ⊤ Fault → Bool
+accepts (Ok tt) = true
+accepts (Err f) = false
 
 -- "which must pass the PLOGI rules below with W20/B1 = 01h"
 unfoldable pub setup_passes : Params → Bool

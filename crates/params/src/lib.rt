@@ -2,7 +2,7 @@
 #![tactic(auto)]
 
 ghost use Rattle.std.specs.Prelude.{◌≡◌};
-ghost use Rattle.params.specs.Words.{params_of, size_fails, zero_name, verdict_of, accepts, setup_passes, reason_of};
+ghost use Rattle.params.specs.Words.{params_of, size_fails, zero_name, verdict_of, setup_passes, reason_of};
 
 use wire::{be16, byte_at, name_at};
 
@@ -35,12 +35,6 @@ pub enum Fault {
     DataSize,
     ConcurrentSequences,
     OpenSequences,
-}
-
-#[derive(Clone, Copy)]
-pub enum Verdict {
-    Accept,
-    Reject(Fault),
 }
 
 // Why a login is rejected, as LS_RJT has it.
@@ -78,33 +72,33 @@ impl Params {
 
     // The word tests in word order: accepted, or rejected by the first test that fails.
     #[tactic(auto, unfolding(crate::specs::Words::verdict_of))]
-    pub fn verdict(self) -> Verdict
+    pub fn verdict(self) -> Result<(), Fault>
         ensures { result ≡ verdict_of self }
     {
         let port = self.port_name;
         let node = self.node_name;
         if size_fails(self.buffer) {
-            return Verdict::Reject(Fault::BufferSize);
+            return Err(Fault::BufferSize);
         }
         if zero_name(port) {
-            return Verdict::Reject(Fault::PortName);
+            return Err(Fault::PortName);
         }
         if zero_name(node) {
-            return Verdict::Reject(Fault::NodeName);
+            return Err(Fault::NodeName);
         }
         if self.class3 < 128 {
-            return Verdict::Reject(Fault::ClassThree);
+            return Err(Fault::ClassThree);
         }
         if size_fails(self.size) {
-            return Verdict::Reject(Fault::DataSize);
+            return Err(Fault::DataSize);
         }
         if self.concurrent == 0 {
-            return Verdict::Reject(Fault::ConcurrentSequences);
+            return Err(Fault::ConcurrentSequences);
         }
         if self.sequences == 0 {
-            return Verdict::Reject(Fault::OpenSequences);
+            return Err(Fault::OpenSequences);
         }
-        Verdict::Accept
+        Ok(())
     }
 
     // Whether a setup may have these in its accept words: the same tests, and W20/B1 = 01h.
@@ -112,22 +106,7 @@ impl Params {
     pub fn pass_setup(self) -> bool
         ensures { result ≡ setup_passes self }
     {
-        if self.verdict().is_accept() {
-            self.sequences == Params::SETUP_SEQUENCES
-        } else {
-            false
-        }
-    }
-}
-
-impl Verdict {
-    fn is_accept(self) -> bool
-        ensures { result ≡ accepts self }
-    {
-        match self {
-            Verdict::Accept => true,
-            Verdict::Reject(_) => false,
-        }
+        self.verdict().is_ok() && self.sequences == Params::SETUP_SEQUENCES
     }
 }
 

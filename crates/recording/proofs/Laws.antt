@@ -1,4 +1,5 @@
 -- Lists laid over others and parts of them, and what is told, over plain values. Assumes nothing.
+use Rattle.std.specs.Prelude.{Ok, Err, Result, ℕ}
 use Prim.Native.Nat.{ℕ, ◌-◌, ◌≤◌, min}
 use mathlib.Core.Path.{◌≡◌, sym, ap, ◌∙◌}
 use mathlib.Core.Bool.{Bool, true, false, cond}
@@ -11,8 +12,6 @@ use borrow.Rule.Slice.PartMut.{mid_of}
 use Rattle.refusal.specs.declared.Refusal.{Refusal}
 use Rattle.refusal.specs.Refusal.{number_of}
 use Rattle.drive.specs.declared.Answer.{Answer}
-use Rattle.refusal.specs.declared.Said.{Said}
-use Rattle.refusal.specs.declared.Said.TheVariants.{Sent, Refused}
 use Rattle.wire.proofs.Fronts.{take_replicate}
 use Rattle.wire.proofs.Parts.{rest_is}
 use Rattle.recording.specs.declared.Line.{Line}
@@ -42,12 +41,12 @@ module _ (l : List ℕ) (n k : ℕ) (e : k ≡ min n (length l)) where
       ]
 
 -- the line of a reply
-pub line_sent : (l : List ℕ) {said : Said} {n k : ℕ} {b : Bool} {r : Line} → said ≡ Sent n → k ≡ min n (length l) → b ≡ all_fill (mid_of k (length l - k) l)
+pub line_sent : (l : List ℕ) {said : Result ℕ Refusal} {n k : ℕ} {b : Bool} {r : Line} → said ≡ Ok n → k ≡ min n (length l) → b ≡ all_fill (mid_of k (length l - k) l)
     → LineIs (answer 0 (take k l) b) r → LineIs (answer_of said l) r
 line_sent l {said} {n} {k} {b} {r} e m f h = rw (e, sym (take_least l n k m), sym (drop_least l n k m), sym (rest_is k l), sym f) h
 
 -- the line of a refusal
-pub line_refused : (l : List ℕ) {said : Said} {x : Refusal} {m : ℕ} {b : Bool} {r : Line} → said ≡ Refused x → m ≡ number_of x → b ≡ all_fill l
+pub line_refused : (l : List ℕ) {said : Result ℕ Refusal} {x : Refusal} {m : ℕ} {b : Bool} {r : Line} → said ≡ Err x → m ≡ number_of x → b ≡ all_fill l
     → LineIs (answer m [] b) r → LineIs (answer_of said l) r
 line_refused l {said} {x} {m} {b} {r} e f g h = rw (e, sym f, sym g) h
 

@@ -1,11 +1,10 @@
 -- The bytes of an answer.
-use Rattle.std.specs.Prelude.{ℕ, ◌≡◌, Bool, cond, List, [], ◌∷◌, ◌++◌, eqb, length, take, drop, replicate}
+use Rattle.std.specs.Prelude.{ℕ, ◌≡◌, Bool, cond, List, [], ◌∷◌, ◌++◌, eqb, length, take, drop, replicate, Ok, Err, Result}
+use Rattle.refusal.specs.declared.Refusal.{Refusal}
 use Rattle.io.specs.Counts.{IsPrefixLen}
 use Rattle.tables.specs.Lists.{all}
 use Rattle.wire.specs.Bytes.{bytes, onto}
 use Rattle.refusal.specs.Refusal.{number_of}
-use Rattle.refusal.specs.declared.Said.{Said}
-use Rattle.refusal.specs.declared.Said.TheVariants.{Sent, Refused}
 use Rattle.recording.specs.declared.Line.{Line}
 
 -- "still holds the fill 5Ah it was lent with": every byte does
@@ -20,9 +19,9 @@ unfoldable pub answer : ℕ → List ℕ → Bool → List ℕ
 answer number reply still = ((number ∷ bytes 2 (length reply)) ++ reply) ++ (flag_of still ∷ [])
 
 -- the answer to a call that left l in the buffer that it was lent: "1 if every byte of the lent buffer after the reply (after a refusal: every byte) still holds the fill"
-abbrev pub answer_of : Said → List ℕ → List ℕ
-answer_of (Sent n) l = answer 0 (take n l) (all_fill (drop n l))
-answer_of (Refused x) l = answer (number_of x) [] (all_fill l)
+abbrev pub answer_of : Result ℕ Refusal → List ℕ → List ℕ
+answer_of (Ok n) l = answer 0 (take n l) (all_fill (drop n l))
+answer_of (Err x) l = answer (number_of x) [] (all_fill l)
 
 -- an answer in a line's 4,100 bytes
 abbrev pub line_for : List ℕ → Line

@@ -1,5 +1,6 @@
 -- The calls: what a record of a letter and a body is answered, and the session after it.
-use Rattle.std.specs.Prelude.{ℕ, ◌+◌, ◌≡◌, Bool, true, false, cond, ◌&&◌, List, [], ◌++◌, eqb, leb, ltb, length, take, drop, get_or, replicate}
+use Rattle.std.specs.Prelude.{ℕ, ◌+◌, ◌≡◌, Bool, true, false, cond, ◌&&◌, List, [], ◌++◌, eqb, leb, ltb, length, take, drop, get_or, replicate, Ok, Err, Result}
+use Rattle.refusal.specs.declared.Refusal.{Refusal}
 use Rattle.io.specs.Counts.{IsPrefixLen}
 use Rattle.wire.specs.Bytes.{num}
 use Rattle.state.specs.declared.Setup.{Setup}
@@ -7,8 +8,6 @@ use Rattle.drive.specs.declared.Drive.{Drive}
 use Rattle.drive.specs.declared.Answer.{Answer}
 use Rattle.drive.specs.declared.Event.{Event}
 use Rattle.drive.specs.declared.Event.TheVariants.{LoopReset, TimeOver, PowerOn}
-use Rattle.refusal.specs.declared.Said.{Said}
-use Rattle.refusal.specs.declared.Said.TheVariants.{Sent, Refused}
 use Rattle.drive.specs.Drive.{no_drive, new_answer, event_answer}
 use Rattle.drive.specs.Entry.{frame_in, frame_in_buffer, frame_in_window, next_frame, next_frame_buffer}
 use Rattle.recording.specs.declared.Session.{Session}
@@ -32,9 +31,9 @@ unfoldable pub told_answer : Session → Answer → List ℕ → Told
 told_answer s a l = told_as (record { made = s.made; drive = a.drive }) (answer_of a.said l)
 
 -- "A refused S leaves the drive as it was"
-abbrev pub kept_by : Said → Session → Drive → Session
-kept_by (Sent n) s d = record { made = true; drive = d }
-kept_by (Refused x) s d = s
+abbrev pub kept_by : Result ℕ Refusal → Session → Drive → Session
+kept_by (Ok n) s d = record { made = true; drive = d }
+kept_by (Err x) s d = s
 
 unfoldable pub made_by : Session → Answer → Told
 made_by s a = told_as (kept_by a.said s a.drive) (answer_of a.said [])

@@ -10,7 +10,6 @@ ghost use Rattle.recording.specs.Calls.{unmade, setup_in, no_call, made_by, fill
 
 use drive::{Answer, Drive, Event, no_drive};
 use lines::{line_of, written};
-use refusal::Said;
 use state::Setup;
 use window::next_frame;
 use wire::{be16, be32, be64, byte_at, put_front};
@@ -233,14 +232,14 @@ fn made(s: Session, a: Answer) -> Told
     let d = a.drive;
     let l = line_of(said, &none);
     match said {
-        Said::Sent(_) => Told {
+        Ok(_) => Told {
             session: Session {
                 made: true,
                 drive: d,
             },
             line: l,
         },
-        Said::Refused(_) => Told {
+        Err(_) => Told {
             session: s,
             line: l,
         },

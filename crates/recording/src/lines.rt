@@ -4,20 +4,20 @@ ghost use Rattle.wire.specs.Bytes.{Wrote};
 ghost use Rattle.recording.specs.Answers.{all_fill, flag_of, answer, answer_of, LineIs};
 
 use crate::Line;
-use refusal::Said;
+use refusal::Refusal;
 use wire::{least, put_front};
 
 // The answer's bytes, from what was said and the lent buffer after it.
-pub(crate) fn line_of(said: Said, lent: &[u8]) -> Line
+pub(crate) fn line_of(said: Result<usize, Refusal>, lent: &[u8]) -> Line
     requires { length lent.now ≤ 4096 }
     ensures { LineIs (answer_of said lent.now) result }
 {
     match said {
-        Said::Sent(n) => {
+        Ok(n) => {
             let k = least(n, lent.len());
             written(0, &lent[..k], untouched(&lent[k..]))
         }
-        Said::Refused(x) => {
+        Err(x) => {
             let none = [0u8; 0];
             written(x.number(), &none, untouched(lent))
         }

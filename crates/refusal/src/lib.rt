@@ -1,4 +1,4 @@
-// Why a call is refused, by the numbers of document 01, and what a call answers.
+// Why a call is refused, by the numbers of document 01.
 #![tactic(auto)]
 
 ghost use Rattle.std.specs.Prelude.{◌≡◌};
@@ -18,13 +18,6 @@ pub enum Refusal {
     NoExchange,
     BadWindow,
     NoWrite,
-}
-
-// What a call answers: the bytes of its reply, 0 for nothing to send, or the refusal.
-#[derive(Clone, Copy)]
-pub enum Said {
-    Sent(usize),
-    Refused(Refusal),
 }
 
 impl Refusal {

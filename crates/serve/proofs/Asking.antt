@@ -1,10 +1,10 @@
 -- What the next frame of an exchange is, by its direction and what is left of it: of a WRITE FCP_XFER_RDY, nothing while data are awaited, and then the response. Assumes nothing.
+use Rattle.std.specs.Prelude.{Some}
 use mathlib.Core.Path.{◌≡◌, refl, sym, ◌∙◌}
 use mathlib.Core.Bool.{Bool, true, false, cond, and-false}
 use Prim.Native.Nat.{ℕ, ◌≤◌}
 use lib.Dec.{eqb}
 use borrow.Author.Tests.{eqb-true, eq-eqb, ne_eqb, le-ltb}
-use Rattle.tables.specs.declared.Found.TheVariants.{At}
 use Rattle.tables.proofs.Bools.{apart}
 use Rattle.state.specs.declared.Exchange.{Exchange}
 use Rattle.state.specs.declared.Port.{Port}
@@ -82,11 +82,11 @@ module _ (e : Exchange) (from : is_write e ≡ true) where
   unfolding reads_more
   write_reads = rw (from, and-false (eqb e.kind kind_blocks))
 
-  pub write_place : (full start len : ℕ) → place_of full e start len ≡ At e.sent
+  pub write_place : (full start len : ℕ) → place_of full e start len ≡ Some e.sent
   unfolding place_of
   write_place full start len = rw write_reads
 
-  pub write_window : (full start len : ℕ) → len ≤ 65536 → window_place full e start len ≡ At e.sent
+  pub write_window : (full start len : ℕ) → len ≤ 65536 → window_place full e start len ≡ Some e.sent
   unfolding window_place
   write_window full start len short = rw (le-ltb 65536 len short) (write_place full start len)
 

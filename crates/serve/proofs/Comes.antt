@@ -1,4 +1,5 @@
 -- Every open exchange of a proven login whose data go to the host is served to its end, with windows that there are. Assumes nothing.
+use Rattle.std.specs.Prelude.{Some}
 use mathlib.Core.Path.{◌≡◌, refl, ap, ◌∙◌}
 use mathlib.Core.Bool.{Bool, true, false, not, ◌&&◌, and-false}
 use mathlib.Core.List.{List, []}
@@ -8,7 +9,6 @@ use native.Mathlib.Omega.{arith}
 use lib.Dec.{eqb}
 use lib.ListN.{length, take, drop, length-take}
 use borrow.Author.Tests.{eqb-true}
-use Rattle.tables.specs.declared.Found.TheVariants.{At}
 use Rattle.cover.specs.Cover.{cut}
 use Rattle.cover.proofs.Cuts.{cut_covers}
 use Rattle.state.specs.declared.Exchange.{Exchange}
@@ -43,7 +43,7 @@ on_unit_lem full e u short reads = let w = reads.wanted in let c = reads.inside 
 -- where the frame's bytes begin in that window
 record Placed (unit : List ℕ) (len full : ℕ) (e : Exchange) : Type 0 where
   k : ℕ
-  is : place_of full e (block e) (length (window_at unit len e)) ≡ At k
+  is : place_of full e (block e) (length (window_at unit len e)) ≡ Some k
 
 module _ (u : Unit) (unit : List ℕ) (long : length unit ≡ 512 * u.capacity) (len : ℕ) (least : 2560 ≤ len) (full : ℕ) (e : Exchange) (most : next_bytes full e ≤ 2048) (more : has_more e ≡ true) (to : is_write e ≡ false) where
   placed_case : (b : Bool) → eqb e.kind kind_blocks ≡ b → (b ≡ true → Reads u e) → Placed unit len full e
@@ -57,7 +57,7 @@ module _ (u : Unit) (unit : List ℕ) (long : length unit ≡ 512 * u.capacity) 
   placed_case false h reads = record { k = e.sent; is = rw h }
 
 -- with nothing left, any window will do
-none_placed : (full : ℕ) (e : Exchange) → has_more e ≡ false → place_of full e 0 0 ≡ At e.sent
+none_placed : (full : ℕ) (e : Exchange) → has_more e ≡ false → place_of full e 0 0 ≡ Some e.sent
 unfolding place_of reads_more
 none_placed full e h = rw (h, and-false (eqb e.kind kind_blocks && not (is_write e)))
 

@@ -1,4 +1,5 @@
 -- One next frame: what it carries and what it leaves, from a port that is well formed. Assumes nothing.
+use Rattle.std.specs.Prelude.{Some}
 use mathlib.Core.Path.{◌≡◌, refl, sym, ap, ◌∙◌}
 use mathlib.Core.Bool.{Bool, true, false, cond}
 use mathlib.Core.List.{List}
@@ -8,7 +9,6 @@ use lib.Dec.{eqb}
 use lib.ListN.{length, take, drop}
 use lib.Seq.{drop-drop}
 use borrow.Author.Tests.{eq-eqb, ltb-true, ltb-false}
-use Rattle.tables.specs.declared.Found.TheVariants.{At}
 use Rattle.tables.proofs.Bools.{apart}
 use Rattle.tables.proofs.Keeping.{all_at}
 use Rattle.cover.specs.Cover.{cut, cover_of}
@@ -114,16 +114,16 @@ next_counted u p a x i j d w o h =
     ap (λ f. f.count) t.1 ∙ sent_counted (full_of p i) (exchange_of p i j) (sending (runs u p a x i j w o) t.2).fits
 
 -- the bytes of a data frame are those of the exchange's data from what was sent on
-module _ (u : Unit) (unit : List ℕ) (full : ℕ) (e : Exchange) (start len k : ℕ) (more : has_more e ≡ true) (to : is_write e ≡ false) (place : place_of full e start (length (cut unit start len)) ≡ At k) where
+module _ (u : Unit) (unit : List ℕ) (full : ℕ) (e : Exchange) (start len k : ℕ) (more : has_more e ≡ true) (to : is_write e ≡ false) (place : place_of full e start (length (cut unit start len)) ≡ Some k) where
   source_case : (b : Bool) → eqb e.kind kind_blocks ≡ b
       → take (next_bytes full e) (drop k (cond b (cut unit start len) (made_bytes u e.kind))) ≡ take (next_bytes full e) (drop e.sent (cond b (drop (512 * e.start) unit) (made_bytes u e.kind)))
   unfolding place_of reads_more
   source_case true r =
-      let c : cover_of (position e) (next_bytes full e) start (length (cut unit start len)) ≡ At k = rw (r, to, more) at place in
+      let c : cover_of (position e) (next_bytes full e) start (length (cut unit start len)) ≡ Some k = rw (r, to, more) at place in
       cut_holds unit (position e) (next_bytes full e) start len k c
       ∙ ap (take (next_bytes full e)) (sym (drop-drop e.sent (512 * e.start) unit))
   source_case false r =
-      let c : At e.sent ≡ At k = rw r at place in
+      let c : Some e.sent ≡ Some k = rw r at place in
       let s : k ≡ e.sent = cc in
       ap (λ (m : ℕ). take (next_bytes full e) (drop m (made_bytes u e.kind))) s
 

@@ -1,4 +1,5 @@
 -- A call that is refused, or for which nothing is sent, changes nothing, and a next frame moves its own exchange alone. Assumes nothing.
+use Rattle.std.specs.Prelude.{Ok}
 use mathlib.Core.Path.{◌≡◌, refl, ap, ◌∙◌}
 use mathlib.Core.Bool.{Bool, true, false, cond}
 use mathlib.Core.List.{List, [], ◌++◌}
@@ -14,7 +15,6 @@ use Rattle.wire.proofs.Fronts.{onto_nil}
 use Rattle.frame.specs.declared.Header.{Header}
 use Rattle.frame.specs.Head.{header_bytes}
 use Rattle.frame.proofs.Trips.{length_header}
-use Rattle.refusal.specs.declared.Said.TheVariants.{Sent}
 use Rattle.state.specs.declared.Exchange.{Exchange}
 use Rattle.state.specs.declared.Login.{Login}
 use Rattle.state.specs.declared.Port.{Port}
@@ -102,7 +102,7 @@ module _ (u : Unit) (p : Port) (a x start : ℕ) (W : List ℕ) where
 
   -- where nothing is sent, the call says 0 bytes and leaves the port
   pub silent_next : (i j k : ℕ) → step_of p a x start (length W) ≡ Frame i j k → silent (next_reply (full_of p i) (exchange_of p i j)) ≡ true
-      → next_of u p a x start W ≡ record { said = Sent 0; port = p }
+      → next_of u p a x start W ≡ record { said = Ok 0; port = p }
   unfolding next_of
   silent_next i j k e s = rw (e, silent_bytes u p a x W i j k s, same_port p i j (silent_stays (full_of p i) (exchange_of p i j) s))
 

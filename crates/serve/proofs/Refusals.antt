@@ -1,17 +1,16 @@
 -- A next frame is refused by the first of 9, 7, 10 that applies, and given where none does. Assumes nothing.
+use Rattle.std.specs.Prelude.{Some, None, Ok, Err, Result, ℕ}
+use Rattle.refusal.specs.declared.Refusal.{Refusal}
 use mathlib.Core.Path.{◌≡◌, refl}
 use mathlib.Core.Bool.{Bool, true, false, cond, not, ◌&&◌, ◌||◌}
 use mathlib.Core.List.{List}
 use Prim.Native.Nat.{ℕ}
 use lib.Dec.{eqb, ltb}
 use lib.ListN.{length}
-use Rattle.tables.specs.declared.Found.TheVariants.{At, Nothing}
 use Rattle.tables.specs.Lists.{on_found}
 use Rattle.tables.specs.Firsts.{first_of}
 use Rattle.cover.specs.Cover.{cover_of}
 use Rattle.refusal.specs.declared.Refusal.TheVariants.{NoExchange, Unproven, BadWindow}
-use Rattle.refusal.specs.declared.Said.{Said}
-use Rattle.refusal.specs.declared.Said.TheVariants as said
 use Rattle.state.specs.declared.Port.{Port}
 use Rattle.state.specs.declared.Unit.{Unit}
 use Rattle.state.specs.Standing.{Standing}
@@ -23,13 +22,13 @@ use Rattle.serve.specs.Refusals.{covers, no_exchange, unproven_there, bad_window
 
 module _ (u : Unit) (p : Port) (a x start : ℕ) (W : List ℕ) where
   -- s is the refusal of the first of the three tests that holds, or a frame was given
-  record By (none unproven window : Bool) (s : Said) : Type 0 where
+  record By (none unproven window : Bool) (s : Result ℕ Refusal) : Type 0 where
     n : ℕ
-    is : s ≡ cond none (said.Refused NoExchange) (cond unproven (said.Refused Unproven) (cond window (said.Refused BadWindow) (said.Sent n)))
+    is : s ≡ cond none (Err NoExchange) (cond unproven (Err Unproven) (cond window (Err BadWindow) (Ok n)))
 
   -- the window, by its length and by what it holds
   by_window : (i j m k : ℕ) (long reads held : Bool)
-      → By false false (long || reads && not held) (next_at (on_found (cond long Nothing (cond reads (cond held (At m) Nothing) (At k))) (λ h. Frame i j h) (Refused BadWindow)) u p a x W).said
+      → By false false (long || reads && not held) (next_at (on_found (cond long None (cond reads (cond held (Some m) None) (Some k))) (λ h. Frame i j h) (Refused BadWindow)) u p a x W).said
   by_window i j m k true reads held = record { n = 0; is = refl }
   by_window i j m k false true true = record { n = _; is = refl }
   by_window i j m k false true false = record { n = 0; is = refl }
@@ -49,7 +48,7 @@ module _ (u : Unit) (p : Port) (a x start : ℕ) (W : List ℕ) where
   -- the refusal of the first that applies, or a frame of n bytes
   pub record NextSays : Type 0 where
     pub n : ℕ
-    pub is : (next_of u p a x start W).said ≡ first_of (applies_next p a x start (length W)) served_order said.Refused (said.Sent n)
+    pub is : (next_of u p a x start W).said ≡ first_of (applies_next p a x start (length W)) served_order Err (Ok n)
 
   pub next_says : NextSays
   unfolding next_of step_of

@@ -1,17 +1,15 @@
 -- What a next frame does, told by what changes, is what it makes of the whole port, where the port's logins are fine and the buffer has room; and it changes one login at most, the caller's.
 -- Assumes nothing.
+use Rattle.std.specs.Prelude.{Option, Some, None, Err}
 use mathlib.Core.Path.{◌≡◌, refl, sym, ap, ◌∙◌}
 use mathlib.Core.Bool.{Bool, true, false, cond, not}
 use mathlib.Core.List.{List}
 use Prim.Native.Nat.{ℕ}
 use lib.Dec.{eqb, ltb}
 use lib.ListN.{length}
-use Rattle.tables.specs.declared.Found.{Found}
-use Rattle.tables.specs.declared.Found.TheVariants.{At, Nothing}
 use Rattle.tables.specs.Lists.{all, on_found}
 use Rattle.refusal.specs.declared.Refusal.{Refusal}
 use Rattle.refusal.specs.declared.Refusal.TheVariants.{NoExchange, Unproven, BadWindow}
-use Rattle.refusal.specs.declared.Said.TheVariants as said
 use Rattle.state.specs.declared.Change.TheVariants.{Keep}
 use Rattle.state.specs.declared.Port.{Port}
 use Rattle.state.specs.declared.Unit.{Unit}
@@ -39,7 +37,7 @@ on_step (Refused y) refuse frame = refuse y
 on_step (Frame i j k) refuse frame = frame i j k
 
 -- a turn is a refusal, or a frame of an exchange of the login that is seen
-turn_cases : (v : View) (a x start : ℕ) (W : List ℕ) (room : ℕ) (P : Turn → Type 0) → ((y : Refusal) → P (refused_turn y)) → ((i j k : ℕ) → v.seat ≡ At i → P (frame_turn v a x i j k W room))
+turn_cases : (v : View) (a x start : ℕ) (W : List ℕ) (room : ℕ) (P : Turn → Type 0) → ((y : Refusal) → P (refused_turn y)) → ((i j k : ℕ) → v.seat ≡ Some i → P (frame_turn v a x i j k W room))
     → P (next_turn v a x start W room)
 unfolding next_turn
 turn_cases v a x start W room P refused frame =
@@ -57,27 +55,27 @@ module _ (u : Unit) (p : Port) (a x start : ℕ) (W : List ℕ) (fine : all (log
   abbrev v : View
   v = view_of u p a
 
-  seen : (i : ℕ) → v.seat ≡ At i → v.login ≡ login_at p i
+  seen : (i : ℕ) → v.seat ≡ Some i → v.login ≡ login_at p i
   seen i e = view_login u p a fine i (sym (view_seat u p a fine) ∙ e)
 
   -- the refusals in their order, on what is seen and on the port
   module _ {A : Type 0} (refuse : Refusal → A) (frame : ℕ → ℕ → ℕ → A) where
-    tested : (b : Bool) (f : Found) (i j : ℕ) → cond (not b) (refuse Unproven) (on_found f (λ k. frame i j k) (refuse BadWindow))
+    tested : (b : Bool) (f : Option ℕ) (i j : ℕ) → cond (not b) (refuse Unproven) (on_found f (λ k. frame i j k) (refuse BadWindow))
         ≡ on_step (cond (not b) (Refused Unproven) (on_found f (λ k. Frame i j k) (Refused BadWindow))) refuse frame
     tested false f i j = refl
-    tested true (At k) i j = refl
-    tested true Nothing i j = refl
+    tested true (Some k) i j = refl
+    tested true None i j = refl
 
     open_is : (len : ℕ) → on_open v x start len frame (refuse NoExchange) (refuse Unproven) (refuse BadWindow) ≡ on_step (step_of p a x start len) refuse frame
     unfolding step_of open_step
     open_is len = by v.seat (find_exchange v.login x) refl ∙ sym (ap (λ (s : Standing). on_step (step_at s p start len) refuse frame) (lookup_seen u p a fine x))
       where
-        by : (s g : Found) → v.seat ≡ s
+        by : (s g : Option ℕ) → v.seat ≡ s
             → on_found s (λ i. on_found g (λ j. cond (not (eqb v.login.proven 1)) (refuse Unproven) (on_found (window_place (full_in v) (exchange_in v j) start len) (λ k. frame i j k) (refuse BadWindow))) (refuse NoExchange)) (refuse NoExchange)
             ≡ on_step (step_at (standing_in s g) p start len) refuse frame
-        by (At i) (At j) e = rw (seen i e) (tested (eqb (login_at p i).proven 1) (window_place (full_of p i) (exchange_of p i j) start len) i j)
-        by (At i) Nothing e = refl
-        by Nothing g e = refl
+        by (Some i) (Some j) e = rw (seen i e) (tested (eqb (login_at p i).proven 1) (window_place (full_of p i) (exchange_of p i j) start len) i j)
+        by (Some i) None e = refl
+        by None g e = refl
 
   -- a frame is one of the login that is seen
   frame_seen : (i j k : ℕ) → step_of p a x start (length W) ≡ Frame i j k → v.login ≡ login_at p i
@@ -90,7 +88,7 @@ module _ (u : Unit) (p : Port) (a x start : ℕ) (W : List ℕ) (fine : all (log
 
     turn_at : (s : Step) → step_of p a x start (length W) ≡ s → next_by p (on_step s refused_turn frame) ≡ next_at s u p a x W
     unfolding own_of frame_bytes sent_of moved_on
-    turn_at (Refused y) e = ap (λ (q : Port). record { said = said.Refused y; port = q }) (keep_is p)
+    turn_at (Refused y) e = ap (λ (q : Port). record { said = Err y; port = q }) (keep_is p)
     turn_at (Frame i j k) e = rw (view_unit u p a, view_own u p a, frame_seen i j k e, keep_is p, roomy)
 
     pub next_turn_lem : next_by p (next_turn (view_of u p a) a x start W room) ≡ next_of u p a x start W

@@ -1,4 +1,5 @@
 -- A law over plain variables for each way through a function. Assumes nothing.
+use Rattle.std.specs.Prelude.{Option, Some, None, Ok}
 use mathlib.Core.Path.{◌≡◌, refl, sym, ap, ◌∙◌}
 use mathlib.Core.List.{List, [], ◌∷◌, append-nil}
 use Prim.Native.Nat.{ℕ, ◌-◌, ◌%◌, ◌≤◌}
@@ -6,12 +7,9 @@ use native.Mathlib.Omega.{arith}
 use lib.ListN.{length, get_or, replicate}
 use lib.Seq.{take_all}
 use borrow.Author.Tests.{eq-eqb, ne_eqb}
-use Rattle.tables.specs.declared.Found.{Found}
-use Rattle.tables.specs.declared.Found.TheVariants.{At, Nothing}
 use Rattle.wire.specs.Bytes.{bytes, onto, over}
 use Rattle.wire.proofs.Digits.{bytes_mod}
 use Rattle.refusal.specs.declared.Refusal.TheVariants.{NoExchange, Unproven, BadWindow}
-use Rattle.refusal.specs.declared.Said.TheVariants.{Sent}
 use Rattle.state.specs.declared.Change.TheVariants.{Keep}
 use Rattle.state.specs.declared.Exchange.{Exchange}
 use Rattle.state.specs.declared.Login.{Login}
@@ -48,32 +46,32 @@ module _ (v : View) (a x start : ℕ) (W R : List ℕ) (t : Turn) where
   abbrev Says : List ℕ → Type 0
   Says R₁ = (t ≡ next_turn v a x start W (length R)) × (R₁ ≡ next_turn_buffer v a x start W R)
 
-  pub no_login_lem : v.seat ≡ Nothing → t ≡ refused_turn NoExchange → Says R
+  pub no_login_lem : v.seat ≡ None → t ≡ refused_turn NoExchange → Says R
   unfolding next_turn next_turn_buffer
   no_login_lem s e = rw s (e, refl)
 
-  module _ (i : ℕ) (seat : v.seat ≡ At i) where
-    module _ (g : Found) (eg : g ≡ find_exchange v.login x) where
-      pub no_exchange_lem : g ≡ Nothing → t ≡ refused_turn NoExchange → Says R
+  module _ (i : ℕ) (seat : v.seat ≡ Some i) where
+    module _ (g : Option ℕ) (eg : g ≡ find_exchange v.login x) where
+      pub no_exchange_lem : g ≡ None → t ≡ refused_turn NoExchange → Says R
       unfolding next_turn next_turn_buffer
       no_exchange_lem none e = rw (seat, sym eg ∙ none) (e, refl)
 
-      module _ (j : ℕ) (place : g ≡ At j) where
+      module _ (j : ℕ) (place : g ≡ Some j) where
         pub not_proven : (v.login.proven ≡ 1 → ⊥) → t ≡ refused_turn Unproven → Says R
         unfolding next_turn next_turn_buffer
         not_proven h e = rw (seat, sym eg ∙ place, ne_eqb v.login.proven 1 h) (e, refl)
 
-        module _ (proven : v.login.proven ≡ 1) (e : Exchange) (ee : e ≡ exchange_at v.login j) (w : Found) (ew : w ≡ window_place (full_frame v.login.size) e start (length W)) where
-          pub no_window : w ≡ Nothing → t ≡ refused_turn BadWindow → Says R
+        module _ (proven : v.login.proven ≡ 1) (e : Exchange) (ee : e ≡ exchange_at v.login j) (w : Option ℕ) (ew : w ≡ window_place (full_frame v.login.size) e start (length W)) where
+          pub no_window : w ≡ None → t ≡ refused_turn BadWindow → Says R
           unfolding next_turn next_turn_buffer
           no_window none d = rw (seat, sym eg ∙ place, eq-eqb v.login.proven 1 proven, sym ee, sym ew ∙ none) (d, refl)
 
-          pub frame_given : (k : ℕ) (h : Header) (n : ℕ) (R₁ : List ℕ) (f : Exchange) (m : Login) → w ≡ At k
+          pub frame_given : (k : ℕ) (h : Header) (n : ℕ) (R₁ : List ℕ) (f : Exchange) (m : Login) → w ≡ Some k
               → h ≡ asked_by v.own.address a x
               → n ≡ sent_of v.own h (next_reply (full_frame v.login.size) e) (source_of v.unit e k W) (length R)
               → R₁ ≡ written_of v.own h (next_reply (full_frame v.login.size) e) (source_of v.unit e k W) R
               → f ≡ next_exchange (full_frame v.login.size) e → m ≡ with_exchange v.login j f
-              → t ≡ record { said = Sent n; change = Keep; at = At i; login = m } → Says R₁
+              → t ≡ record { said = Ok n; change = Keep; at = Some i; login = m } → Says R₁
           unfolding next_turn next_turn_buffer
           frame_given k h n R₁ f m some eh en er ef em et =
               rw (seat, sym eg ∙ place, eq-eqb v.login.proven 1 proven, sym ee, sym ew ∙ some) (et ∙ rw (en, em, ef, eh), er ∙ rw eh)

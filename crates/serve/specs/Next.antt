@@ -1,15 +1,11 @@
 -- The next frame of an open exchange (document 01, "Commands" and "Numbers returned for refused calls"; document 02, request 2).
-use Rattle.std.specs.Prelude.{ℕ, ◌+◌, ◌-◌, min, Bool, cond, not, ◌&&◌, List, eqb, ltb, length, drop}
-use Rattle.tables.specs.declared.Found.{Found}
-use Rattle.tables.specs.declared.Found.TheVariants.{At, Nothing}
+use Rattle.std.specs.Prelude.{ℕ, ◌+◌, ◌-◌, min, Bool, cond, not, ◌&&◌, List, eqb, ltb, length, drop, Option, Some, None, Ok, Err, Result}
 use Rattle.tables.specs.Lists.{on_found}
 use Rattle.wire.specs.Bytes.{onto}
 use Rattle.frame.specs.declared.Header.{Header}
 use Rattle.cover.specs.Cover.{position_of, cover_of, too_long}
 use Rattle.refusal.specs.declared.Refusal.{Refusal}
 use Rattle.refusal.specs.declared.Refusal.TheVariants.{NoExchange, Unproven, BadWindow}
-use Rattle.refusal.specs.declared.Said.{Said}
-use Rattle.refusal.specs.declared.Said.TheVariants as said
 use Rattle.state.specs.declared.Exchange.{Exchange}
 use Rattle.state.specs.declared.Login.{Login}
 use Rattle.state.specs.declared.Port.{Port}
@@ -41,12 +37,12 @@ abbrev pub position : Exchange → ℕ
 position e = position_of e.start e.sent
 
 -- where the next frame's data begin: in the window for READ data, else among the made data
-unfoldable pub place_of : ℕ → Exchange → ℕ → ℕ → Found
-place_of full e start len = cond (reads_more e) (cover_of (position e) (next_bytes full e) start len) (At e.sent)
+unfoldable pub place_of : ℕ → Exchange → ℕ → ℕ → Option ℕ
+place_of full e start len = cond (reads_more e) (cover_of (position e) (next_bytes full e) start len) (Some e.sent)
 
 -- "a window: .. at most 65,536 bytes": in a longer one nowhere
-unfoldable pub window_place : ℕ → Exchange → ℕ → ℕ → Found
-window_place full e start len = cond (too_long len) Nothing (place_of full e start len)
+unfoldable pub window_place : ℕ → Exchange → ℕ → ℕ → Option ℕ
+window_place full e start len = cond (too_long len) None (place_of full e start len)
 
 -- "OFFSET is the byte offset; SEQ_CNT the frame's number"; "A frame carries the login's W18 size, 2,048 at most, or what is left"
 unfoldable pub frame_of : ℕ → Exchange → DataFrame
@@ -128,13 +124,13 @@ moved_on p i j = with_login p i (with_exchange (login_at p i) j (next_exchange (
 
 -- what is said, and the port after it
 pub record Next : Type 0 where
-  pub said : Said
+  pub said : Result ℕ Refusal
   pub port : Port
 
 -- a refusal leaves "the state unchanged"; otherwise the frame's "length in the answer"
 abbrev pub next_at : Step → Unit → Port → ℕ → ℕ → List ℕ → Next
-next_at (Refused y) u p a x W = record { said = said.Refused y; port = p }
-next_at (Frame i j k) u p a x W = record { said = said.Sent (length (frame_bytes u p a x i j k W)); port = moved_on p i j }
+next_at (Refused y) u p a x W = record { said = Err y; port = p }
+next_at (Frame i j k) u p a x W = record { said = Ok (length (frame_bytes u p a x i j k W)); port = moved_on p i j }
 
 unfoldable pub next_of : Unit → Port → ℕ → ℕ → ℕ → List ℕ → Next
 next_of u p a x start W = next_at (step_of p a x start (length W)) u p a x W

@@ -1,10 +1,8 @@
 -- What a next frame does, told by what changes. `Next.antt` says what it makes of the whole port; that this is the same, at a port that is well formed, is `next_turn_lem`.
-use Rattle.std.specs.Prelude.{ℕ, cond, not, List, eqb, length}
-use Rattle.tables.specs.declared.Found.TheVariants.{At}
+use Rattle.std.specs.Prelude.{ℕ, cond, not, List, eqb, length, Some, Ok}
 use Rattle.tables.specs.Lists.{on_found}
 use Rattle.frame.specs.declared.Header.{Header}
 use Rattle.refusal.specs.declared.Refusal.TheVariants.{NoExchange, Unproven, BadWindow}
-use Rattle.refusal.specs.declared.Said.TheVariants.{Sent}
 use Rattle.state.specs.declared.Exchange.{Exchange}
 use Rattle.state.specs.declared.Login.{Login}
 use Rattle.state.specs.declared.Port.{Port}
@@ -40,7 +38,7 @@ login_on v j = with_exchange v.login j (next_exchange (full_in v) (exchange_in v
 -- the frame of the exchange at place j of the login at place i, its data from place k on
 abbrev pub frame_turn : View → ℕ → ℕ → ℕ → ℕ → ℕ → List ℕ → ℕ → Turn
 frame_turn v a x i j k W room =
-    record { said = Sent (sent_of v.own (asked_in v a x) (reply_in v j) (source_of v.unit (exchange_in v j) k W) room); change = Keep; at = At i; login = login_on v j }
+    record { said = Ok (sent_of v.own (asked_in v a x) (reply_in v j) (source_of v.unit (exchange_in v j) k W) room); change = Keep; at = Some i; login = login_on v j }
 
 -- by the refusals in their order, "9, 7, 10"
 abbrev pub on_open : {A : Type 0} → View → ℕ → ℕ → ℕ → (ℕ → ℕ → ℕ → A) → A → A → A → A

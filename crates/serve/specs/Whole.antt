@@ -1,8 +1,7 @@
 -- What the theorems of this crate speak of: what a next frame changes, and all the frames of an exchange one after the other.
-use Rattle.std.specs.Prelude.{ℕ, ◌+◌, ◌-◌, ◌*◌, ◌%◌, ◌≡◌, Bool, true, false, cond, not, List, [], ◌∷◌, ◌++◌, eqb, length, take, drop}
+use Rattle.std.specs.Prelude.{ℕ, ◌+◌, ◌-◌, ◌*◌, ◌%◌, ◌≡◌, Bool, true, false, cond, not, List, [], ◌∷◌, ◌++◌, eqb, length, take, drop, Ok, Err, Result}
+use Rattle.refusal.specs.declared.Refusal.{Refusal}
 use Rattle.cover.specs.Cover.{cut}
-use Rattle.refusal.specs.declared.Said.{Said}
-use Rattle.refusal.specs.declared.Said.TheVariants.{Sent, Refused}
 use Rattle.state.specs.declared.Exchange.{Exchange}
 use Rattle.state.specs.declared.Port.{Port}
 use Rattle.state.specs.declared.Unit.{Unit}
@@ -21,9 +20,9 @@ use Rattle.serve.specs.Made.{made_bytes}
 use Rattle.serve.specs.Next.{next_reply, next_exchange, source_of, asked_by, exchange_of, full_of, Frame, step_of, next_of}
 
 -- a frame was given: the call was not refused, and there was something to send
-abbrev pub is_sent : Said → Bool
-is_sent (Sent n) = not (eqb n 0)
-is_sent (Refused y) = false
+abbrev pub is_sent : Result ℕ Refusal → Bool
+is_sent (Ok n) = not (eqb n 0)
+is_sent (Err y) = false
 
 -- q is the port p after a next frame of the exchange of a and x: this exchange has moved on, and its login's other exchanges and fields, the other logins and the setup are as they were
 pub record MovedOnly (p : Port) (a x : ℕ) (q : Port) : Type 0 where

@@ -14,14 +14,13 @@ use calls::{Turn, View, refuse_turn};
 use cover::{covered, too_long};
 use formed::{full_frame, total_of};
 use frame::Header;
-use refusal::{Refusal, Said};
+use refusal::Refusal;
 use reply::{DataFrame, Reply, Response, Sense, put_sense, sense_with, write};
 use residual::residual_of;
 use state::{
     Change, Exchange, Own, Unit, advance, ask_data, empty_exchange, exchange_at, find_exchange,
     put_exchange,
 };
-use tables::Found;
 use wire::{bytes4, least, put_at, put_front};
 
 // The next frame of the exchange of an address and an OX_ID, from a window of the unit's bytes that starts at a block; v is what a call of that address sees.
@@ -33,17 +32,17 @@ pub fn next(v: View, address: u32, ox_id: u16, start: u64, window: &[u8], reply:
 {
     let seat = v.seat;
     let l = v.login;
-    let Found::At(i) = seat else {
+    let Some(i) = seat else {
         return refuse_turn(Refusal::NoExchange);
     };
-    let Found::At(j) = find_exchange(l, ox_id) else {
+    let Some(j) = find_exchange(l, ox_id) else {
         return refuse_turn(Refusal::NoExchange);
     };
     if l.proven != 1 {
         return refuse_turn(Refusal::Unproven);
     }
     let e = exchange_at(l, j);
-    let Found::At(k) = window_place(l.size, e, start, window.len()) else {
+    let Some(k) = window_place(l.size, e, start, window.len()) else {
         return refuse_turn(Refusal::BadWindow);
     };
     let o = v.own;
@@ -52,31 +51,31 @@ pub fn next(v: View, address: u32, ox_id: u16, start: u64, window: &[u8], reply:
     let f = next_exchange(l.size, e);
     let m = put_exchange(l, j, f);
     Turn {
-        said: Said::Sent(n),
+        said: Ok(n),
         change: Change::Keep,
-        at: Found::At(i),
+        at: Some(i),
         login: m,
     }
 }
 
 // The same in a window of at most 65,536 bytes; in a longer one nowhere.
-fn window_place(size: u16, e: Exchange, start: u64, len: usize) -> Found
+fn window_place(size: u16, e: Exchange, start: u64, len: usize) -> Option<usize>
     ensures { result ≡ window_place (full_frame size) e start len }
 {
     if too_long(len) {
-        return Found::Nothing;
+        return None;
     }
     place_of(size, e, start, len)
 }
 
 // Where the frame's first byte stands: of READ data in the window, if that holds all of the frame's bytes; of made data among these.
-fn place_of(size: u16, e: Exchange, start: u64, len: usize) -> Found
+fn place_of(size: u16, e: Exchange, start: u64, len: usize) -> Option<usize>
     ensures { result ≡ place_of (full_frame size) e start len }
 {
     if reads_more(e) {
         return covered(e.start, e.sent, next_bytes(size, e), start, len);
     }
-    Found::At(e.sent as usize)
+    Some(e.sent as usize)
 }
 
 // Whether the next frame carries READ data.

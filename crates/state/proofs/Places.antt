@@ -1,8 +1,6 @@
 -- What the places of an open exchange tell of the tables, and what a change at these places leaves. Assumes nothing.
-use Rattle.std.proofs.Common.{◌≡◌, ℕ, ◌<◌, true, false, not, eqb, length, get_or, sym, refl, ap, ◌∙◌, arith, get_or-set_other, get_or-set_same, set-set}
+use Rattle.std.proofs.Common.{◌≡◌, ℕ, ◌<◌, true, false, not, eqb, length, get_or, sym, refl, ap, ◌∙◌, arith, get_or-set_other, get_or-set_same, set-set, Option, Some, None}
 use borrow.Author.Tests.{not-true}
-use Rattle.tables.specs.declared.Found.{Found}
-use Rattle.tables.specs.declared.Found.TheVariants.{At, Nothing}
 use Rattle.tables.specs.Lists.{on_found}
 use Rattle.tables.proofs.Bools.{and_left}
 use Rattle.tables.proofs.Searches.{found_below, found_passes, same_found}
@@ -13,22 +11,22 @@ use Rattle.state.specs.Standing.{Open, NoExchange}
 use Rattle.state.specs.Changes.{empty_exchange, empty_login, is_used, has_address, login_at, exchange_at, with_login, with_exchange, is_closed}
 use Rattle.state.specs.Tables.{has_id, find_login, find_exchange, login_in, login_of, standing_in, lookup_of}
 
-inner_place : (k i j : ℕ) (g : Found) → on_found g (λ n. Open k n) (NoExchange k) ≡ Open i j → (k ≡ i) × (g ≡ At j)
-inner_place k i j (At n) e = ((cc), ap At (cc))
-inner_place k i j Nothing e = let z : ◌≡◌ {A = ℕ} 0 1 = cc in absurd (omega arith)
+inner_place : (k i j : ℕ) (g : Option ℕ) → on_found g (λ n. Open k n) (NoExchange k) ≡ Open i j → (k ≡ i) × (g ≡ Some j)
+inner_place k i j (Some n) e = ((cc), ap Some (cc))
+inner_place k i j None e = let z : ◌≡◌ {A = ℕ} 0 1 = cc in absurd (omega arith)
 
-outer_place : (p : Port) (x i j : ℕ) (g : Found) → standing_in g (find_exchange (login_in p g) x) ≡ Open i j → (g ≡ At i) × (find_exchange (login_at p i) x ≡ At j)
-outer_place p x i j (At k) e =
+outer_place : (p : Port) (x i j : ℕ) (g : Option ℕ) → standing_in g (find_exchange (login_in p g) x) ≡ Open i j → (g ≡ Some i) × (find_exchange (login_at p i) x ≡ Some j)
+outer_place p x i j (Some k) e =
     let h = inner_place k i j (find_exchange (login_at p k) x) e in
-    (ap At h.0, ap (λ (m : ℕ). find_exchange (login_at p m) x) (sym h.0) ∙ h.1)
-outer_place p x i j Nothing e = let z : ◌≡◌ {A = ℕ} 0 1 = cc in absurd (omega arith)
+    (ap Some h.0, ap (λ (m : ℕ). find_exchange (login_at p m) x) (sym h.0) ∙ h.1)
+outer_place p x i j None e = let z : ◌≡◌ {A = ℕ} 0 1 = cc in absurd (omega arith)
 
 -- the login that is found is used and has the address
-pub found_has : (p : Port) (a i : ℕ) → find_login p a ≡ At i → has_address a (login_at p i) ≡ true
+pub found_has : (p : Port) (a i : ℕ) → find_login p a ≡ Some i → has_address a (login_at p i) ≡ true
 unfolding find_login login_at
 found_has p a i e = found_passes empty_login (has_address a) p.logins e
 
-pub found_used : (p : Port) (a i : ℕ) → find_login p a ≡ At i → is_used (login_at p i) ≡ true
+pub found_used : (p : Port) (a i : ℕ) → find_login p a ≡ Some i → is_used (login_at p i) ≡ true
 unfolding has_address
 found_used p a i e = and_left (is_used (login_at p i)) (eqb (login_at p i).address a) (found_has p a i e)
 
@@ -39,11 +37,11 @@ stored_at p i m below = get_or-set_same p.logins i m empty_login below
 
 module _ (p : Port) (a x i j : ℕ) (e : lookup_of p a x ≡ Open i j) where
   -- an open exchange stands at the login of its address
-  pub open_place : find_login p a ≡ At i
+  pub open_place : find_login p a ≡ Some i
   unfolding lookup_of login_of
   open_place = (outer_place p x i j (find_login p a) e).0
 
-  pub open_exchange : find_exchange (login_at p i) x ≡ At j
+  pub open_exchange : find_exchange (login_at p i) x ≡ Some j
   unfolding lookup_of login_of
   open_exchange = (outer_place p x i j (find_login p a) e).1
 
@@ -80,11 +78,11 @@ module _ (p : Port) (a x i j : ℕ) (e : lookup_of p a x ≡ Open i j) where
   pub login_stored : (m : Login) → login_at (with_login p i m) i ≡ m
   login_stored m = stored_at p i m login_inside
 
-  found_again : (f : Exchange) → find_login (with_login p i (with_exchange (login_at p i) j f)) a ≡ At i
+  found_again : (f : Exchange) → find_login (with_login p i (with_exchange (login_at p i) j f)) a ≡ Some i
   unfolding find_login with_login with_exchange login_at has_address
   found_again f = same_found empty_login (has_address a) p.logins i (with_exchange (login_at p i) j f) refl ∙ open_place
 
-  exchange_again : (f : Exchange) → has_id x f ≡ true → find_exchange (with_exchange (login_at p i) j f) x ≡ At j
+  exchange_again : (f : Exchange) → has_id x f ≡ true → find_exchange (with_exchange (login_at p i) j f) x ≡ Some j
   unfolding find_exchange with_exchange exchange_at
   exchange_again f h = same_found empty_exchange (has_id x) (login_at p i).places j f (h ∙ sym open_has) ∙ open_exchange
 

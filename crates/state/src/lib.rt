@@ -15,7 +15,6 @@ pub use stored::{
     advance, ask_data, empty_exchange, empty_login, end_exchange, end_exchanges, exchange_at,
     login_at, put_exchange, put_login, set_attention, take_data,
 };
-use tables::Found;
 
 // A place for an open exchange of a login. What its data are is told by kind; a free place has kind 0.
 #[repr(C)]

@@ -7,7 +7,6 @@ ghost use Rattle.state.specs.Tables.{is_free, has_id, find_exchange, free_exchan
 ghost use Rattle.state.specs.Changes.{has_address, has_name, is_host, is_closed};
 
 use crate::{Exchange, Login, Port};
-use tables::Found;
 use wire::name_number;
 
 // Whether a login is used and has this address.
@@ -86,7 +85,7 @@ pub fn all_closed(t: [Exchange; 8]) -> bool
 }
 
 // The lowest place of a login whose exchange is open and has this OX_ID.
-pub fn find_exchange(l: Login, ox_id: u16) -> Found
+pub fn find_exchange(l: Login, ox_id: u16) -> Option<usize>
     ensures { Within (find_exchange l ox_id) 8 result }
 {
     let t = l.places;
@@ -94,15 +93,15 @@ pub fn find_exchange(l: Login, ox_id: u16) -> Found
     while i < Login::PLACES {
         let e = t[i];
         if has_id(e, ox_id) {
-            return Found::At(i);
+            return Some(i);
         }
         i += 1;
     }
-    Found::Nothing
+    None
 }
 
 // The lowest free place of a login for an exchange.
-pub fn free_exchange(l: Login) -> Found
+pub fn free_exchange(l: Login) -> Option<usize>
     ensures { Within (free_exchange l) 8 result }
 {
     let t = l.places;
@@ -110,9 +109,9 @@ pub fn free_exchange(l: Login) -> Found
     while i < Login::PLACES {
         let e = t[i];
         if is_closed(e) {
-            return Found::At(i);
+            return Some(i);
         }
         i += 1;
     }
-    Found::Nothing
+    None
 }

@@ -1,12 +1,11 @@
 -- A data frame changes exchanges of its sender's login alone. Assumes nothing.
+use Rattle.std.specs.Prelude.{Option, Some, None}
 use Prim.Native.Nat.{ℕ, ◌<◌}
 use mathlib.Core.Path.{◌≡◌, refl, sym, ap, ◌∙◌}
 use mathlib.Core.Bool.{true}
 use mathlib.Core.List.{List, []}
 use native.Mathlib.Decide.{ℕ_discrete}
 use lib.ListN.{length}
-use Rattle.tables.specs.declared.Found.{Found}
-use Rattle.tables.specs.declared.Found.TheVariants.{At, Nothing}
 use Rattle.tables.specs.Lists.{all}
 use Rattle.tables.proofs.Searches.{found_below, same_found}
 use Rattle.frame.specs.declared.Header.{Header}
@@ -75,9 +74,9 @@ module _ (p : Port) (i : ℕ) (m : Login) (x : Exchanged (login_at p i) m) where
     unfolding login_of
     stored_exchanges b = rw (found_stored b) (by (find_login p b))
       where
-        by : (f : Found) → Exchanged (login_in p f) (login_in (with_login p i m) f)
-        by (At j) = at_stored j
-        by Nothing = itself empty_login
+        by : (f : Option ℕ) → Exchanged (login_in p f) (login_in (with_login p i m) f)
+        by (Some j) = at_stored j
+        by None = itself empty_login
 
 module _ (p : Port) (h : Header) (size start len : ℕ) where
   abbrev Finds : ℕ → Decided → Type 0
@@ -108,11 +107,11 @@ module _ (p : Port) (h : Header) (size start len : ℕ) where
 
 -- as a turn, on whatever is seen: a refusal, or the sender's login as it was served
 taking_cases : (P : Turn → Type 0) (v : View) (h : Header) (size start len room : ℕ) → ((x : Refusal) → P (refused_turn x))
-    → ((i n : ℕ) → v.seat ≡ At i → P (sent_turn n (served_in i (served_data v.login h size start len)))) → P (taking_turn v h size start len room)
+    → ((i n : ℕ) → v.seat ≡ Some i → P (sent_turn n (served_in i (served_data v.login h size start len)))) → P (taking_turn v h size start len room)
 unfolding taking_turn
 taking_cases P v h size start len room refuses serves = on_found_lem P v.seat _ _ (λ i at. by i at (step_in v.login h size start len)) (λ _. refuses refusal.NoWrite)
   where
-    by : (i : ℕ) → v.seat ≡ At i → (s : Step) → P (on_step s refused_turn (sent_turn (sent_of v.own h (served_data v.login h size start len).reply [] room) (served_in i (served_data v.login h size start len))))
+    by : (i : ℕ) → v.seat ≡ Some i → (s : Step) → P (on_step s refused_turn (sent_turn (sent_of v.own h (served_data v.login h size start len).reply [] room) (served_in i (served_data v.login h size start len))))
     by i at NoWrite = refuses refusal.NoWrite
     by i at (Fault j code) = serves i _ at
     by i at Uncovered = refuses refusal.BadWindow

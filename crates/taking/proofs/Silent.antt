@@ -1,4 +1,5 @@
 -- What a data frame is answered, and what becomes of its exchange and of every other: by what it comes to. Assumes nothing.
+use Rattle.std.specs.Prelude.{Option, Some, None}
 use Prim.Native.Nat.{ℕ, ◌<◌}
 use mathlib.Core.Path.{◌≡◌, refl, sym, ap, ◌∙◌, subst}
 use mathlib.Core.Bool.{true, false, not, and-false}
@@ -7,8 +8,6 @@ use lib.Dec.{eqb}
 use lib.ListN.{length}
 use lib.Seq.{get_or-set_same}
 use borrow.Author.Tests.{eqb-true, ne_eqb}
-use Rattle.tables.specs.declared.Found.{Found}
-use Rattle.tables.specs.declared.Found.TheVariants.{At, Nothing}
 use Rattle.tables.specs.Lists.{on_found}
 use Rattle.tables.proofs.Bools.{and_right, apart}
 use Rattle.tables.proofs.Searches.{found_below, same_found}
@@ -58,7 +57,7 @@ other_id x y e n h =
 
 -- what a data frame of OX_ID x makes of its sender's exchange of another
 module _ (l : Login) (x offset n start len y : ℕ) (o : x ≡ y → ⊥) where
-  not_its : (j : ℕ) → find_exchange l x ≡ At j → has_id y (exchange_at l j) ≡ false
+  not_its : (j : ℕ) → find_exchange l x ≡ Some j → has_id y (exchange_at l j) ≡ false
   not_its j at = other_id x y (exchange_at l j) o (found_id l x j at)
 
   -- it is found where it was
@@ -70,8 +69,8 @@ module _ (l : Login) (x offset n start len y : ℕ) (o : x ≡ y → ⊥) where
   step_finds (Take j k) m = same_found empty_exchange (has_id y) l.places j _ refl
 
   -- and as it was
-  module _ (i : ℕ) (at : find_exchange l y ≡ At i) where
-    away : (j : ℕ) → find_exchange l x ≡ At j → i ≡ j → ⊥
+  module _ (i : ℕ) (at : find_exchange l y ≡ Some i) where
+    away : (j : ℕ) → find_exchange l x ≡ Some j → i ≡ j → ⊥
     away j its q = apart (found_id l y i at) (ap (λ (m : ℕ). has_id y (exchange_at l m)) q ∙ not_its j its)
 
     step_spares : (s : Step) → Means l x offset n start len s → exchange_at (served_by s l n).login i ≡ exchange_at l i
@@ -112,30 +111,30 @@ module _ (p : Port) (h : Header) (size start len : ℕ) where
   unfolding data_decided served_data login_of
   data_reply = by (find_login p from)
     where
-      by : (f : Found) → (on_found f (λ i. served_at p i (served_by (step_in (login_at p i) h size start len) (login_at p i) n)) (decided_as reply.Nothing p)).reply ≡ reply_by (step_in (login_in p f) h size start len)
-      by (At i) = served_reply (step_in (login_at p i) h size start len) (login_at p i) n
-      by Nothing = rw (empty_step x h.offset n start len)
+      by : (f : Option ℕ) → (on_found f (λ i. served_at p i (served_by (step_in (login_at p i) h size start len) (login_at p i) n)) (decided_as reply.Nothing p)).reply ≡ reply_by (step_in (login_in p f) h size start len)
+      by (Some i) = served_reply (step_in (login_at p i) h size start len) (login_at p i) n
+      by None = rw (empty_step x h.offset n start len)
 
   -- a sender whose data frame is for an open WRITE has a login, at place i
   record Seat (s : Step) : Type 0 where
     i : ℕ
-    at : find_login p from ≡ At i
+    at : find_login p from ≡ Some i
     step : step_in (login_at p i) h size start len ≡ s
 
   seated : (s : Step) → no_write s ≡ false → step_of ≡ s → Seat s
   unfolding login_of
   seated s some = by (find_login p from) refl
     where
-      by : (f : Found) → find_login p from ≡ f → step_in (login_in p f) h size start len ≡ s → Seat s
-      by (At i) at e = record { i = i; at = at; step = e }
-      by Nothing at e = apart (ap no_write (sym e ∙ empty_step x h.offset n start len)) some
+      by : (f : Option ℕ) → find_login p from ≡ f → step_in (login_in p f) h size start len ≡ s → Seat s
+      by (Some i) at e = record { i = i; at = at; step = e }
+      by None at e = apart (ap no_write (sym e ∙ empty_step x h.offset n start len)) some
 
   -- at a seat the login is served
   seat_is : {s : Step} (t : Seat s) → data_decided p h size start len ≡ served_at p t.i (served_by s (login_at p t.i) n)
   unfolding data_decided served_data
   seat_is t = rw (t.at, t.step)
 
-  seat_stands : {s : Step} (t : Seat s) (j : ℕ) → find_exchange (login_at p t.i) x ≡ At j → lookup_of p from x ≡ Open t.i j
+  seat_stands : {s : Step} (t : Seat s) (j : ℕ) → find_exchange (login_at p t.i) x ≡ Some j → lookup_of p from x ≡ Open t.i j
   unfolding lookup_of login_of
   seat_stands t j its = rw (t.at, its)
 
@@ -144,10 +143,10 @@ module _ (p : Port) (h : Header) (size start len : ℕ) where
   unfolding data_decided served_data login_of
   data_no_write = by (find_login p from)
     where
-      by : (f : Found) → step_in (login_in p f) h size start len ≡ NoWrite
+      by : (f : Option ℕ) → step_in (login_in p f) h size start len ≡ NoWrite
           → on_found f (λ i. served_at p i (served_by (step_in (login_at p i) h size start len) (login_at p i) n)) (decided_as reply.Nothing p) ≡ decided_as reply.Nothing p
-      by (At i) e = rw (e, stays_put p i)
-      by Nothing e = refl
+      by (Some i) e = rw (e, stays_put p i)
+      by None e = refl
 
   pub data_uncovered : step_in (login_of p h.s_id) h size start len ≡ Uncovered → data_decided p h size start len ≡ decided_as reply.Nothing p
   data_uncovered e = let t = seated Uncovered refl e in seat_is t ∙ ap (decided_as reply.Nothing) (stays_put p t.i)
@@ -197,20 +196,20 @@ module _ (p : Port) (h : Header) (size start len : ℕ) where
     abbrev l : Login
     l = login_at p t.i
 
-    seat : find_login p from ≡ At t.i
+    seat : find_login p from ≡ Some t.i
     seat = open_place p from x t.i j t.stood
 
-    place : find_exchange l x ≡ At j
+    place : find_exchange l x ≡ Some j
     place = open_exchange p from x t.i j t.stood
 
     ended_empty : exchange_at (ended_at l j) j ≡ empty_exchange
     unfolding exchange_at with_exchange find_exchange
     ended_empty = get_or-set_same l.places j empty_exchange empty_exchange (found_below empty_exchange (has_id x) l.places place)
 
-    ended_gone : (f : Found) → find_exchange (ended_at l j) x ≡ f → f ≡ Nothing
+    ended_gone : (f : Option ℕ) → find_exchange (ended_at l j) x ≡ f → f ≡ None
     unfolding has_id
-    ended_gone Nothing e = refl
-    ended_gone (At m) e =
+    ended_gone None e = refl
+    ended_gone (Some m) e =
         let id = found_id (ended_at l j) x m e in
         elim (ℕ_discrete m j) [
           | yes q ↦ apart id (ap (λ (k : ℕ). has_id x (exchange_at (ended_at l j) k)) q ∙ ap (has_id x) ended_empty)
@@ -234,10 +233,10 @@ module _ (p : Port) (h : Header) (size start len : ℕ) where
   data_others a o =
       on_found_lem (λ (d : Decided). login_of d.port a ≡ login_of p a) (find_login p from) _ _
       (λ i at. let away = other_has a from (login_at p i) (λ q. o (sym q)) (found_has p from i at) in
-      stored_sees p a (At i) _ (away, exchanged_has (served_exchanges (login_at p i) h size start len) a ∙ away))
+      stored_sees p a (Some i) _ (away, exchanged_has (served_exchanges (login_at p i) h size start len) a ∙ away))
       (λ _. refl)
 
-  seat_below : (i : ℕ) → find_login p from ≡ At i → i < length p.logins
+  seat_below : (i : ℕ) → find_login p from ≡ Some i → i < length p.logins
   unfolding find_login
   seat_below i at = found_below empty_login (has_address from) p.logins at
 
@@ -246,10 +245,10 @@ module _ (p : Port) (h : Header) (size start len : ℕ) where
   unfolding data_decided served_data login_of
   data_served = ap (login_in decided) (data_found p h size start len from) ∙ by (find_login p from) refl
     where
-      by : (f : Found) → find_login p from ≡ f
+      by : (f : Option ℕ) → find_login p from ≡ f
           → login_in (on_found f (λ i. served_at p i (served_by (step_in (login_at p i) h size start len) (login_at p i) n)) (decided_as reply.Nothing p)).port f ≡ (served_by (step_in (login_in p f) h size start len) (login_in p f) n).login
-      by (At i) at = stored_at p i _ (seat_below i at)
-      by Nothing at = rw (empty_step x h.offset n start len)
+      by (Some i) at = stored_at p i _ (seat_below i at)
+      by None at = rw (empty_step x h.offset n start len)
 
   -- an exchange that is not the frame's
   module _ (a y : ℕ) (o : (h.s_id ≡ a) × (h.ox_id ≡ y) → ⊥) where
@@ -280,9 +279,9 @@ module _ (p : Port) (h : Header) (size start len : ℕ) where
       unfolding login_of
       after_is = rw (data_found p h size start len a, open_place p a y i j e)
 
-      spared : find_exchange (login_of p a) y ≡ At j → exchange_at (login_of decided a) j ≡ exchange_at (login_of p a) j
+      spared : find_exchange (login_of p a) y ≡ Some j → exchange_at (login_of decided a) j ≡ exchange_at (login_of p a) j
       spared =
-          by_sender (λ l m. find_exchange l y ≡ At j → exchange_at m j ≡ exchange_at l j) (λ _ _. refl)
+          by_sender (λ l m. find_exchange l y ≡ Some j → exchange_at m j ≡ exchange_at l j) (λ _ _. refl)
           (λ q at. step_spares (login_of p from) x h.offset n start len y q j at step_of (means (login_of p from)))
 
       same_fields : {l m : Login} → Exchanged l m → with_places m l.places ≡ l

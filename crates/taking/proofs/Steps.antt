@@ -1,4 +1,5 @@
 -- What each of the four things means that a data frame comes to. Assumes nothing.
+use Rattle.std.specs.Prelude.{Option, Some, None}
 use Prim.Native.Nat.{ℕ, ◌+◌, ◌-◌, ◌*◌, ◌≤◌, ◌<◌}
 use mathlib.Core.Path.{◌≡◌, refl, subst}
 use mathlib.Core.Bool.{Bool, true, false, cond, not}
@@ -6,8 +7,6 @@ use mathlib.Core.Logic.{◌⊎◌, inl, inr}
 use native.Mathlib.Omega.{arith}
 use lib.Dec.{eqb, ltb}
 use borrow.Author.Tests.{eqb-true, eqb-false, ltb-true, ltb-false, not-true}
-use Rattle.tables.specs.declared.Found.{Found}
-use Rattle.tables.specs.declared.Found.TheVariants.{At, Nothing}
 use Rattle.tables.specs.Lists.{on_found}
 use Rattle.tables.proofs.Bools.{and_left}
 use Rattle.tables.proofs.Searches.{found_passes}
@@ -24,14 +23,14 @@ use Rattle.taking.specs.declared.Step.TheVariants.{NoWrite, Fault, Uncovered, Ta
 use Rattle.taking.specs.Taking.{burst_end, fault_of, find_write, covered_step, step_of}
 
 -- no place is found, or one is, and no variant is another
-no_place : {A : Type 0} {k : ℕ} → Nothing ≡ At k → A
+no_place : {A : Type 0} {k : ℕ} → None ≡ Some k → A
 no_place e = let z : ◌≡◌ {A = ℕ} 0 1 = cc in absurd (omega arith)
 
-some_place : {A : Type 0} {k : ℕ} → At k ≡ Nothing → A
+some_place : {A : Type 0} {k : ℕ} → Some k ≡ None → A
 some_place e = let z : ◌≡◌ {A = ℕ} 0 1 = cc in absurd (omega arith)
 
 -- the exchange of an OX_ID is open and has it
-module _ (l : Login) (x j : ℕ) (at : find_exchange l x ≡ At j) where
+module _ (l : Login) (x j : ℕ) (at : find_exchange l x ≡ Some j) where
   pub found_id : has_id x (exchange_at l j) ≡ true
   unfolding find_exchange exchange_at
   found_id = found_passes empty_exchange (has_id x) l.places at
@@ -42,37 +41,37 @@ module _ (l : Login) (x j : ℕ) (at : find_exchange l x ≡ At j) where
 
 -- a login's open WRITE of an OX_ID stands at place j
 pub record WriteAt (l : Login) (x j : ℕ) : Type 0 where
-  pub found : find_exchange l x ≡ At j
+  pub found : find_exchange l x ≡ Some j
   pub write : is_write (exchange_at l j) ≡ true
 
 -- there is none: no exchange of the OX_ID, or one that is no WRITE
 pub data NoWriteFor (l : Login) (x : ℕ) : Type 0 where
-  none : find_exchange l x ≡ Nothing → NoWriteFor l x
-  other : (j : ℕ) → find_exchange l x ≡ At j → is_write (exchange_at l j) ≡ false → NoWriteFor l x
+  none : find_exchange l x ≡ None → NoWriteFor l x
+  other : (j : ℕ) → find_exchange l x ≡ Some j → is_write (exchange_at l j) ≡ false → NoWriteFor l x
 
-pub write_at : (l : Login) (x j : ℕ) → find_write l x ≡ At j → WriteAt l x j
+pub write_at : (l : Login) (x j : ℕ) → find_write l x ≡ Some j → WriteAt l x j
 unfolding find_write
 write_at l x j = by (find_exchange l x) refl
   where
-    inner : (i : ℕ) → find_exchange l x ≡ At i → (b : Bool) → is_write (exchange_at l i) ≡ b → cond b (At i) Nothing ≡ At j → WriteAt l x j
+    inner : (i : ℕ) → find_exchange l x ≡ Some i → (b : Bool) → is_write (exchange_at l i) ≡ b → cond b (Some i) None ≡ Some j → WriteAt l x j
     inner i at true w e = let is : i ≡ j = cc in subst (WriteAt l x) is record { found = at; write = w }
     inner i at false w e = no_place e
 
-    by : (f : Found) → find_exchange l x ≡ f → on_found f (λ i. cond (is_write (exchange_at l i)) (At i) Nothing) Nothing ≡ At j → WriteAt l x j
-    by (At i) at e = inner i at (is_write (exchange_at l i)) refl e
-    by Nothing at e = no_place e
+    by : (f : Option ℕ) → find_exchange l x ≡ f → on_found f (λ i. cond (is_write (exchange_at l i)) (Some i) None) None ≡ Some j → WriteAt l x j
+    by (Some i) at e = inner i at (is_write (exchange_at l i)) refl e
+    by None at e = no_place e
 
-pub no_write : (l : Login) (x : ℕ) → find_write l x ≡ Nothing → NoWriteFor l x
+pub no_write : (l : Login) (x : ℕ) → find_write l x ≡ None → NoWriteFor l x
 unfolding find_write
 no_write l x = by (find_exchange l x) refl
   where
-    inner : (i : ℕ) → find_exchange l x ≡ At i → (b : Bool) → is_write (exchange_at l i) ≡ b → cond b (At i) Nothing ≡ Nothing → NoWriteFor l x
+    inner : (i : ℕ) → find_exchange l x ≡ Some i → (b : Bool) → is_write (exchange_at l i) ≡ b → cond b (Some i) None ≡ None → NoWriteFor l x
     inner i at true w e = some_place e
     inner i at false w e = other i at w
 
-    by : (f : Found) → find_exchange l x ≡ f → on_found f (λ i. cond (is_write (exchange_at l i)) (At i) Nothing) Nothing ≡ Nothing → NoWriteFor l x
-    by (At i) at e = inner i at (is_write (exchange_at l i)) refl e
-    by Nothing at e = none at
+    by : (f : Option ℕ) → find_exchange l x ≡ f → on_found f (λ i. cond (is_write (exchange_at l i)) (Some i) None) None ≡ None → NoWriteFor l x
+    by (Some i) at e = inner i at (is_write (exchange_at l i)) refl e
+    by None at e = none at
 
 -- why n bytes at an offset are a fault, and its RSP_CODE; 00 is none
 pub data FaultBy (e : Exchange) (offset n : ℕ) : ℕ → Type 0 where
@@ -103,7 +102,7 @@ fault_none (no_fault h k) z = (h, k)
 
 -- a fault: of a WRITE at place j
 pub record Faults (l : Login) (x offset n j code : ℕ) : Type 0 where
-  pub found : find_exchange l x ≡ At j
+  pub found : find_exchange l x ≡ Some j
   pub write : is_write (exchange_at l j) ≡ true
   pub some : code ≡ 0 → ⊥
   pub why : FaultBy (exchange_at l j) offset n code
@@ -111,11 +110,11 @@ pub record Faults (l : Login) (x offset n j code : ℕ) : Type 0 where
 -- not covered: the next bytes of a WRITE, within its burst, and the window is too long or does not hold them
 pub record Uncovers (l : Login) (x offset n start len : ℕ) : Type 0 where
   pub j : ℕ
-  pub found : find_exchange l x ≡ At j
+  pub found : find_exchange l x ≡ Some j
   pub write : is_write (exchange_at l j) ≡ true
   pub next : offset ≡ (exchange_at l j).sent
   pub burst : offset + n ≤ burst_end (exchange_at l j)
-  pub lent : lent_place (position_of (exchange_at l j).start (exchange_at l j).sent) n start len ≡ Nothing
+  pub lent : lent_place (position_of (exchange_at l j).start (exchange_at l j).sent) n start len ≡ None
 
 -- a window that is not too long holds n bytes, from place k on
 pub record Lent (at n start len k : ℕ) : Type 0 where
@@ -124,11 +123,11 @@ pub record Lent (at n start len k : ℕ) : Type 0 where
   pub is : k ≡ at - 512 * start
   pub inside : k + n ≤ len
 
-pub lent_at : (at n start len k : ℕ) → lent_place at n start len ≡ At k → Lent at n start len k
+pub lent_at : (at n start len k : ℕ) → lent_place at n start len ≡ Some k → Lent at n start len k
 unfolding lent_place
 lent_at at n start len k = by (too_long len) refl
   where
-    by : (b : Bool) → too_long len ≡ b → cond b Nothing (cover_of at n start len) ≡ At k → Lent at n start len k
+    by : (b : Bool) → too_long len ≡ b → cond b None (cover_of at n start len) ≡ Some k → Lent at n start len k
     by true t e = no_place e
     by false t e =
         let c = covers at n start len k e in
@@ -139,11 +138,11 @@ lent_at at n start len k = by (too_long len) refl
 
 -- taken: the next bytes of a WRITE at place j, within its burst, and the window holds them from place k on
 pub record Takes (l : Login) (x offset n start len j k : ℕ) : Type 0 where
-  pub found : find_exchange l x ≡ At j
+  pub found : find_exchange l x ≡ Some j
   pub write : is_write (exchange_at l j) ≡ true
   pub next : offset ≡ (exchange_at l j).sent
   pub burst : offset + n ≤ burst_end (exchange_at l j)
-  pub lent : lent_place (position_of (exchange_at l j).start (exchange_at l j).sent) n start len ≡ At k
+  pub lent : lent_place (position_of (exchange_at l j).start (exchange_at l j).sent) n start len ≡ Some k
   pub holds : Lent (position_of (exchange_at l j).start (exchange_at l j).sent) n start len k
 
 module _ (l : Login) (x offset n start len : ℕ) where
@@ -173,10 +172,10 @@ module _ (l : Login) (x offset n start len : ℕ) where
   unfolding step_of
   step_means = by (find_write l x) refl
     where
-      by : (f : Found) → find_write l x ≡ f
+      by : (f : Option ℕ) → find_write l x ≡ f
           → Means (on_found f (λ j. cond (eqb (fault_of (exchange_at l j) offset n) 0) (covered_step (exchange_at l j) j n start len) (Fault j (fault_of (exchange_at l j) offset n))) NoWrite)
-      by (At j) at = write_means j (write_at l x j at)
-      by Nothing at = no_write l x at
+      by (Some j) at = write_means j (write_at l x j at)
+      by None at = no_write l x at
 
   -- each by its name
   pub step_means_as : (s : Step) → step_of l x offset n start len ≡ s → Means s

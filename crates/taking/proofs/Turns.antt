@@ -1,11 +1,10 @@
 -- What a data frame comes to and does, told on what its sender sees, is what it comes to and makes of the whole port, where the port's logins are fine. Assumes nothing.
+use Rattle.std.specs.Prelude.{Option, Some, None}
 use Prim.Native.Nat.{ℕ}
 use mathlib.Core.Path.{◌≡◌, refl, sym, ap, ◌∙◌}
 use mathlib.Core.Bool.{true}
 use mathlib.Core.List.{List, []}
 use lib.ListN.{length}
-use Rattle.tables.specs.declared.Found.{Found}
-use Rattle.tables.specs.declared.Found.TheVariants.{At, Nothing}
 use Rattle.tables.specs.Lists.{on_found, all}
 use Rattle.frame.specs.declared.Header.{Header}
 use Rattle.refusal.specs.declared.Refusal.{Refusal}
@@ -48,24 +47,24 @@ module _ (u : Unit) (p : Port) (fine : all (login_fine u p.address) p.logins ≡
   abbrev v : View
   v = view_of u p from
 
-  no_step : (size len : ℕ) → find_login p from ≡ Nothing → step_in v.login h size start len ≡ NoWrite
+  no_step : (size len : ℕ) → find_login p from ≡ None → step_in v.login h size start len ≡ NoWrite
   unfolding login_of
   no_step size len e = ap (λ (m : Login). step_in m h size start len) (view_is u p from fine ∙ ap (login_in p) e) ∙ empty_step h size start len
 
   -- what the sender's login is served with makes of the port what is decided of the frame
-  pub served_decided : (size len i : ℕ) → find_login p from ≡ At i → decided_by p (served_in i (served_data v.login h size start len)) ≡ data_decided p h size start len
+  pub served_decided : (size len i : ℕ) → find_login p from ≡ Some i → decided_by p (served_in i (served_data v.login h size start len)) ≡ data_decided p h size start len
   unfolding data_decided
   served_decided size len i e =
       ap (λ (m : Login). decided_by p (served_in i (served_data m h size start len))) (view_login u p from fine i e)
       ∙ served_is p i (served_data (login_at p i) h size start len)
-      ∙ sym (ap (λ (f : Found). on_found f (λ j. served_at p j (served_data (login_at p j) h size start len)) (decided_as reply.Nothing p)) e)
+      ∙ sym (ap (λ (f : Option ℕ). on_found f (λ j. served_at p j (served_data (login_at p j) h size start len)) (decided_as reply.Nothing p)) e)
 
   -- a turn, asked for what refusals and the login that is served are: by the step that the frame comes to
   pub taking_turn_lem : {B : Type 0} (on : Turn → B) (g : Refusal → B) (b : B) (size len room : ℕ) → ((x : Refusal) → on (refused_turn x) ≡ g x)
-      → ((i : ℕ) → find_login p from ≡ At i → on (sent_turn (sent_of v.own h (served_data v.login h size start len).reply [] room) (served_in i (served_data v.login h size start len))) ≡ b)
+      → ((i : ℕ) → find_login p from ≡ Some i → on (sent_turn (sent_of v.own h (served_data v.login h size start len).reply [] room) (served_in i (served_data v.login h size start len))) ≡ b)
       → on (taking_turn v h size start len room) ≡ on_step (step_in v.login h size start len) g b
   unfolding taking_turn
-  taking_turn_lem {B} on g b size len room refuses serves = ap (λ (f : Found). on (turn f)) (view_seat u p from fine) ∙ by (find_login p from) refl
+  taking_turn_lem {B} on g b size len room refuses serves = ap (λ (f : Option ℕ). on (turn f)) (view_seat u p from fine) ∙ by (find_login p from) refl
     where
       step : Step
       step = step_in v.login h size start len
@@ -73,14 +72,14 @@ module _ (u : Unit) (p : Port) (fine : all (login_fine u p.address) p.logins ≡
       served : Served
       served = served_data v.login h size start len
 
-      turn : Found → Turn
+      turn : Option ℕ → Turn
       turn f = on_found f (λ i. on_step step refused_turn (sent_turn (sent_of v.own h served.reply [] room) (served_in i served))) (refused_turn refusal.NoWrite)
 
-      by : (f : Found) → find_login p from ≡ f → on (turn f) ≡ on_step step g b
-      by (At i) e = on_step_lem on step refused_turn (sent_turn (sent_of v.own h served.reply [] room) (served_in i served)) ∙ (λ k. on_step step (λ x. refuses x k) (serves i e k))
-      by Nothing e = refuses refusal.NoWrite ∙ sym (ap (λ (s : Step). on_step s g b) (no_step size len e))
+      by : (f : Option ℕ) → find_login p from ≡ f → on (turn f) ≡ on_step step g b
+      by (Some i) e = on_step_lem on step refused_turn (sent_turn (sent_of v.own h served.reply [] room) (served_in i served)) ∙ (λ k. on_step step (λ x. refuses x k) (serves i e k))
+      by None e = refuses refusal.NoWrite ∙ sym (ap (λ (s : Step). on_step s g b) (no_step size len e))
 
-  pub taking_buffer_lem : (size len : ℕ) (l b : List ℕ) → ((i : ℕ) → find_login p from ≡ At i → written_of v.own h (served_data v.login h size start len).reply [] l ≡ b)
+  pub taking_buffer_lem : (size len : ℕ) (l b : List ℕ) → ((i : ℕ) → find_login p from ≡ Some i → written_of v.own h (served_data v.login h size start len).reply [] l ≡ b)
       → taking_buffer v h size start len l ≡ on_step (step_in v.login h size start len) (λ _. l) b
   unfolding taking_buffer
   taking_buffer_lem size len l b serves = ap buffer (view_seat u p from fine) ∙ by (find_login p from) refl
@@ -88,18 +87,18 @@ module _ (u : Unit) (p : Port) (fine : all (login_fine u p.address) p.logins ≡
       step : Step
       step = step_in v.login h size start len
 
-      buffer : Found → List ℕ
+      buffer : Option ℕ → List ℕ
       buffer f = on_found f (λ i. on_step step (λ _. l) (written_of v.own h (served_data v.login h size start len).reply [] l)) l
 
-      by : (f : Found) → find_login p from ≡ f → buffer f ≡ on_step step (λ _. l) b
-      by (At i) e = ap (on_step step (λ _. l)) (serves i e)
-      by Nothing e = sym (ap (λ (s : Step). on_step s (λ _. l) b) (no_step size len e))
+      by : (f : Option ℕ) → find_login p from ≡ f → buffer f ≡ on_step step (λ _. l) b
+      by (Some i) e = ap (on_step step (λ _. l)) (serves i e)
+      by None e = sym (ap (λ (s : Step). on_step s (λ _. l) b) (no_step size len e))
 
   -- the window, by the login of the port
   pub taking_window_lem : (f W : List ℕ) → taking_window v h f start W ≡ window_after (login_of p from) h f start W
   unfolding taking_window window_after
-  taking_window_lem f W = ap (λ (m : Found). on_found m (λ _. window_after v.login h f start W) W) (view_seat u p from fine) ∙ by (find_login p from) refl
+  taking_window_lem f W = ap (λ (m : Option ℕ). on_found m (λ _. window_after v.login h f start W) W) (view_seat u p from fine) ∙ by (find_login p from) refl
     where
-      by : (m : Found) → find_login p from ≡ m → on_found m (λ _. window_after v.login h f start W) W ≡ window_after (login_of p from) h f start W
-      by (At i) e = ap (λ (l : Login). window_after l h f start W) (view_is u p from fine)
-      by Nothing e = sym (ap (λ (l : Login). window_after l h f start W) (sym (view_is u p from fine)) ∙ rw (no_step (length f) (length W) e))
+      by : (m : Option ℕ) → find_login p from ≡ m → on_found m (λ _. window_after v.login h f start W) W ≡ window_after (login_of p from) h f start W
+      by (Some i) e = ap (λ (l : Login). window_after l h f start W) (view_is u p from fine)
+      by None e = sym (ap (λ (l : Login). window_after l h f start W) (sym (view_is u p from fine)) ∙ rw (no_step (length f) (length W) e))

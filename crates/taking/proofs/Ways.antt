@@ -1,4 +1,5 @@
 -- What each way through a function of the crate answers, from what its calls gave. Assumes nothing.
+use Rattle.std.specs.Prelude.{Some, None}
 use Prim.Native.Nat.{ℕ, ◌+◌, ◌-◌, ◌*◌, ◌/◌, ◌%◌, ◌≤◌, ◌<◌, min}
 use mathlib.Core.Path.{◌≡◌, refl, sym, ◌∙◌}
 use mathlib.Core.Bool.{Bool, true, false, cond}
@@ -8,7 +9,6 @@ use native.Mathlib.Omega.{arith}
 use lib.Dec.{eqb, ltb}
 use lib.ListN.{length, take, drop}
 use borrow.Author.Tests.{eq-eqb, ne_eqb, lt-ltb, le-ltb}
-use Rattle.tables.specs.declared.Found.TheVariants.{At, Nothing}
 use Rattle.wire.specs.Bytes.{onto, over}
 use Rattle.wire.proofs.Fronts.{onto_nil}
 use Rattle.frame.specs.declared.Header.{Header}
@@ -33,15 +33,15 @@ use Rattle.taking.specs.Taking.{data_size, data_in, burst_end, fault_of, find_wr
 
 -- `find_write`: no exchange of the OX_ID, a WRITE, or another
 module _ (l : Login) (x : ℕ) where
-  pub write_none : find_exchange l x ≡ Nothing → Nothing ≡ find_write l x
+  pub write_none : find_exchange l x ≡ None → None ≡ find_write l x
   unfolding find_write
   write_none e = rw e
 
-  pub write_found : {j : ℕ} {e : Exchange} → find_exchange l x ≡ At j → e ≡ exchange_at l j → e.direction ≡ from_host → At j ≡ find_write l x
+  pub write_found : {j : ℕ} {e : Exchange} → find_exchange l x ≡ Some j → e ≡ exchange_at l j → e.direction ≡ from_host → Some j ≡ find_write l x
   unfolding find_write
   write_found at is d = rw (at, sym is, d)
 
-  pub write_other : {j : ℕ} {e : Exchange} → find_exchange l x ≡ At j → e ≡ exchange_at l j → (e.direction ≡ from_host → ⊥) → Nothing ≡ find_write l x
+  pub write_other : {j : ℕ} {e : Exchange} → find_exchange l x ≡ Some j → e ≡ exchange_at l j → (e.direction ≡ from_host → ⊥) → None ≡ find_write l x
   unfolding find_write
   write_other at is d = rw (at, sym is, ne_eqb _ _ d)
 
@@ -83,21 +83,21 @@ module _ (e : Exchange) (offset n : ℕ) where
 
 -- `covered_step`
 module _ (e : Exchange) (j n start len : ℕ) where
-  pub covered_not : lent_place (position_of e.start e.sent) n start len ≡ Nothing → Uncovered ≡ covered_step e j n start len
+  pub covered_not : lent_place (position_of e.start e.sent) n start len ≡ None → Uncovered ≡ covered_step e j n start len
   unfolding covered_step
   covered_not h = rw h
 
-  pub covered_at : {k : ℕ} → lent_place (position_of e.start e.sent) n start len ≡ At k → Take j k ≡ covered_step e j n start len
+  pub covered_at : {k : ℕ} → lent_place (position_of e.start e.sent) n start len ≡ Some k → Take j k ≡ covered_step e j n start len
   unfolding covered_step
   covered_at h = rw h
 
 -- `step_in`: no WRITE; no fault, and by the window; a fault
 module _ (l : Login) (h : Header) (size start len : ℕ) where
-  pub step_none : find_write l h.ox_id ≡ Nothing → NoWrite ≡ step_in l h size start len
+  pub step_none : find_write l h.ox_id ≡ None → NoWrite ≡ step_in l h size start len
   unfolding step_of
   step_none e = rw e
 
-  module _ {n j code : ℕ} {e : Exchange} (en : n ≡ data_size h size) (at : find_write l h.ox_id ≡ At j) (ee : e ≡ exchange_at l j) (ec : code ≡ fault_of e h.offset n) where
+  module _ {n j code : ℕ} {e : Exchange} (en : n ≡ data_size h size) (at : find_write l h.ox_id ≡ Some j) (ee : e ≡ exchange_at l j) (ec : code ≡ fault_of e h.offset n) where
     pub step_covered : {s : Step} → code ≡ 0 → s ≡ covered_step e j n start len → s ≡ step_in l h size start len
     unfolding step_of
     step_covered z es = rw (at, sym en, sym ee, sym ec ∙ z) es
@@ -152,12 +152,12 @@ module _ (v : View) (h : Header) (f : List ℕ) (start : ℕ) (W l : List ℕ) w
   abbrev Says : Turn → List ℕ → List ℕ → Type 0
   Says t l₁ W₁ = (t ≡ taking_turn v h (length f) start (length W) (length l)) × ((l₁ ≡ taking_buffer v h (length f) start (length W) l) × (W₁ ≡ taking_window v h f start W))
 
-  pub says_none : {t : Turn} → v.seat ≡ Nothing → t ≡ refused_turn refusal.NoWrite → Says t l W
+  pub says_none : {t : Turn} → v.seat ≡ None → t ≡ refused_turn refusal.NoWrite → Says t l W
   unfolding taking_turn taking_buffer taking_window
   says_none e et = rw e (et, (refl, refl))
 
   -- a login at place i, by what the frame comes to
-  module _ {i : ℕ} {s : Step} {t : Turn} (at : v.seat ≡ At i) (es : s ≡ step_in v.login h (length f) start (length W)) where
+  module _ {i : ℕ} {s : Step} {t : Turn} (at : v.seat ≡ Some i) (es : s ≡ step_in v.login h (length f) start (length W)) where
     pub says_no_write : s ≡ NoWrite → t ≡ refused_turn refusal.NoWrite → Says t l W
     unfolding taking_turn taking_buffer taking_window window_after
     says_no_write e et = rw (at, sym es ∙ e) (et, (refl, refl))

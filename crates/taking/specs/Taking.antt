@@ -1,7 +1,5 @@
 -- What a data frame comes to, for an open WRITE of its sender (document 02, request 2).
-use Rattle.std.specs.Prelude.{ℕ, ◌+◌, ◌-◌, ◌*◌, ◌/◌, ◌%◌, min, Bool, true, false, cond, not, ◌&&◌, List, [], eqb, ltb, length, take, drop}
-use Rattle.tables.specs.declared.Found.{Found}
-use Rattle.tables.specs.declared.Found.TheVariants.{At, Nothing}
+use Rattle.std.specs.Prelude.{ℕ, ◌+◌, ◌-◌, ◌*◌, ◌/◌, ◌%◌, min, Bool, true, false, cond, not, ◌&&◌, List, [], eqb, ltb, length, take, drop, Option, Some, None}
 use Rattle.tables.specs.Lists.{on_found}
 use Rattle.wire.specs.Bytes.{over}
 use Rattle.frame.specs.declared.Header.{Header}
@@ -45,8 +43,8 @@ unfoldable pub fault_of : Exchange → ℕ → ℕ → ℕ
 fault_of e offset n = cond (not (eqb offset e.sent)) 0x03 (cond (ltb (burst_end e) (offset + n)) 0x01 0x00)
 
 -- the place of a login's open WRITE of this OX_ID
-unfoldable pub find_write : Login → ℕ → Found
-find_write l x = on_found (find_exchange l x) (λ j. cond (is_write (exchange_at l j)) (At j) Nothing) Nothing
+unfoldable pub find_write : Login → ℕ → Option ℕ
+find_write l x = on_found (find_exchange l x) (λ j. cond (is_write (exchange_at l j)) (Some j) None) None
 
 -- the window holds the n bytes from where the next data go on: the exchange stands at place j
 unfoldable pub covered_step : Exchange → ℕ → ℕ → ℕ → ℕ → Step

@@ -19,7 +19,6 @@ use reply::{Reply, Response, write};
 use state::{
     Exchange, Login, Own, end_exchange, exchange_at, find_exchange, put_exchange, take_data,
 };
-use tables::Found;
 use wire::{least, less, put_at};
 
 // For no open WRITE; a fault, with the place of its exchange and the RSP_CODE; a window that is too long or does not hold the bytes;
@@ -49,7 +48,7 @@ pub fn data_turn(
     let seat = v.seat;
     let o = v.own;
     let l = v.login;
-    let Found::At(i) = seat else {
+    let Some(i) = seat else {
         return refuse_turn(Refusal::NoWrite);
     };
     let s = step_in(l, h, frame.len(), start, window.len());
@@ -70,7 +69,7 @@ fn step_in(l: Login, h: Header, size: usize, start: u64, len: usize) -> Step
     ensures { result ≡ step_in l h size start len }
 {
     let n = data_size(h, size);
-    let Found::At(j) = find_write(l, h.ox_id) else {
+    let Some(j) = find_write(l, h.ox_id) else {
         return Step::NoWrite;
     };
     let e = exchange_at(l, j);
@@ -119,17 +118,17 @@ fn data_size(h: Header, size: usize) -> usize
 
 // The place of a login's open WRITE of this OX_ID.
 #[tactic(auto, using(crate::proofs::Ways::write_none, crate::proofs::Ways::write_found, crate::proofs::Ways::write_other))]
-fn find_write(l: Login, ox_id: u16) -> Found
+fn find_write(l: Login, ox_id: u16) -> Option<usize>
     ensures { result ≡ find_write l ox_id }
 {
-    let Found::At(j) = find_exchange(l, ox_id) else {
-        return Found::Nothing;
+    let Some(j) = find_exchange(l, ox_id) else {
+        return None;
     };
     let e = exchange_at(l, j);
     if e.direction == Exchange::FROM_HOST {
-        Found::At(j)
+        Some(j)
     } else {
-        Found::Nothing
+        None
     }
 }
 
@@ -180,7 +179,7 @@ fn burst_end(e: Exchange) -> u64
 fn covered_step(e: Exchange, j: usize, n: usize, start: u64, len: usize) -> Step
     ensures { result ≡ covered_step e j n start len }
 {
-    let Found::At(k) = lent_place(e.start, e.sent, n, start, len) else {
+    let Some(k) = lent_place(e.start, e.sent, n, start, len) else {
         return Step::Uncovered;
     };
     Step::Take(j, k)
