@@ -13,6 +13,7 @@ const MAP: [u64; 4] = [
 ];
 
 // Whether the number is a valid address: upper bytes 0000h and a low byte that the map has.
+#[tactic(auto, using(crate::proofs::Map::map_right, crate::proofs::Map::none_above))]
 pub fn valid_address(n: u32) -> bool
     ensures { result ≡ valid_address n }
 {

@@ -1,5 +1,5 @@
 -- A frame of the host: what each kind of request is answered with, and the record after it, from the record before it. Assumes nothing.
-use Rattle.std.specs.Prelude.{Option, Some, None}
+use Rattle.std.specs.Prelude.{Option, Some, None, Ok, Err, Result}
 use Prim.Native.Nat.{ℕ, ◌+◌}
 use mathlib.Core.Path.{◌≡◌, refl, sym, ap, ◌∙◌, subst}
 use mathlib.Core.Bool.{Bool, true, false}
@@ -36,7 +36,9 @@ use Rattle.link.proofs.Requests.{link_plogi, link_service, link_out, abts_reply,
 use Rattle.command.specs.Command.{logged_out, command_of}
 use Rattle.command.proofs.Logins.{Alike, alike, Spoken, silent, responds, command_paired, command_spoken, command_unpaired}
 use Rattle.taking.specs.declared.Step.{Step}
+use Rattle.taking.specs.declared.Untaken.{Untaken}
 use Rattle.taking.specs.declared.Step.TheVariants as step
+use Rattle.taking.specs.declared.Untaken.TheVariants as untaken
 use Rattle.taking.specs.Taking.{step_in, data_decided}
 use Rattle.taking.proofs.Others.{Exchanged, exchanged, data_exchanges}
 use Rattle.taking.proofs.Silent.{reply_by, data_reply, data_fault}
@@ -229,11 +231,11 @@ module _ (d : Drive) (w : well_formed d.unit d.port ≡ true) (f : List ℕ) (st
       same : record_of given.port from ≡ record_of p from
       same = alike_record p given.port from (exchanged_alike (data_exchanges p h (length f) start len from))
 
-      by : (s : Step) → step_in (login_of p from) h (length f) start len ≡ s → OnCommand (record_of p from) (sounds (reply_by s)) (record_of given.port from)
-      by step.NoWrite e = same
-      by (step.Fault j code) e = let t = data_fault p h (length f) start len j code e in (found_held p from t.i (open_place p from h.ox_id t.i j t.stood), same)
-      by step.Uncovered e = same
-      by (step.Take j k) e = same
+      by : (s : Result Step Untaken) → step_in (login_of p from) h (length f) start len ≡ s → OnCommand (record_of p from) (sounds (reply_by s)) (record_of given.port from)
+      by (Err untaken.NoWrite) e = same
+      by (Ok (step.Fault j code)) e = let t = data_fault p h (length f) start len j code e in (found_held p from t.i (open_place p from h.ox_id t.i j t.stood), same)
+      by (Err untaken.Uncovered) e = same
+      by (Ok (step.Take j k)) e = same
 
   -- each request in its own kind of frame
   decided_meets : (q : Request) (k : Form) → k ≡ form_of h.r_ctl → Makes from f q

@@ -18,7 +18,7 @@ use Rattle.residual.specs.Residual.{residual_of}
 use Rattle.link.specs.Link.{size_of, new_login, outcome_of, plogi_of, page_fine, pair_fine, prli_of, service_of, link_of}
 use Rattle.link.specs.Record.{record_of}
 use Rattle.command.specs.Cmnd.{cmnd_of, malformed, task_for, task_of}
-use Rattle.command.specs.Cdb.{range10, decoded_of}
+use Rattle.command.specs.Cdb.{range10, operation_of}
 use Rattle.command.specs.Tests.{other_unit, attends, protected, beyond, tested_by, asked_of}
 use Rattle.command.specs.Command.{refused_with, told_of, bit_for, opened_of, execute_of, commanded_at, command_of}
 use Rattle.cover.specs.Cover.{cover_of, lent_place}
@@ -74,7 +74,7 @@ record Steps : Type 0 where
   record_stays : (e : Exchange) → record_of (with e).drive.port 0x01 ≡ paired_held
 
 steps : Steps
-unfolding frame_in frame_in_buffer reply_bytes header_of header_bytes bad_size bad_source known_pair bad_sequence unknown_form spared unproven_login form_of valid_address made_from well_formed setup_rules setup_of setup_passes params_of size_fails zero_name verdict_of login_fine used_fine flags_fine address_fine params_fine exchange_fine apart_id apart_login wanted_fits blocks_fit direction_fits taken_fits moved_fits find_login free_login find_exchange free_exchange login_of has_address has_id login_at exchange_at with_login with_exchange ended_of host_ended has_name name_of changed_all bytes_of filled onto answer_head short_bytes login_bytes pair_bytes status_bytes code_bytes sense_bytes ready_bytes residual_of link_of size_of plogi_of outcome_of new_login service_of prli_of pair_fine page_fine cmnd_of malformed task_for task_of other_unit attends range10 decoded_of protected beyond tested_by asked_of refused_with told_of bit_for opened_of execute_of commanded_at command_of next_frame next_frame_buffer lookup_of has_more reads_more cover_of lent_place place_of ready_reply next_reply next_exchange source_of window_place own_of asked_by open_step step_of frame_bytes moved_on next_of next_buffer burst_end fault_of find_write covered_step data_step served_data data_decided record_of logs_in pairs asks writes gives
+unfolding frame_in frame_in_buffer reply_bytes header_of header_bytes bad_size bad_source known_pair bad_sequence unknown_form spared unproven_login form_of valid_address made_from well_formed setup_rules setup_of setup_passes params_of size_fails zero_name verdict_of login_fine used_fine flags_fine address_fine params_fine exchange_fine apart_id apart_login wanted_fits blocks_fit direction_fits taken_fits moved_fits find_login free_login find_exchange free_exchange login_of has_address has_id login_at exchange_at with_login with_exchange ended_of host_ended has_name name_of changed_all bytes_of filled onto answer_head short_bytes login_bytes pair_bytes status_bytes code_bytes sense_bytes ready_bytes residual_of link_of size_of plogi_of outcome_of new_login service_of prli_of pair_fine page_fine cmnd_of malformed task_for task_of other_unit attends range10 operation_of protected beyond tested_by asked_of refused_with told_of bit_for opened_of execute_of commanded_at command_of next_frame next_frame_buffer lookup_of has_more reads_more cover_of lent_place place_of ready_reply next_reply next_exchange source_of window_place own_of asked_by open_step step_of frame_bytes moved_on next_of next_buffer burst_end fault_of find_write covered_step data_step served_data data_decided record_of logs_in pairs asks writes gives
 steps =
     record {
       begins = refl;

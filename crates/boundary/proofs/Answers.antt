@@ -1,19 +1,20 @@
 -- What a change reaches, by the keys of the logins, is the change of all where the drive is well formed: a login that is not reached is one that the change leaves as it is.
 -- So what each entry tells, and the lent drive after it, is its answer. Assumes nothing.
-use Rattle.std.specs.Prelude.{Option, Some, None, Err}
-use Prim.Native.Nat.{ℕ, ◌+◌, ◌<◌, ◌^◌}
+use Rattle.std.specs.Prelude.{Option, Some, None, Ok, Err, Result}
+use Prim.Native.Nat.{ℕ}
 use mathlib.Core.Path.{◌≡◌, refl, sym, ap, ◌∙◌, subst}
 use mathlib.Core.Bool.{Bool, true, false, cond}
 use mathlib.Core.List.{List, [], ◌∷◌, map}
-use native.Mathlib.Omega.{arith}
+use lib.Dec.{T}
 use lib.ListN.{length}
+use borrow.Author.Tests.{eq-eqb, ne_eqb}
 use Rattle.tables.specs.Lists.{all, on_found}
+use Rattle.tables.specs.Firsts.{first_of}
 use Rattle.tables.proofs.Bools.{and_left, and_right}
 use Rattle.frame.specs.declared.Header.{Header}
 use Rattle.frame.specs.Head.{header_of}
 use Rattle.refusal.specs.declared.Refusal.{Refusal}
-use Rattle.refusal.specs.declared.Refusal.TheVariants.{IllFormed}
-use Rattle.refusal.proofs.Numbers.{numbers}
+use Rattle.refusal.specs.declared.Refusal.TheVariants.{IllFormed, BadSize, NotOurs, BadSource, UnknownForm, Unproven}
 use Rattle.state.specs.declared.Login.{Login}
 use Rattle.state.specs.declared.Port.{Port}
 use Rattle.state.specs.declared.Unit.{Unit}
@@ -31,18 +32,22 @@ use Rattle.calls.specs.declared.View.{View}
 use Rattle.calls.specs.View.{seat_of, sight_of, view_from, view_of}
 use Rattle.calls.specs.Turn.{stored_at, port_after}
 use Rattle.calls.proofs.Seats.{key_address}
-use Rattle.calls.proofs.Decisions.{keep_is}
+use Rattle.calls.proofs.Decisions.{on_cond, keep_is}
 use Rattle.taking.specs.Taking.{is_data, taking_turn, taking_buffer, taking_window}
 use Rattle.taking.proofs.Others.{taking_keeps}
-use Rattle.arrival.specs.Arrival.{short_buffer}
+use Rattle.arrival.specs.declared.Form.{Form}
+use Rattle.arrival.specs.declared.Form.TheVariants.{Link, Done, Abort, Command, Data}
+use Rattle.arrival.specs.Arrival.{short_buffer, applies_to, form_of, judged_by}
+use Rattle.arrival.proofs.Passes.{data_form}
+use Rattle.arrival.proofs.Passes as passes
 use Rattle.drive.specs.declared.Answer.{Answer}
 use Rattle.drive.specs.declared.Drive.{Drive}
 use Rattle.drive.specs.declared.Event.{Event}
 use Rattle.drive.specs.Drive.{refused, nothing_sent, change_of, after_event, event_answer}
 use Rattle.drive.specs.Entry.{frame_in, frame_in_buffer, frame_in_window, next_frame}
-use Rattle.drive.specs.Turn.{unproven_at, unproven_in, refusal_of, passed_turn, passed_buffer, arrived_turn, arrived_buffer, arrived_window, next_out_turn, answer_to}
-use Rattle.drive.proofs.Turns.{arrived_formed, frame_turn_lem, frame_turn_buffer, frame_turn_window, RefusedBy, frame_refused, next_out_turn_lem, next_out_keeps}
-use Rattle.boundary.specs.Boundary.{code_of, Tells}
+use Rattle.drive.specs.Turn.{unproven_at, on_judged, arrived_in, passed_turn, passed_buffer, arrived_turn, arrived_buffer, arrived_window, next_out_turn, answer_to}
+use Rattle.drive.proofs.Turns.{frame_came, buffer_came, window_came, arrived_fine, frame_turn_lem, frame_turn_buffer, frame_turn_window, next_out_turn_lem, next_out_keeps}
+use Rattle.boundary.specs.Boundary.{Gives, is_data_form}
 use Rattle.boundary.specs.Settled.{reaches, marks_of, reached_by, reached_of, settled_of, happened_said}
 use Rattle.boundary.proofs.Lent.{with_port, stored, settled, happened}
 use Rattle.boundary.proofs.Reached.{spared_last}
@@ -94,13 +99,43 @@ module _ (u : Unit) (p : Port) (w : well_formed u p ≡ true) where
   unfolding settled_of
   settled_answer t = spared_last p (marks_of t.change (keys_of u p)) t.change t.login t.at ∙ ap (stored_at t.at t.login) (reached_changed t.change)
 
--- what a refusal tells, the drive as it was
-pub refusal_told : {d : Drive} {a : Answer} {x : Refusal} → a ≡ refused x d → Tells a (code_of (Err x)) d
-refusal_told e = (ap (λ (z : Answer). code_of z.said) (sym e), ap (λ (z : Answer). z.drive) (sym e))
+not_true : false ≡ true → ⊥
+not_true e = subst T (sym e) tt
 
--- what a turn tells, the drive with the port after it
-turn_told : (d : Drive) (t : Turn) {p : Port} {a : Answer} → p ≡ port_after d.port t → answer_to d t ≡ a → Tells a (code_of t.said) (with_port d p)
-turn_told d t e is = (ap (λ (z : Answer). code_of z.said) is, ap (with_port d) e ∙ ap (λ (z : Answer). z.drive) is)
+-- the form of a frame that passes is that of its R_CTL
+module _ (fine unproven : Bool) (own : ℕ) (h : Header) (f : List ℕ) {k : Form} (e : judged_by fine unproven own h f ≡ Ok k) where
+  form_is : form_of h.r_ctl ≡ k
+  unfolding judged_by
+  form_is = sym (by (IllFormed ∷ BadSize ∷ NotOurs ∷ BadSource ∷ UnknownForm ∷ Unproven ∷ [])) ∙ ap told e
+    where
+      told : Result Form Refusal → Form
+      told j = on_judged j (λ _. form_of h.r_ctl) (λ m. m)
+
+      by : (xs : List Refusal) → told (first_of (applies_to false fine unproven own h f) xs Err (Ok (form_of h.r_ctl))) ≡ form_of h.r_ctl
+      by [] = refl
+      by (x ∷ xs) = on_cond (λ j. told j ≡ form_of h.r_ctl) (applies_to false fine unproven own h f x) refl (by xs)
+
+  -- and a data frame's is told so
+  data_is : is_data h ≡ is_data_form k
+  data_is = by k form_is
+    where
+      other : (m : Form) → form_of h.r_ctl ≡ m → (m ≡ Data → ⊥) → is_data h ≡ false
+      other m e n = ne_eqb h.r_ctl 0x01 (λ z. n (sym e ∙ passes.is_data_form h.r_ctl z))
+
+      by : (m : Form) → form_of h.r_ctl ≡ m → is_data h ≡ is_data_form m
+      by Link e = other Link e (λ z. not_true (ap is_data_form z))
+      by Done e = other Done e (λ z. not_true (ap is_data_form z))
+      by Abort e = other Abort e (λ z. not_true (ap is_data_form z))
+      by Command e = other Command e (λ z. not_true (ap is_data_form z))
+      by Data e = eq-eqb h.r_ctl 0x01 (data_form h.r_ctl e)
+
+-- a refusal, the drive as it was
+pub refusal_given : {d : Drive} {a : Answer} {x : Refusal} → a ≡ refused x d → Gives a (Err x) d
+refusal_given e = (ap (λ (z : Answer). z.said) (sym e), ap (λ (z : Answer). z.drive) (sym e))
+
+-- what a turn gives, the drive with the port after it
+turn_given : (d : Drive) (t : Turn) {p : Port} {a : Answer} → p ≡ port_after d.port t → answer_to d t ≡ a → Gives a t.said (with_port d p)
+turn_given d t e is = (ap (λ (z : Answer). z.said) is, ap (with_port d) e ∙ ap (λ (z : Answer). z.drive) is)
 
 -- what every call sees, and what a call of the port at an address does
 abbrev sight : Drive → Sight
@@ -110,10 +145,10 @@ abbrev seen : Drive → ℕ → View
 seen d x = view_of d.unit d.port x
 
 -- a turn that changes no login but the one it stores
-kept_told : (d : Drive) (t : Turn) {a : Answer} → t.change ≡ Keep → answer_to d t ≡ a → Tells a (code_of t.said) (stored d t)
-kept_told d t keeps is = turn_told d t (ap (stored_at t.at t.login) (sym (ap (λ (c : Change). changed_all c d.port) keeps ∙ keep_is d.port))) is
+kept_given : (d : Drive) (t : Turn) {a : Answer} → t.change ≡ Keep → answer_to d t ≡ a → Gives a t.said (stored d t)
+kept_given d t keeps is = turn_given d t (ap (stored_at t.at t.login) (sym (ap (λ (c : Change). changed_all c d.port) keeps ∙ keep_is d.port))) is
 
--- a frame in: the number of its refusal, by what is read before a view is made
+-- a frame in, as it was judged before a view is made
 module _ (d : Drive) (f : List ℕ) (start : ℕ) (W : List ℕ) where
   abbrev h : Header
   h = header_of f
@@ -124,81 +159,83 @@ module _ (d : Drive) (f : List ℕ) (start : ℕ) (W : List ℕ) where
   abbrev seat : Option ℕ
   seat = seat_of (sight d).keys h.s_id
 
-  abbrev number : ℕ
-  number = refusal_of (sight d).fine (unproven_at seat (login_in d.port seat).proven) d.port.address h f
+  abbrev judged : Result Form Refusal
+  judged = judged_by (sight d).fine (unproven_at seat (login_in d.port seat).proven) d.port.address h f
 
-  number_seen : number ≡ refusal_of v.fine (unproven_in v) v.own.address h f
-  unfolding view_of view_from own_of
-  number_seen = by seat
+  judged_seen : judged ≡ arrived_in v h f
+  unfolding view_of view_from own_of arrived_in
+  judged_seen = by seat
     where
-      by : (s : Option ℕ) → refusal_of (sight d).fine (unproven_at s (login_in d.port s).proven) d.port.address h f ≡ refusal_of (sight d).fine (unproven_at s (on_found s (λ _. login_in d.port s) empty_login).proven) d.port.address h f
+      by : (s : Option ℕ) → judged_by (sight d).fine (unproven_at s (login_in d.port s).proven) d.port.address h f ≡ judged_by (sight d).fine (unproven_at s (on_found s (λ _. login_in d.port s) empty_login).proven) d.port.address h f
       by (Some i) = refl
       by None = refl
 
-  -- one that has a number is refused with it, the buffer and the window left as they were
-  module _ (some : number ≡ 0 → ⊥) where
-    by_number : RefusedBy d f start W number
-    by_number = subst (RefusedBy d f start W) (sym number_seen) (frame_refused d f start W (λ z. some (number_seen ∙ z)))
+  module _ (l : List ℕ) (long : short_buffer (length l) ≡ false) where
+    -- what it leaves: what is told and the drive, the reply buffer, and the window
+    abbrev pub Leaves : Result ℕ Refusal → Drive → List ℕ → List ℕ → Type 0
+    Leaves said after l₁ W₁ = Gives (frame_in d f start W (length l)) said after × (l₁ ≡ frame_in_buffer d f start W l) × (W₁ ≡ frame_in_window d f start W (length l))
 
-    pub number_fits : 65536 + number < 2 ^ 64
-    number_fits = let few = (numbers by_number.refusal).1 in omega (arith, few, by_number.number)
+    -- one that is refused, the buffer and the window left as they were
+    pub frame_refused : {x : Refusal} → judged ≡ Err x → Leaves (Err x) d l W
+    frame_refused e =
+        let r = sym judged_seen ∙ e in
+        (refusal_given (frame_came d f start W (length l) long ∙ rw r), sym (buffer_came d f start W l long ∙ rw r), sym (window_came d f start W (length l) long ∙ rw r))
 
-    pub frame_numbered : (l : List ℕ) → short_buffer (length l) ≡ false → Tells (frame_in d f start W (length l)) (65536 + number) d × (l ≡ frame_in_buffer d f start W l) × (W ≡ frame_in_window d f start W (length l))
-    frame_numbered l long = (
-      subst (λ (n : ℕ). Tells (frame_in d f start W (length l)) (65536 + n) d) by_number.number (refusal_told (by_number.answer (length l) long)),
-      sym (by_number.buffer l long),
-      sym (by_number.window (length l) long),
-    )
+    -- one that arrived well comes to its turn: a data frame's, or another's
+    module _ {k : Form} (e : judged ≡ Ok k) where
+      arrived : arrived_in v h f ≡ Ok k
+      arrived = sym judged_seen ∙ e
 
-  -- one that has none comes to its turn: a data frame's, or another's
-  module _ (none : number ≡ 0) (l : List ℕ) (long : short_buffer (length l) ≡ false) where
-    zero : refusal_of v.fine (unproven_in v) v.own.address h f ≡ 0
-    zero = sym number_seen ∙ none
+      module _ (held : is_data_form k ≡ true) where
+        abbrev turn_data : Turn
+        turn_data = taking_turn v h (length f) start (length W) (length l)
 
-    module _ (is : is_data h ≡ true) where
-      abbrev turn_data : Turn
-      turn_data = taking_turn v h (length f) start (length W) (length l)
+        is : is_data h ≡ true
+        is = data_is (sight d).fine (unproven_at seat (login_in d.port seat).proven) d.port.address h f e ∙ held
 
-      pub frame_data : Tells (frame_in d f start W (length l)) (code_of turn_data.said) (stored d turn_data) × (taking_buffer v h (length f) start (length W) l ≡ frame_in_buffer d f start W l) × (taking_window v h f start W ≡ frame_in_window d f start W (length l))
-      unfolding arrived_turn arrived_buffer arrived_window
-      frame_data = (
-        kept_told d turn_data (taking_keeps v h (length f) start (length W) (length l)) (ap (answer_to d) (held_arm (is_data h) turn_data _ is) ∙ frame_turn_lem d f start W zero (length l) long),
-        held_arm (is_data h) _ (passed_buffer v h f l) is ∙ frame_turn_buffer d f start W zero l long,
-        held_arm (is_data h) _ W is ∙ frame_turn_window d f start W zero (length l) long,
-      )
+        pub frame_data : Leaves turn_data.said (stored d turn_data) (taking_buffer v h (length f) start (length W) l) (taking_window v h f start W)
+        unfolding arrived_turn arrived_buffer arrived_window
+        frame_data = (
+          kept_given d turn_data (taking_keeps v h (length f) start (length W) (length l)) (ap (answer_to d) (held_arm (is_data h) turn_data _ is) ∙ frame_turn_lem d f start W k arrived (length l) long),
+          held_arm (is_data h) _ (passed_buffer v h f l) is ∙ frame_turn_buffer d f start W k arrived l long,
+          held_arm (is_data h) _ W is ∙ frame_turn_window d f start W k arrived (length l) long,
+        )
 
-    module _ (is : is_data h ≡ false) where
-      abbrev turn_other : Turn
-      turn_other = passed_turn v h f (length l)
+      module _ (failed : is_data_form k ≡ false) where
+        abbrev turn_other : Turn
+        turn_other = passed_turn v h f (length l)
 
-      pub frame_other : Tells (frame_in d f start W (length l)) (code_of turn_other.said) (settled d (sight d).keys turn_other) × (passed_buffer v h f l ≡ frame_in_buffer d f start W l) × (W ≡ frame_in_window d f start W (length l))
-      unfolding arrived_turn arrived_buffer arrived_window
-      frame_other = (
-        turn_told d turn_other (settled_answer d.unit d.port (arrived_formed d f start W zero) turn_other) (ap (answer_to d) (failed_arm (is_data h) _ turn_other is) ∙ frame_turn_lem d f start W zero (length l) long),
-        failed_arm (is_data h) (taking_buffer v h (length f) start (length W) l) _ is ∙ frame_turn_buffer d f start W zero l long,
-        failed_arm (is_data h) (taking_window v h f start W) _ is ∙ frame_turn_window d f start W zero (length l) long,
-      )
+        is_not : is_data h ≡ false
+        is_not = data_is (sight d).fine (unproven_at seat (login_in d.port seat).proven) d.port.address h f e ∙ failed
+
+        pub frame_other : Leaves turn_other.said (settled d (sight d).keys turn_other) (passed_buffer v h f l) W
+        unfolding arrived_turn arrived_buffer arrived_window
+        frame_other = (
+          turn_given d turn_other (settled_answer d.unit d.port (arrived_fine d f start W k arrived) turn_other) (ap (answer_to d) (failed_arm (is_data h) _ turn_other is_not) ∙ frame_turn_lem d f start W k arrived (length l) long),
+          failed_arm (is_data h) (taking_buffer v h (length f) start (length W) l) _ is_not ∙ frame_turn_buffer d f start W k arrived l long,
+          failed_arm (is_data h) (taking_window v h f start W) _ is_not ∙ frame_turn_window d f start W k arrived (length l) long,
+        )
 
 -- a next frame changes no login but the one it stores
 module _ (d : Drive) (a x start : ℕ) (W : List ℕ) (room : ℕ) where
   abbrev turn_out_lem : Turn
   turn_out_lem = next_out_turn (seen d a) a x start W room
 
-  pub next_stores : short_buffer room ≡ false → Tells (next_frame d a x start W room) (code_of turn_out_lem.said) (stored d turn_out_lem)
-  next_stores long = kept_told d turn_out_lem (next_out_keeps (seen d a) a x start W room) (next_out_turn_lem d a x start W room long)
+  pub next_stores : short_buffer room ≡ false → Gives (next_frame d a x start W room) turn_out_lem.said (stored d turn_out_lem)
+  next_stores long = kept_given d turn_out_lem (next_out_keeps (seen d a) a x start W room) (next_out_turn_lem d a x start W room long)
 
 -- an event changes a drive that is well formed, and no other
 module _ (d : Drive) (e : Event) where
   abbrev reached : Port
   reached = reached_of d.port (marks_of (change_of e) (sight d).keys) (change_of e)
 
-  happens : (fine : Bool) → well_formed d.unit d.port ≡ fine → Tells (cond fine (nothing_sent (after_event e d)) (refused IllFormed d)) (code_of (happened_said fine)) (with_port d (cond fine reached d.port))
+  happens : (fine : Bool) → well_formed d.unit d.port ≡ fine → Gives (cond fine (nothing_sent (after_event e d)) (refused IllFormed d)) (happened_said fine) (with_port d (cond fine reached d.port))
   unfolding after_event
   happens true w = (refl, ap (with_port d) (reached_changed d.unit d.port w (change_of e)))
   happens false w = (refl, refl)
 
-  pub event_happens : Tells (event_answer d e) (code_of (happened_said (sight d).fine)) (happened d (sight d) (change_of e))
+  pub event_happens : Gives (event_answer d e) (happened_said (sight d).fine) (happened d (sight d) (change_of e))
   unfolding event_answer
   event_happens =
-      subst (λ (fine : Bool). Tells (event_answer d e) (code_of (happened_said fine)) (with_port d (cond fine reached d.port))) (sym (fine_by_lem d.unit d.port))
+      subst (λ (fine : Bool). Gives (event_answer d e) (happened_said fine) (with_port d (cond fine reached d.port))) (sym (fine_by_lem d.unit d.port))
       (happens (well_formed d.unit d.port) refl)

@@ -1,5 +1,4 @@
 mod Answers
 mod Calling
 mod Lent
-mod Looking
 mod Reached

@@ -1,23 +1,29 @@
 -- A loop over the logins whose places are marked: at place i the logins before it are done, and the change is still to go over the others. Assumes nothing.
 use Rattle.std.specs.Prelude.{Option, Some, None}
-use Prim.Native.Nat.{ℕ, zero, suc, ◌+◌, ◌-◌, ◌≤◌, ◌<◌}
+use Prim.Native.Nat.{ℕ, zero, suc, ◌+◌, ◌≤◌, ◌<◌}
 use mathlib.Core.Path.{◌≡◌, refl, sym, ap, ◌∙◌, subst}
-use mathlib.Core.Bool.{Bool, true, false, cond}
+use mathlib.Core.Bool.{Bool, true, false, cond, not, ◌&&◌}
 use mathlib.Core.List.{List, [], ◌∷◌, ◌++◌, append_assoc, append-nil}
 use native.Mathlib.Numerals.{add-one}
-use native.Mathlib.Nat.{le_refl, le_antisymm, lt_irrefl}
+use native.Mathlib.Nat.{le_refl}
 use native.Mathlib.Omega.{arith}
-use lib.Dec.{ltb}
+use lib.Dec.{T, eqb}
+use borrow.Author.Tests.{eqb-true, eq-eqb}
 use lib.ListN.{length, get_or, set, take, drop, drop_of_length-le, length-set}
+use Rattle.std.proofs.lemmas.List.{get_or-map, length-map, get_or-set_same, get_or-set_other}
 use lib.Seq.{drop-cons, take_all, take-suc, take-suc-set, drop-set-lt, set_out}
-use borrow.Author.Tests.{ltb-true, ltb-false}
 use Rattle.tables.specs.Lists.{on_found}
 use Rattle.state.specs.declared.Login.{Login}
 use Rattle.state.specs.declared.Port.{Port}
 use Rattle.state.specs.declared.Change.{Change}
 use Rattle.state.specs.Changes.{no_login, with_logins, with_login, changed_of}
-use Rattle.calls.specs.Turn.{stored_at}
-use Rattle.boundary.specs.Settled.{spared_marks, NextMarked, reached_by, reached_of}
+use Rattle.state.specs.Tables.{login_in}
+use Rattle.calls.specs.Turn.{stored_at, AtBelow}
+use Rattle.calls.proofs.Seats.{login_here}
+use Rattle.drive.specs.Turn.{unproven_at}
+use Rattle.formed.specs.declared.Key.{Key}
+use Rattle.formed.proofs.Keys.{no_key}
+use Rattle.boundary.specs.Settled.{reaches, marks_of, spared_marks, reached_by, reached_of}
 
 -- ls are the logins now, and whole what they are to be
 pub record Reached (c : Change) (ms : List Bool) (whole ls : List Login) (i : ℕ) : Type 0 where
@@ -31,22 +37,11 @@ module _ {c : Change} {ms : List Bool} (len : length ms ≡ 8) where
 
   module _ {whole ls : List Login} where
     -- a place that is not marked is passed over
-    reached_pass : {i : ℕ} → i < 8 → get_or ms i false ≡ false → Reached c ms whole ls i → Reached c ms whole ls (i + 1)
+    pub reached_pass : {i : ℕ} → i < 8 → get_or ms i false ≡ false → Reached c ms whole ls i → Reached c ms whole ls (i + 1)
     reached_pass {i} h e s =
         let k : i < length ms = rw len h in
         let l : i < length ls = rw s.long h in
         record { bound = omega arith; long = s.long; rest = s.rest ∙ rw (add-one, drop-cons ms i false k, drop-cons ls i no_login l, take-suc ls i no_login l, e, append_assoc) }
-
-    -- and so are all up to the next that is
-    passes : (n : ℕ) {i r : ℕ} → i + n ≡ r → r ≤ 8 → ((j : ℕ) → i ≤ j → j < r → get_or ms j false ≡ false) → Reached c ms whole ls i → Reached c ms whole ls r
-    passes zero {i} {r} e h p s = let e' : i ≡ r = omega (arith, e) in subst (Reached c ms whole ls) e' s
-    passes (suc n) {i} {r} e h p s =
-        let less : i < r = omega (arith, e) in
-        let e' : i + 1 + n ≡ r = omega (arith, e) in
-        passes n e' h (λ j from below. let from' : i ≤ j = omega (arith, from) in p j from' below) (reached_pass (omega (arith, less, h)) (p i (le_refl i) less) s)
-
-    pub reached_skip : {i r : ℕ} → NextMarked ms i r → Reached c ms whole ls i → Reached c ms whole ls r
-    reached_skip {i} {r} n s = let e : i + (r - i) ≡ r = omega (arith, n.after) in passes (r - i) e n.below n.passed s
 
     -- the login at a place that is marked is changed
     pub reached_store : {i : ℕ} {m : Login} → i < 8 → get_or ms i false ≡ true → m ≡ changed_of c (get_or ls i no_login) → Reached c ms whole ls i → Reached c ms whole (set ls i m) (i + 1)
@@ -79,38 +74,55 @@ unfolding with_login reached_of
 spared_last p ms c l (Some i) = ap (with_logins p) (reached_spare c ms p.logins i false l)
 spared_last p ms c l None = refl
 
--- the port with a login at the place that is found, or at none
-module _ (p : Port) (l : Login) (n : ℕ) where
-  pub stored_here : (f : Option ℕ) → n ≡ on_found f (λ i. i) 8 → n < 8 → with_logins p (set p.logins n l) ≡ stored_at f l p
+-- the port with a login at the place that is told, which may be past the table
+module _ (p : Port) (l : Login) (f : Option ℕ) {i : ℕ} (e : f ≡ Some i) where
+  pub stored_here : with_logins p (set p.logins i l) ≡ stored_at f l p
   unfolding with_login
-  stored_here (Some i) e h = ap (λ (j : ℕ). with_logins p (set p.logins j l)) e
-  stored_here None e h = absurd (lt_irrefl n (omega (arith, e, h)))
+  stored_here = rw e
 
-  pub stored_none : (f : Option ℕ) → length p.logins ≡ 8 → n ≡ on_found f (λ i. i) 8 → 8 ≤ n → p ≡ stored_at f l p
+  pub stored_past : length p.logins ≡ 8 → 8 ≤ i → p ≡ stored_at f l p
   unfolding with_login
-  stored_none (Some i) long e h = ap (with_logins p) (sym (set_out p.logins i l (omega (arith, long, e, h))))
-  stored_none None long e h = refl
+  stored_past long h = rw e (ap (with_logins p) (sym (set_out p.logins i l (omega (arith, long, h)))))
 
--- the search for the next place that is marked: those from a place on to i were passed over
-pub record Passed (ms : List Bool) (from i : ℕ) : Type 0 where
-  pub after : from ≤ i
-  pub below : i ≤ 8
-  pub passed : (j : ℕ) → from ≤ j → j < i → get_or ms j false ≡ false
+-- a seat that is told is one of the table's eight
+pub seat_below : (f : Option ℕ) {i : ℕ} → f ≡ Some i → AtBelow f → i < 8
+seat_below f e h = subst AtBelow e h
 
-module _ {ms : List Bool} {from : ℕ} where
-  pub pass_starts : from ≤ 8 → Passed ms from from
-  pass_starts h = record { after = le_refl from; below = h; passed = λ j a b. absurd (lt_irrefl j (omega (arith, a, b))) }
+-- whether the login there is unproven
+pub seat_unproven : (p : Port) (f : Option ℕ) {i : ℕ} → f ≡ Some i → i < length p.logins → {b : Bool} → b ≡ unproven_at (Some i) (get_or p.logins i no_login).proven → b ≡ unproven_at f (login_in p f).proven
+seat_unproven p f {i} e h eb = eb ∙ ap (λ (l : Login). unproven_at (Some i) l.proven) (login_here p (Some i) refl h) ∙ ap (λ (g : Option ℕ). unproven_at g (login_in p g).proven) (sym e)
 
-  module _ {i : ℕ} (s : Passed ms from i) where
-    pub pass_on : i < 8 → get_or ms i false ≡ false → Passed ms from (i + 1)
-    pass_on h miss = record { after = omega (arith, s.after); below = omega (arith, h); passed = λ j a b. by_place j a (omega (arith, b)) (ltb j i) refl }
+-- and where there is none, no login is unproven
+pub none_unproven : (p : Port) (f : Option ℕ) → f ≡ None → false ≡ unproven_at f (login_in p f).proven
+unfolding unproven_at
+none_unproven p f e = rw e
+
+-- the mark of a place: the change reaches the login there, by its key, and the place is not spared
+module _ (c : Change) (keys : List Key) (long : length keys ≡ 8) where
+  abbrev marks : Option ℕ → List Bool
+  marks f = spared_marks (marks_of c keys) f
+
+  all_long : length (marks_of c keys) ≡ 8
+  all_long = length-map keys (reaches c) ∙ long
+
+  pub marks_long : (f : Option ℕ) → length (marks f) ≡ 8
+  marks_long (Some i) = length-set (marks_of c keys) i false ∙ all_long
+  marks_long None = all_long
+
+  module _ (i : ℕ) (here : i < 8) where
+    in_keys : i < length keys
+    in_keys = rw long here
+
+    in_marks : i < length (marks_of c keys)
+    in_marks = rw all_long here
+
+    by_key : get_or (marks_of c keys) i false ≡ reaches c (get_or keys i no_key)
+    by_key = get_or-map (reaches c) keys i no_key false in_keys
+
+    pub mark_at : (f : Option ℕ) → get_or (marks f) i false ≡ (not (on_found f (λ j. eqb j i) false) && reaches c (get_or keys i no_key))
+    mark_at (Some j) = by (eqb j i) refl
       where
-        by_place : (j : ℕ) → from ≤ j → j ≤ i → (t : Bool) → ltb j i ≡ t → get_or ms j false ≡ false
-        by_place j a b true e = s.passed j a (ltb-true j i e)
-        by_place j a b false e = rw (le_antisymm b (ltb-false j i e)) miss
-
-    pub pass_here : get_or ms i false ≡ true → NextMarked ms from i
-    pass_here hit = record { after = s.after; below = s.below; passed = s.passed; here = λ _. hit }
-
-    pub pass_out : 8 ≤ i → NextMarked ms from i
-    pass_out h = record { after = s.after; below = s.below; passed = s.passed; here = λ l. absurd (lt_irrefl i (omega (arith, l, h))) }
+        by : (b : Bool) → eqb j i ≡ b → get_or (set (marks_of c keys) j false) i false ≡ (not b && reaches c (get_or keys i no_key))
+        by true e = rw (eqb-true j i e) (get_or-set_same (marks_of c keys) i false false in_marks)
+        by false e = get_or-set_other (marks_of c keys) j i false false (λ z. subst T (sym (eq-eqb j i (sym z)) ∙ e) tt) ∙ by_key
+    mark_at None = by_key

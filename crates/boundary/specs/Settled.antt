@@ -1,5 +1,5 @@
 -- The lent port after a turn, changed where it stands: which logins a change reaches, by their keys. That this is the port after the turn, at a drive that is well formed, is `settled_answer`.
-use Rattle.std.specs.Prelude.{ℕ, ◌+◌, ◌≤◌, ◌<◌, ◌≡◌, Bool, true, false, cond, not, ◌||◌, List, [], ◌∷◌, map, eqb, get_or, set, Option, Some, None, Ok, Err, Result}
+use Rattle.std.specs.Prelude.{ℕ, ◌+◌, Bool, false, cond, not, ◌||◌, List, [], ◌∷◌, map, eqb, set, Option, Some, None, Ok, Err, Result}
 use Rattle.refusal.specs.declared.Refusal.{Refusal}
 use Rattle.state.specs.declared.Login.{Login}
 use Rattle.state.specs.declared.Port.{Port}
@@ -33,13 +33,6 @@ marks_of c keys = map (reaches c) keys
 abbrev pub spared_marks : List Bool → Option ℕ → List Bool
 spared_marks marks (Some i) = set marks i false
 spared_marks marks None = marks
-
--- r is the next place from a place on that is marked, or 8
-pub record NextMarked (marks : List Bool) (from r : ℕ) : Type 0 where
-  pub after : from ≤ r
-  pub below : r ≤ 8
-  pub passed : (j : ℕ) → from ≤ j → j < r → get_or marks j false ≡ false
-  pub here : r < 8 → get_or marks r false ≡ true
 
 -- the logins, those changed whose places are marked
 abbrev pub reached_by : Change → List Bool → List Login → List Login

@@ -11,6 +11,7 @@ use drive::Drive;
 use state::Setup;
 
 // Makes a drive in the lent state, from a setup.
+// kept: each of the six stands again in boundary, clauses and all, since the C interface needs the exported names, and a crate that C links is none that demands can stand on (docs/DECISIONS.md)
 #[unsafe(no_mangle)]
 pub extern "C" fn jhartupal_make(d: &mut Drive, setup: &Setup) -> u64
     ensures { Tells (make_answer d.old setup.now) result d.new }

@@ -1,15 +1,19 @@
 -- What is found by the keys of logins that are fine is what is found in the table. Assumes nothing.
-use Prim.Native.Nat.{ℕ, suc, ◌+◌}
+use Rattle.std.specs.Prelude.{Option, Some}
+use Rattle.std.proofs.lemmas.List.{get_or_default, get_or_past}
+use Prim.Native.Nat.{ℕ, suc, ◌+◌, ◌<◌, ◌≤◌}
 use mathlib.Core.Path.{◌≡◌, refl, sym, ◌∙◌}
 use mathlib.Core.List.{List, [], ◌∷◌, map}
 use mathlib.Core.Bool.{Bool, true, false, cond, ◌&&◌, ◌||◌}
 use lib.Dec.{eqb}
+use lib.ListN.{length, get_or}
 use Rattle.tables.specs.Lists.{first_from, first, all}
 use Rattle.tables.proofs.Bools.{and_left, and_right}
 use Rattle.state.specs.declared.Login.{Login}
+use Rattle.state.specs.declared.Port.{Port}
 use Rattle.state.specs.declared.Unit.{Unit}
-use Rattle.state.specs.Changes.{empty_login, is_used, has_address, has_name, host_ended}
-use Rattle.state.specs.Tables.{is_free}
+use Rattle.state.specs.Changes.{no_login, empty_login, is_used, has_address, has_name, login_at, host_ended}
+use Rattle.state.specs.Tables.{is_free, login_in}
 use Rattle.formed.specs.Formed.{login_fine}
 use Rattle.formed.specs.Keys.{key_of, key_named, login_key}
 use Rattle.formed.proofs.Keys.{two_more, used_free, free_used, key_name}
@@ -77,3 +81,13 @@ module _ (u : Unit) (own : ℕ) (ls : List Login) (fine : all (login_fine u own)
   place_is n =
       first_map (login_fine u own) (λ l. is_free (host_ended a n l)) (is_any 1 (2 + a) n) (login_key u own) (λ l e. key_place u own a l e n) ls fine
       ∙ sym (first_map (login_fine u own) (λ l. is_free (host_ended a n l)) is_free (host_ended a n) (λ l e. refl) ls fine)
+
+-- the login at a seat, by whether its place is one of the table
+module _ (p : Port) (seat : Option ℕ) {i : ℕ} (e : seat ≡ Some i) where
+  pub login_here : i < length p.logins → get_or p.logins i no_login ≡ login_in p seat
+  unfolding login_at
+  login_here h = rw e (get_or_default p.logins i no_login empty_login h)
+
+  pub login_past : length p.logins ≤ i → empty_login ≡ login_in p seat
+  unfolding login_at
+  login_past h = rw e (sym (get_or_past p.logins i empty_login h))

@@ -6,7 +6,8 @@ use lib.Dec.{eqb, leb}
 use borrow.Author.Tests.{not-true}
 use Rattle.tables.proofs.Bools.{or_left, or_right}
 use Rattle.tables.proofs.Below.{agree}
-use Rattle.command.specs.declared.Task.TheVariants.{Code}
+use Rattle.std.specs.Prelude.{Err}
+use Rattle.command.specs.declared.CmndFault.TheVariants.{Fields}
 use Rattle.command.specs.Cmnd.{task_for}
 
 -- a flag of a byte, 1 where it is set, and how many are
@@ -28,8 +29,8 @@ known_task t = eqb t 0x00 || eqb t 0x80 || eqb t 0x40 || eqb t 0x20 || eqb t 0x0
 pub tasks_are : (t : ℕ) → t < 256 → wrong_task t ≡ not (known_task t)
 tasks_are = agree wrong_task (λ t. not (known_task t)) 256 refl
 
--- and these are answered with 02
-pub wrong_tasks : (t lun from : ℕ) → t < 256 → wrong_task t ≡ true → task_for t lun from ≡ Code 0x02
+-- and these are answered with 02, the `code_of` of this fault
+pub wrong_tasks : (t lun from : ℕ) → t < 256 → wrong_task t ≡ true → task_for t lun from ≡ Err Fields
 unfolding task_for
 wrong_tasks t lun from h w =
     let none = eqb t 0x00 in

@@ -1,5 +1,5 @@
 -- No FCP_CMND makes a state ill formed. Assumes nothing.
-use Rattle.std.specs.Prelude.{Option, Some, None}
+use Rattle.std.specs.Prelude.{Option, Some, None, Ok, Err, Result}
 use mathlib.Core.Path.{◌≡◌, refl, sym, ap, ◌∙◌}
 use mathlib.Core.Bool.{Bool, true, false, cond, or-true}
 use mathlib.Core.List.{List}
@@ -26,17 +26,17 @@ use Rattle.calls.proofs.Views.{sought_is}
 use Rattle.calls.proofs.Decisions.{on_cond, on_found_lem}
 use Rattle.calls.proofs.Keeping.{Keeps, stays, stored_kept}
 use Rattle.command.specs.declared.Cmnd.{Cmnd}
-use Rattle.command.specs.declared.Decoded.{Decoded}
 use Rattle.command.specs.declared.Task.{Task}
 use Rattle.command.specs.declared.Task.TheVariants as task
+use Rattle.command.specs.declared.CmndFault.{CmndFault}
 use Rattle.command.specs.Cmnd.{cmnd_of, task_of}
-use Rattle.command.specs.Cdb.{range10, decoded_of, Countable}
+use Rattle.command.specs.Cdb.{range10, operation_of}
 use Rattle.command.specs.Command.{execute_of, done_as, commanded_at, logged_out, command_of}
-use Rattle.command.proofs.Moves.{operation_of, Moves, same, ends, tells, opens, execute_moves}
-use Rattle.command.proofs.Opens.{New, exchange_new, moved_none, wants_opens}
+use Rattle.command.proofs.Moves.{Moves, same, ends, tells, opens, execute_moves}
+use Rattle.command.proofs.Opens.{New, Countable, exchange_new, moved_none, wants_opens}
 
 -- what a command on a paired login makes of it is fine
-module _ (u : Unit) (own : ℕ) (l : Login) (pair : eqb l.paired 1 ≡ true) (ox : ℕ) (c : Cmnd) (few : Countable (operation_of c)) where
+module _ (u : Unit) (own : ℕ) (l : Login) (pair : eqb l.paired 1 ≡ true) (ox : ℕ) (c : Cmnd) (few : Countable (operation_of c.cdb)) where
   module _ (e : Exchange) (new : New ox e) (may : openable u e ≡ true) (none : find_exchange l ox ≡ None) where
     fine : Used u own l → exchange_fine u (full_frame l.size) l.paired e ≡ true
     unfolding exchange_fine
@@ -55,25 +55,22 @@ module _ (u : Unit) (own : ℕ) (l : Login) (pair : eqb l.paired 1 ≡ true) (ox
   moves_fine place at m (ends j) = stays refl refl refl (λ h. end_used h j)
   moves_fine place at m tells = stays refl refl refl (λ h. attention_used h 0 refl)
   moves_fine place at m (opens b j e p n none) =
-      opened e (rw p.is (exchange_new (operation_of c) l.attention ox c.lun c.expected)) (could n) (sym at ∙ none) b j
+      opened e (rw p.is (exchange_new (operation_of c.cdb) l.attention ox c.lun c.expected)) (could n) (sym at ∙ none) b j
     where
       could : (total e ≡ 0 → ⊥) → openable u e ≡ true
-      could = rw p.is (wants_opens u (operation_of c) l.attention ox c.lun c.expected few p.allowed p.within)
+      could = rw p.is (wants_opens u (operation_of c.cdb) l.attention ox c.lun c.expected few p.allowed p.within)
 
 -- a CDB's count of blocks is two bytes
-abbrev Small : Decoded → Type 0
-Small d = Countable d.operation
-
-countable : (cdb : List ℕ) → num 2 cdb 7 ≤ 65535 → Small (decoded_of cdb)
-unfolding decoded_of range10
+countable : (cdb : List ℕ) → num 2 cdb 7 ≤ 65535 → Countable (operation_of cdb)
+unfolding operation_of range10
 countable cdb few =
     let code = get_or cdb 0 0 in
-    on_cond Small (eqb code 0x00) tt
-    (on_cond Small (eqb code 0x03) tt
-    (on_cond Small (eqb code 0x12) tt
-    (on_cond Small (eqb code 0x25) tt
-    (on_cond Small (eqb code 0x28) few
-    (on_cond Small (eqb code 0x2a) few tt)))))
+    on_cond Countable (eqb code 0x00) tt
+    (on_cond Countable (eqb code 0x03) tt
+    (on_cond Countable (eqb code 0x12) tt
+    (on_cond Countable (eqb code 0x25) tt
+    (on_cond Countable (eqb code 0x28) few
+    (on_cond Countable (eqb code 0x2a) few tt)))))
 
 module _ (u : Unit) (p : Port) (h : Header) (f : List ℕ) (known : AllBytes f) (w : well_formed u p ≡ true) where
   abbrev from : ℕ
@@ -86,14 +83,14 @@ module _ (u : Unit) (p : Port) (h : Header) (f : List ℕ) (known : AllBytes f) 
   unfolding logged_out
   out_kept = change_kept u p w (EndLogin from)
 
-  few : Countable (operation_of (cmnd_of f))
+  few : Countable (operation_of (cmnd_of f).cdb)
   unfolding cmnd_of
   few = countable (cmnd_of f).cdb (let a = known 43 in let b = known 44 in omega arith)
 
-  done_kept : (t : Task) (d : Decided) → Kept d → Kept (done_as t p d)
-  done_kept (task.Code code) d x = w
-  done_kept (task.Apply e) d x = change_kept u p w e
-  done_kept task.Execute d x = x
+  done_kept : (t : Result Task CmndFault) (d : Decided) → Kept d → Kept (done_as t p d)
+  done_kept (Err fault) d x = w
+  done_kept (Ok (task.Apply e)) d x = change_kept u p w e
+  done_kept (Ok task.Execute) d x = x
 
   -- test 1 looks where the sender's login has its exchanges
   sought : (i : ℕ) → find_login p from ≡ Some i → sought_in p from h.ox_id ≡ find_exchange (login_at p i) h.ox_id

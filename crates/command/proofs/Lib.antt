@@ -1,4 +1,3 @@
-pub mod Ways
 pub mod Turns
 pub mod Flags
 pub mod Moves

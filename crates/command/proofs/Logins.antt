@@ -1,5 +1,5 @@
 -- What an FCP_CMND makes of the logins: from a paired one, of every login its attention and its exchanges alone; from any other a drive LOGO, and that login ends. Assumes nothing.
-use Rattle.std.specs.Prelude.{Option, Some, None}
+use Rattle.std.specs.Prelude.{Option, Some, None, Ok, Err, Result}
 use mathlib.Core.Path.{◌≡◌, refl, sym, ap, ◌∙◌}
 use mathlib.Core.Bool.{Bool, true, false, cond}
 use mathlib.Core.List.{List}
@@ -34,8 +34,9 @@ use Rattle.calls.proofs.Others.{other_has, changed_sees, seat_another}
 use Rattle.command.specs.declared.Cmnd.{Cmnd}
 use Rattle.command.specs.declared.Task.{Task}
 use Rattle.command.specs.declared.Task.TheVariants as task
-use Rattle.command.specs.declared.Asked.{Asked}
-use Rattle.command.specs.declared.Asked.TheVariants as asked
+use Rattle.command.specs.declared.CmndFault.{CmndFault}
+use Rattle.command.specs.declared.CmndFault.TheVariants.{Fields, Unsupported, OtherUnit}
+use Rattle.command.specs.declared.Check.{Check}
 use Rattle.command.specs.Cmnd.{cmnd_of, malformed, task_for, task_of}
 use Rattle.command.specs.Tests.{asked_of}
 use Rattle.command.specs.Command.{refused_with, bit_for, opened_of, answered_as, execute_of, done_as, commanded_at, logged_out, command_of}
@@ -54,25 +55,25 @@ unfolding has_address
 alike_has (alike n es) a = refl
 
 -- the task flags of a sender end logins of nobody
-pub data Mild (from : ℕ) : Task → Type 0 where
-  code : (n : ℕ) → Mild from (task.Code n)
-  abort : Mild from (task.Apply (EndExchangesOf from))
-  reset : Mild from (task.Apply Reset)
-  clear : Mild from (task.Apply (Clear from))
-  execute : Mild from task.Execute
+pub data Mild (from : ℕ) : Result Task CmndFault → Type 0 where
+  fault : (t : CmndFault) → Mild from (Err t)
+  abort : Mild from (Ok (task.Apply (EndExchangesOf from)))
+  reset : Mild from (Ok (task.Apply Reset))
+  clear : Mild from (Ok (task.Apply (Clear from)))
+  execute : Mild from (Ok task.Execute)
 
 pub task_mild : (c : Cmnd) (n from : ℕ) → Mild from (task_of c n from)
 unfolding task_of task_for
 task_mild c n from =
     let t = c.task in
     let zero = eqb c.lun 0 in
-    on_cond (Mild from) (malformed n c.bits) (code 2)
+    on_cond (Mild from) (malformed n c.read c.write) (fault Fields)
     (on_cond (Mild from) (eqb t 0x00) execute
-    (on_cond (Mild from) (eqb t 0x80) (code 4)
-    (on_cond (Mild from) (eqb t 0x40) (code 4)
+    (on_cond (Mild from) (eqb t 0x80) (fault Unsupported)
+    (on_cond (Mild from) (eqb t 0x40) (fault Unsupported)
     (on_cond (Mild from) (eqb t 0x20) reset
-    (on_cond (Mild from) (eqb t 0x04) (on_cond (Mild from) zero clear (code 5))
-    (on_cond (Mild from) (eqb t 0x02) (on_cond (Mild from) zero abort (code 5)) (code 2)))))))
+    (on_cond (Mild from) (eqb t 0x04) (on_cond (Mild from) zero clear (fault OtherUnit))
+    (on_cond (Mild from) (eqb t 0x02) (on_cond (Mild from) zero abort (fault OtherUnit)) (fault Fields)))))))
 
 aborted_alike : (a : ℕ) (l : Login) → Alike l (aborted_of a l)
 unfolding aborted_of without_exchanges
@@ -127,10 +128,9 @@ execute_spoken : (u : Unit) (l : Login) (place : Option ℕ) (ox : ℕ) (c : Cmn
 unfolding execute_of refused_with opened_of
 execute_spoken u l place ox c = on_found_lem Says place _ _ (λ j _. responds _) (λ _. by (asked_of u l.attention ox c))
   where
-    by : (a : Asked) → Says (answered_as a l c)
-    by (asked.Refused key sense) = responds _
-    by asked.Attention = responds _
-    by (asked.Wants e) = on_cond Says (eqb (total e) 0) (responds _) (on_cond Says (bit_for e c.bits) (on_found_lem Says (free_exchange l) _ _ (λ j _. silent) (λ _. responds _)) (responds _))
+    by : (a : Result Exchange Check) → Says (answered_as a l c)
+    by (Err check) = responds _
+    by (Ok e) = on_cond Says (eqb (total e) 0) (responds _) (on_cond Says (bit_for e c) (on_found_lem Says (free_exchange l) _ _ (λ j _. silent) (λ _. responds _)) (responds _))
 
 module _ (u : Unit) (p : Port) (h : Header) (f : List ℕ) where
   abbrev from : ℕ
@@ -155,10 +155,10 @@ module _ (u : Unit) (p : Port) (h : Header) (f : List ℕ) where
   unfolding commanded_at
   command_spoken r = paired_is r (λ x. Spoken x.reply) (λ i e. by i (task_of (cmnd_of f) (length f) from))
     where
-      by : (i : ℕ) (t : Task) → Spoken (done_as t p (served_at p i (execute_of u (login_at p i) (sought_in p from h.ox_id) h.ox_id (cmnd_of f)))).reply
-      by i (task.Code n) = responds _
-      by i (task.Apply e) = responds _
-      by i task.Execute = execute_spoken u (login_at p i) (sought_in p from h.ox_id) h.ox_id (cmnd_of f)
+      by : (i : ℕ) (t : Result Task CmndFault) → Spoken (done_as t p (served_at p i (execute_of u (login_at p i) (sought_in p from h.ox_id) h.ox_id (cmnd_of f)))).reply
+      by i (Err t) = responds _
+      by i (Ok (task.Apply e)) = responds _
+      by i (Ok task.Execute) = execute_spoken u (login_at p i) (sought_in p from h.ox_id) h.ox_id (cmnd_of f)
 
   -- from any other sender: a drive LOGO, and its login ends
   pub command_unpaired : Paired false → command_of u p h f ≡ logged_out p from
@@ -175,8 +175,8 @@ module _ (u : Unit) (p : Port) (h : Header) (f : List ℕ) where
     abbrev Same : Decided → Type 0
     Same x = (b : ℕ) → Alike (login_of p b) (login_of x.port b)
 
-    done_same : (t : Task) → Mild from t → (x : Decided) → Same x → Same (done_as t p x)
-    done_same t (code n) x s b = itself (login_of p b)
+    done_same : (t : Result Task CmndFault) → Mild from t → (x : Decided) → Same x → Same (done_as t p x)
+    done_same t (fault k) x s b = itself (login_of p b)
     done_same t abort x s b = rw (changed_sees p d (EndExchangesOf from) b) (aborted_alike from (login_of p b))
     done_same t reset x s b = rw (changed_sees p d Reset b) (reset_alike (login_of p b))
     done_same t clear x s b = rw (changed_sees p d (Clear from) b) (cleared_alike from (login_of p b))
@@ -198,8 +198,8 @@ module _ (u : Unit) (p : Port) (h : Header) (f : List ℕ) where
     abbrev v : View
     v = view_of u p from
 
-    task_another : (b : ℕ) {t : Task} → Mild from t → (i : ℕ) (s : Served) → has_address b (login_at (changed_all Keep p) i) ≡ false → has_address b s.login ≡ false → Elsewhere p b (task_turn t (served_in i s))
-    task_another b (code n) i s x y = tt
+    task_another : (b : ℕ) {t : Result Task CmndFault} → Mild from t → (i : ℕ) (s : Served) → has_address b (login_at (changed_all Keep p) i) ≡ false → has_address b s.login ≡ false → Elsewhere p b (task_turn t (served_in i s))
+    task_another b (fault k) i s x y = tt
     task_another b abort i s x y = tt
     task_another b reset i s x y = tt
     task_another b clear i s x y = tt
@@ -220,8 +220,8 @@ module _ (u : Unit) (p : Port) (h : Header) (f : List ℕ) where
             (alike_has (moves_alike v.unit v.login place h.ox_id (cmnd_of f) (execute_moves v.unit v.login place h.ox_id (cmnd_of f))) b
             ∙ ap (has_address b) (view_login u p from fine i seat) ∙ other_has b from (login_at p i) n (found_has p from i seat))
 
-    task_leaves : (b : ℕ) {t : Task} → Mild from t → (i : ℕ) (s : Served) → LeavesLogin p b (task_turn t (served_in i s))
-    task_leaves b (code n) i s = tt
+    task_leaves : (b : ℕ) {t : Result Task CmndFault} → Mild from t → (i : ℕ) (s : Served) → LeavesLogin p b (task_turn t (served_in i s))
+    task_leaves b (fault k) i s = tt
     task_leaves b abort i s = tt
     task_leaves b reset i s = tt
     task_leaves b clear i s = tt

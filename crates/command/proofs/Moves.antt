@@ -1,9 +1,10 @@
 -- What a command makes of its sender's login: one of four things. Assumes nothing.
-use Rattle.std.specs.Prelude.{Option, Some, None}
+use Rattle.std.proofs.lemmas.Result.{IfOk-at_ok}
+use Rattle.std.specs.Result.{IfOk}
+use Rattle.std.specs.Prelude.{Option, Some, None, Ok, Err, Result}
 use mathlib.Core.Path.{◌≡◌, refl}
 use mathlib.Core.Bool.{Bool, true, false, cond}
 use Prim.Native.Nat.{ℕ}
-use native.Mathlib.Omega.{arith}
 use lib.Dec.{eqb}
 use borrow.Author.Tests.{eqb-false}
 use Rattle.tables.specs.Lists.{on_found}
@@ -17,50 +18,34 @@ use Rattle.reply.specs.declared.Reply.{Reply}
 use Rattle.reply.specs.declared.Reply.TheVariants as reply
 use Rattle.calls.specs.declared.Served.{Served}
 use Rattle.calls.specs.Turn.{served_as}
-use Rattle.calls.proofs.Decisions.{on_found_lem}
+use Rattle.calls.proofs.Decisions.{by_cond, on_cond, on_found_lem}
 use Rattle.command.specs.declared.Cmnd.{Cmnd}
-use Rattle.command.specs.declared.Operation.{Operation}
-use Rattle.command.specs.declared.Asked.{Asked}
-use Rattle.command.specs.declared.Asked.TheVariants as asked
-use Rattle.command.specs.Cdb.{decoded_of}
+use Rattle.command.specs.declared.Check.{Check}
+use Rattle.command.specs.declared.Check.TheVariants.{OtherUnit, Attention, UnknownCode, Protected, WrongField, Outside}
+use Rattle.command.specs.Cdb.{operation_of, wrong_field}
 use Rattle.command.specs.Tests.{other_unit, attends, unknown, protected, outside, exchange_for, tested_by, asked_of}
 use Rattle.command.specs.Command.{refused_with, reports, told_of, bit_for, opened_of, answered_as, execute_of}
 
--- what a command's CDB asks for
-abbrev pub operation_of : Cmnd → Operation
-operation_of c = (decoded_of c.cdb).operation
-
 -- a wanted exchange is the command's own, and tests 5 and 7 let it through
 pub record Passed (u : Unit) (attention ox : ℕ) (c : Cmnd) (e : Exchange) : Type 0 where
-  pub is : e ≡ exchange_for (operation_of c) attention ox c.lun c.expected
-  pub allowed : protected u (operation_of c) ≡ false
-  pub within : outside u (operation_of c) ≡ false
+  pub is : e ≡ exchange_for (operation_of c.cdb) attention ox c.lun c.expected
+  pub allowed : protected u (operation_of c.cdb) ≡ false
+  pub within : outside u (operation_of c.cdb) ≡ false
 
-passed_cond : (b : Bool) (x y : Asked) (e : Exchange) {A : Type 0} → (b ≡ true → x ≡ asked.Wants e → A) → (b ≡ false → y ≡ asked.Wants e → A) → cond b x y ≡ asked.Wants e → A
-passed_cond true x y e p q h = p refl h
-passed_cond false x y e p q h = q refl h
-
--- no refusal is a wish
-refused_not : {A : Type 0} (key code : ℕ) (e : Exchange) → asked.Refused key code ≡ asked.Wants e → A
-refused_not key code e h = let z : ◌≡◌ {A = ℕ} 0 1 = cc in absurd (omega arith)
-
-attention_not : {A : Type 0} (e : Exchange) → asked.Attention ≡ asked.Wants e → A
-attention_not e h = let z : ◌≡◌ {A = ℕ} 0 1 = cc in absurd (omega arith)
-
-same_exchange : (d e : Exchange) → asked.Wants d ≡ asked.Wants e → e ≡ d
-same_exchange d e h = cc
-
-pub wants_passed : (u : Unit) (attention ox : ℕ) (c : Cmnd) (e : Exchange) → asked_of u attention ox c ≡ asked.Wants e → Passed u attention ox c e
+pub wants_passed : (u : Unit) (attention ox : ℕ) (c : Cmnd) → IfOk (asked_of u attention ox c) (Passed u attention ox c)
 unfolding asked_of tested_by
-wants_passed u attention ox c e =
-    let o = operation_of c in
-    passed_cond (other_unit o c.lun) _ _ e (λ _. refused_not 0x05 0x25 e)
-    (λ _. passed_cond (attends o attention) _ _ e (λ _. attention_not e)
-    (λ _. passed_cond (unknown o) _ _ e (λ _. refused_not 0x05 0x20 e)
-    (λ _. passed_cond (protected u o) _ _ e (λ _. refused_not 0x07 0x27 e)
-    (λ a. passed_cond (decoded_of c.cdb).wrong_field _ _ e (λ _. refused_not 0x05 0x24 e)
-    (λ _. passed_cond (outside u o) _ _ e (λ _. refused_not 0x05 0x21 e)
-    (λ w h. record { is = same_exchange _ e h; allowed = a; within = w }))))))
+wants_passed u attention ox c =
+    let o = operation_of c.cdb in
+    on_cond Through (other_unit o c.lun) {x = Err OtherUnit} tt
+    (on_cond Through (attends o attention) {x = Err (Attention attention)} tt
+    (on_cond Through (unknown o) {x = Err UnknownCode} tt
+    (by_cond Through (protected u o) {x = Err Protected} (λ _. tt)
+    (λ a. on_cond Through (wrong_field o c.cdb) {x = Err WrongField} tt
+    (by_cond Through (outside u o) {x = Err Outside} {y = Ok (exchange_for o attention ox c.lun c.expected)} (λ _. tt)
+    (λ w. record { is = refl; allowed = a; within = w }))))))
+  where
+    Through : Result Exchange Check → Type 0
+    Through r = IfOk r (Passed u attention ox c)
 
 -- by the place where test 1 found the OX_ID
 module _ (u : Unit) (l : Login) (place : Option ℕ) (ox : ℕ) (c : Cmnd) where
@@ -74,9 +59,9 @@ module _ (u : Unit) (l : Login) (place : Option ℕ) (ox : ℕ) (c : Cmnd) where
   abbrev Moved : Served → Type 0
   Moved s = Moves s.login
 
-  answer_moves : (e : Exchange) → Passed u l.attention ox c e → place ≡ None → Moved (opened_of l c.bits e)
+  answer_moves : (e : Exchange) → Passed u l.attention ox c e → place ≡ None → Moved (opened_of l c e)
   unfolding opened_of told_of
-  answer_moves e p none = by (eqb (total e) 0) (bit_for e c.bits) (free_exchange l) _ _ _ refl
+  answer_moves e p none = by (eqb (total e) 0) (bit_for e c) (free_exchange l) _ _ _ refl
     where
       opened : ℕ → Served
       opened j = served_as reply.Nothing (with_exchange (cond (reports e.kind) (with_attention l 0) l) j e)
@@ -87,11 +72,11 @@ module _ (u : Unit) (l : Login) (place : Option ℕ) (ox : ℕ) (c : Cmnd) where
       by false true None x y z n = same
       by false false g x y z n = same
 
-  asked_moves : (a : Asked) → asked_of u l.attention ox c ≡ a → place ≡ None → Moved (answered_as a l c)
+  asked_moves : (a : Result Exchange Check) → asked_of u l.attention ox c ≡ a → place ≡ None → Moved (answered_as a l c)
   unfolding refused_with
-  asked_moves (asked.Refused key code) e none = same
-  asked_moves asked.Attention e none = tells
-  asked_moves (asked.Wants d) e none = answer_moves d (wants_passed u l.attention ox c d e) none
+  asked_moves (Err (Attention code)) e none = tells
+  asked_moves (Err check) e none = same
+  asked_moves (Ok d) e none = answer_moves d (IfOk-at_ok (Passed u l.attention ox c) e (wants_passed u l.attention ox c)) none
 
   pub execute_moves : Moved (execute_of u l place ox c)
   unfolding execute_of refused_with

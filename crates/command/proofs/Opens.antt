@@ -1,4 +1,5 @@
 -- The exchange that a command opens is fine: the tests let only such through, and nothing is sent yet. Assumes nothing.
+use Rattle.std.specs.Prelude.{⊤}
 use mathlib.Core.Path.{◌≡◌, refl}
 use mathlib.Core.Bool.{Bool, true, false, cond, not, ◌&&◌, ◌||◌}
 use Prim.Native.Nat.{ℕ, ◌+◌, ◌*◌, ◌%◌, ◌≤◌, ◌<◌, min}
@@ -16,8 +17,13 @@ use Rattle.calls.proofs.Decisions.{on_cond}
 use Rattle.command.specs.declared.Range.{Range}
 use Rattle.command.specs.declared.Operation.{Operation}
 use Rattle.command.specs.declared.Operation.TheVariants.{TestUnitReady, RequestSense, Inquiry, ReadCapacity, Read, Write, Unknown}
-use Rattle.command.specs.Cdb.{Countable}
 use Rattle.command.specs.Tests.{protected, beyond, outside, sense_kind, inquiry_kind, fresh, exchange_for}
+
+-- a count of blocks that two bytes can tell
+abbrev pub Countable : Operation → Type 0
+Countable (Read r) = r.blocks ≤ 65535
+Countable (Write r) = r.blocks ≤ 65535
+Countable o = ⊤
 
 -- an exchange of this OX_ID of which nothing is sent, and no data are awaited
 pub record New (ox : ℕ) (e : Exchange) : Type 0 where
@@ -121,9 +127,4 @@ module _ (u : Unit) where
 
 pub exchange_new : (o : Operation) (attention ox lun expected : ℕ) → New ox (exchange_for o attention ox lun expected)
 exchange_new TestUnitReady attention ox lun expected = new_fresh ox expected _ _ _ _ _
-exchange_new (RequestSense most) attention ox lun expected = new_fresh ox expected _ _ _ _ _
-exchange_new (Inquiry most) attention ox lun expected = new_fresh ox expected _ _ _ _ _
-exchange_new ReadCapacity attention ox lun expected = new_fresh ox expected _ _ _ _ _
-exchange_new (Read r) attention ox lun expected = new_fresh ox expected _ _ _ _ _
-exchange_new (Write r) attention ox lun expected = new_fresh ox expected _ _ _ _ _
-exchange_new Unknown attention ox lun expected = new_fresh ox expected _ _ _ _ _
+exchange_new o attention ox lun expected = new_fresh ox expected _ _ _ _ _

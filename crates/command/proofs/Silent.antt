@@ -1,5 +1,6 @@
 -- An FCP_CMND that is answered with nothing has opened its exchange at a free place of its sender's login, and changed nothing else. Assumes nothing.
-use Rattle.std.specs.Prelude.{Option, Some, None}
+use Rattle.std.proofs.lemmas.Result.{IfOk-at_ok}
+use Rattle.std.specs.Prelude.{Option, Some, None, Ok, Err, Result}
 use mathlib.Core.Path.{◌≡◌, refl, ap}
 use mathlib.Core.Bool.{Bool, true, false, cond}
 use mathlib.Core.List.{List}
@@ -25,16 +26,17 @@ use Rattle.calls.proofs.Decisions.{on_found_lem}
 use Rattle.command.specs.declared.Cmnd.{Cmnd}
 use Rattle.command.specs.declared.Task.{Task}
 use Rattle.command.specs.declared.Task.TheVariants as task
-use Rattle.command.specs.declared.Asked.{Asked}
-use Rattle.command.specs.declared.Asked.TheVariants as asked
+use Rattle.command.specs.declared.CmndFault.{CmndFault}
+use Rattle.command.specs.declared.Check.{Check}
 use Rattle.command.specs.Cmnd.{cmnd_of, task_of}
+use Rattle.command.specs.Cdb.{operation_of}
 use Rattle.command.specs.Tests.{exchange_for, asked_of}
 use Rattle.command.specs.Command.{refused_with, told_of, bit_for, opened_of, answered_as, execute_of, done_as, commanded_at, logged_out, command_of}
-use Rattle.command.proofs.Moves.{operation_of, wants_passed}
+use Rattle.command.proofs.Moves.{Passed, wants_passed}
 
 -- the exchange that a command asks of a login
 abbrev pub wish_of : Login → ℕ → Cmnd → Exchange
-wish_of l ox c = exchange_for (operation_of c) l.attention ox c.lun c.expected
+wish_of l ox c = exchange_for (operation_of c.cdb) l.attention ox c.lun c.expected
 
 -- it opened at place j of the login l, which is then m; test 1 found none at `place`
 pub record Opens (l : Login) (place : Option ℕ) (ox : ℕ) (c : Cmnd) (m : Login) : Type 0 where
@@ -47,9 +49,9 @@ module _ (u : Unit) (l : Login) (place : Option ℕ) (ox : ℕ) (c : Cmnd) where
   abbrev Silent : Served → Type 0
   Silent s = silent s.reply ≡ true → Opens l place ox c s.login
 
-  opened_silent : (e : Exchange) → e ≡ wish_of l ox c → place ≡ None → Silent (opened_of l c.bits e)
+  opened_silent : (e : Exchange) → e ≡ wish_of l ox c → place ≡ None → Silent (opened_of l c e)
   unfolding opened_of
-  opened_silent e is none = by (eqb (total e) 0) (bit_for e c.bits) (free_exchange l) refl _ _ _ refl refl refl
+  opened_silent e is none = by (eqb (total e) 0) (bit_for e c) (free_exchange l) refl _ _ _ refl refl refl
     where
       by : (z b : Bool) (g : Option ℕ) → free_exchange l ≡ g → (x y w : Reply) → silent x ≡ false → silent y ≡ false → silent w ≡ false
           → Silent (cond z (served_as x l) (cond b (on_found g (λ j. served_as reply.Nothing (with_exchange (told_of l e.kind) j e)) (served_as y l)) (served_as w l)))
@@ -58,11 +60,10 @@ module _ (u : Unit) (l : Login) (place : Option ℕ) (ox : ℕ) (c : Cmnd) where
       by false true None at x y w p q r s = apart s q
       by false false g at x y w p q r s = apart s r
 
-  asked_silent : (a : Asked) → asked_of u l.attention ox c ≡ a → place ≡ None → Silent (answered_as a l c)
+  asked_silent : (a : Result Exchange Check) → asked_of u l.attention ox c ≡ a → place ≡ None → Silent (answered_as a l c)
   unfolding refused_with
-  asked_silent (asked.Refused key code) e none s = apart s refl
-  asked_silent asked.Attention e none s = apart s refl
-  asked_silent (asked.Wants d) e none s = opened_silent d (wants_passed u l.attention ox c d e).is none s
+  asked_silent (Err check) e none s = apart s refl
+  asked_silent (Ok d) e none s = opened_silent d (IfOk-at_ok (Passed u l.attention ox c) e (wants_passed u l.attention ox c)).is none s
 
   execute_silent : Silent (execute_of u l place ox c)
   unfolding execute_of refused_with
@@ -83,10 +84,10 @@ module _ (u : Unit) (p : Port) (h : Header) (f : List ℕ) where
   abbrev SilentAt : Decided → Type 0
   SilentAt d = silent d.reply ≡ true → OpensAt p h (cmnd_of f) d.port
 
-  done_silent : (t : Task) (d : Decided) → SilentAt d → SilentAt (done_as t p d)
-  done_silent (task.Code code) d x s = apart s refl
-  done_silent (task.Apply e) d x s = apart s refl
-  done_silent task.Execute d x s = x s
+  done_silent : (t : Result Task CmndFault) (d : Decided) → SilentAt d → SilentAt (done_as t p d)
+  done_silent (Err fault) d x s = apart s refl
+  done_silent (Ok (task.Apply e)) d x s = apart s refl
+  done_silent (Ok task.Execute) d x s = x s
 
   out_silent : SilentAt (logged_out p from)
   unfolding logged_out

@@ -1,5 +1,5 @@
 -- What an FCP_CMND does, told by what changes, is what it makes of the whole port, where the port's logins are fine. Assumes nothing.
-use Rattle.std.specs.Prelude.{Option}
+use Rattle.std.specs.Prelude.{Option, Ok, Err, Result}
 use Prim.Native.Nat.{ℕ}
 use mathlib.Core.Path.{◌≡◌, refl, sym}
 use mathlib.Core.Bool.{true, cond}
@@ -22,14 +22,15 @@ use Rattle.calls.proofs.Decisions.{answers_is, served_is, either_is, found_is}
 use Rattle.command.specs.declared.Cmnd.{Cmnd}
 use Rattle.command.specs.declared.Task.{Task}
 use Rattle.command.specs.declared.Task.TheVariants as task
+use Rattle.command.specs.declared.CmndFault.{CmndFault}
 use Rattle.command.specs.Cmnd.{cmnd_of, task_of}
 use Rattle.command.specs.Command.{execute_of, done_as, commanded_at, logged_out, command_of}
 use Rattle.command.specs.Turn.{task_turn, commanded_turn, logged_out_turn, command_turn}
 
-done_is : (p : Port) (t : Task) (i : ℕ) (s : Served) → decided_by p (task_turn t (served_in i s)) ≡ done_as t p (served_at p i s)
-done_is p (task.Code code) i s = answers_is p _
-done_is p (task.Apply e) i s = refl
-done_is p task.Execute i s = served_is p i s
+done_is : (p : Port) (t : Result Task CmndFault) (i : ℕ) (s : Served) → decided_by p (task_turn t (served_in i s)) ≡ done_as t p (served_at p i s)
+done_is p (Err fault) i s = answers_is p _
+done_is p (Ok (task.Apply e)) i s = refl
+done_is p (Ok task.Execute) i s = served_is p i s
 
 -- from the login m that is seen, the exchange sought at the place that is seen
 at_is : (u : Unit) (p : Port) (i : ℕ) (h : Header) (c : Cmnd) (n : ℕ) {w : Unit} {m : Login} {place : Option ℕ} → w ≡ u → m ≡ login_at p i → place ≡ sought_in p h.s_id h.ox_id

@@ -1,5 +1,5 @@
 -- Tests 2 to 7 of a command, and what it wants (document 01, "Tests for the rest" and "Wanted").
-use Rattle.std.specs.Prelude.{ℕ, ◌+◌, ◌*◌, min, Bool, true, false, cond, not, ◌&&◌, ◌||◌, eqb, leb, ltb}
+use Rattle.std.specs.Prelude.{ℕ, ◌+◌, ◌*◌, min, Bool, true, false, cond, not, ◌&&◌, ◌||◌, eqb, leb, ltb, Ok, Err, Result}
 use Rattle.state.specs.declared.Exchange.{Exchange}
 use Rattle.state.specs.declared.Unit.{Unit}
 use Rattle.state.specs.Kinds.{kind_free, kind_blocks, kind_inquiry, kind_inquiry_other, kind_capacity, kind_sense_none, kind_sense_reset, kind_sense_cleared, kind_sense_other, to_host, from_host}
@@ -7,20 +7,15 @@ use Rattle.command.specs.declared.Cmnd.{Cmnd}
 use Rattle.command.specs.declared.Range.{Range}
 use Rattle.command.specs.declared.Operation.{Operation}
 use Rattle.command.specs.declared.Operation.TheVariants.{TestUnitReady, RequestSense, Inquiry, ReadCapacity, Read, Write, Unknown}
-use Rattle.command.specs.declared.Decoded.{Decoded}
-use Rattle.command.specs.declared.Asked.{Asked}
-use Rattle.command.specs.declared.Asked.TheVariants.{Refused, Attention, Wants}
-use Rattle.command.specs.Cdb.{decoded_of}
+use Rattle.command.specs.declared.Check.{Check}
+use Rattle.command.specs.declared.Check.TheVariants.{OtherUnit, Attention, UnknownCode, Protected, WrongField, Outside}
+use Rattle.command.specs.Cdb.{operation_of, wrong_field}
 
 -- "INQUIRY and REQUEST SENSE skip 2 and 3"
 abbrev pub skips : Operation → Bool
-skips TestUnitReady = false
 skips (RequestSense most) = true
 skips (Inquiry most) = true
-skips ReadCapacity = false
-skips (Read r) = false
-skips (Write r) = false
-skips Unknown = false
+skips o = false
 
 -- "(2) LUN not 0"
 unfoldable pub other_unit : Operation → ℕ → Bool
@@ -32,23 +27,13 @@ attends o attention = not (skips o) && not (eqb attention 0)
 
 -- "(4) code not 00h, 03h, 12h, 25h, 28h, 2Ah"
 abbrev pub unknown : Operation → Bool
-unknown TestUnitReady = false
-unknown (RequestSense most) = false
-unknown (Inquiry most) = false
-unknown ReadCapacity = false
-unknown (Read r) = false
-unknown (Write r) = false
 unknown Unknown = true
+unknown o = false
 
 -- "2Ah"
 abbrev pub writes : Operation → Bool
-writes TestUnitReady = false
-writes (RequestSense most) = false
-writes (Inquiry most) = false
-writes ReadCapacity = false
-writes (Read r) = false
 writes (Write r) = true
-writes Unknown = false
+writes o = false
 
 -- "(5) 2Ah"; "read-only units still give 07/27/00 at test 5" (02, 2)
 unfoldable pub protected : Unit → Operation → Bool
@@ -60,13 +45,9 @@ beyond u r = leb u.capacity r.start || ltb u.capacity (r.start + r.blocks)
 
 -- "(7) READ(10)", and WRITE(10) (02, 2)
 abbrev pub outside : Unit → Operation → Bool
-outside u TestUnitReady = false
-outside u (RequestSense most) = false
-outside u (Inquiry most) = false
-outside u ReadCapacity = false
 outside u (Read r) = beyond u r
 outside u (Write r) = beyond u r
-outside u Unknown = false
+outside u o = false
 
 -- "00/00/00, the attention, .. or 05/25/00 for another LUN", as the kind of the exchange that reports it
 unfoldable pub sense_kind : ℕ → ℕ → ℕ
@@ -102,16 +83,16 @@ exchange_for (Read r) attention ox lun expected = fresh ox expected to_host kind
 exchange_for (Write r) attention ox lun expected = fresh ox expected from_host kind_blocks (512 * r.blocks) r.start r.blocks
 exchange_for Unknown attention ox lun expected = fresh ox expected to_host kind_free 0 0 0
 
--- "(2) .., 05/25/00; (3) .., and cleared; (4) .., 05/20/00; (5) .., 07/27/00; (6) .., 05/24/00; (7) .., 05/21/00"
-unfoldable pub tested_by : Unit → ℕ → ℕ → Cmnd → Decoded → Asked
-tested_by u attention ox c d =
-    cond (other_unit d.operation c.lun) (Refused 0x05 0x25)
-    (cond (attends d.operation attention) Attention
-    (cond (unknown d.operation) (Refused 0x05 0x20)
-    (cond (protected u d.operation) (Refused 0x07 0x27)
-    (cond d.wrong_field (Refused 0x05 0x24)
-    (cond (outside u d.operation) (Refused 0x05 0x21)
-    (Wants (exchange_for d.operation attention ox c.lun c.expected)))))))
+-- the first of tests 2 to 7 that fails, else the exchange that is wanted
+unfoldable pub tested_by : Unit → ℕ → ℕ → Cmnd → Operation → Result Exchange Check
+tested_by u attention ox c o =
+    cond (other_unit o c.lun) (Err OtherUnit)
+    (cond (attends o attention) (Err (Attention attention))
+    (cond (unknown o) (Err UnknownCode)
+    (cond (protected u o) (Err Protected)
+    (cond (wrong_field o c.cdb) (Err WrongField)
+    (cond (outside u o) (Err Outside)
+    (Ok (exchange_for o attention ox c.lun c.expected)))))))
 
-unfoldable pub asked_of : Unit → ℕ → ℕ → Cmnd → Asked
-asked_of u attention ox c = tested_by u attention ox c (decoded_of c.cdb)
+unfoldable pub asked_of : Unit → ℕ → ℕ → Cmnd → Result Exchange Check
+asked_of u attention ox c = tested_by u attention ox c (operation_of c.cdb)

@@ -1,5 +1,5 @@
 -- What an FCP_CMND does, told by what changes. `Command.antt` says what it makes of the whole port; that this is the same, at a port that is well formed, is `command_turn_lem`.
-use Rattle.std.specs.Prelude.{ℕ, cond, List, eqb, length}
+use Rattle.std.specs.Prelude.{ℕ, cond, List, eqb, length, Ok, Err, Result}
 use Rattle.tables.specs.Lists.{on_found}
 use Rattle.frame.specs.declared.Header.{Header}
 use Rattle.state.specs.declared.Login.{Login}
@@ -14,14 +14,15 @@ use Rattle.calls.specs.Turn.{changes, answers_only, served_in}
 use Rattle.command.specs.declared.Cmnd.{Cmnd}
 use Rattle.command.specs.declared.Task.{Task}
 use Rattle.command.specs.declared.Task.TheVariants as task
-use Rattle.command.specs.Cmnd.{cmnd_of, task_of}
+use Rattle.command.specs.declared.CmndFault.{CmndFault}
+use Rattle.command.specs.Cmnd.{cmnd_of, code_of, task_of}
 use Rattle.command.specs.Command.{execute_of}
 
 -- what the task flags ask for: the answer alone, a change of every login, or the command
-abbrev pub task_turn : Task → Decision → Decision
-task_turn (task.Code code) d = answers_only (reply.Respond (response.Code code))
-task_turn (task.Apply e) d = changes (reply.Respond (response.Code 0x00)) e
-task_turn task.Execute d = d
+abbrev pub task_turn : Result Task CmndFault → Decision → Decision
+task_turn (Err fault) d = answers_only (reply.Respond (response.Code (code_of fault)))
+task_turn (Ok (task.Apply e)) d = changes (reply.Respond (response.Code 0x00)) e
+task_turn (Ok task.Execute) d = d
 
 -- an FCP_CMND from the paired login l at place i, in a frame of this length
 unfoldable pub commanded_turn : Unit → ℕ → Login → Header → Cmnd → ℕ → Decision

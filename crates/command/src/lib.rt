@@ -7,39 +7,42 @@ mod tasks;
 mod tests;
 
 ghost use Rattle.std.specs.Prelude.{◌≡◌};
-ghost use Rattle.wire.specs.Bytes.{part};
 ghost use Rattle.state.specs.Tables.{find_exchange};
-ghost use Rattle.command.specs.Cmnd.{cmnd_of};
-ghost use Rattle.command.specs.Command.{refused_with, execute_of};
+ghost use Rattle.command.specs.Cmnd.{cmnd_of, code_of};
+ghost use Rattle.command.specs.Command.{sense_of, after_check, refused_with, execute_of};
 ghost use Rattle.command.specs.Turn.{logged_out_turn, commanded_turn, command_turn};
 
 use calls::{Decision, Served, View, answer_only, change_logins, serve_as, serve_at};
 use frame::Header;
 use opened::answer;
-use reply::{Reply, Response, sense_with};
+use reply::{Reply, Response, Sense, sense_with};
 use residual::residual_of;
-use state::{Change, Exchange, Login, Unit, end_exchange, find_exchange, set_attention};
-use tasks::task_of;
+use state::{Change, Login, Unit, end_exchange, find_exchange, set_attention};
+use tasks::{low_bit, read_bit, task_of};
 use tests::tested;
-use wire::{be32, be64, byte_at, name_at};
+use wire::{BigEndian, byte_at, part};
+
+// The RSP_CODE of a task that is done.
+const DONE: u8 = 0x00;
 
 // The fields of an FCP_CMND.
 #[derive(Clone, Copy)]
 pub struct Cmnd {
     pub lun: u64,
     pub task: u8,
-    // bit 1 read, bit 0 write
-    pub bits: u8,
+    // what the host says of its data: that it reads, that it writes
+    pub read: bool,
+    pub write: bool,
     pub cdb: [u8; 16],
     // FCP_DL
     pub expected: u32,
 }
 
-// Blocks of the unit: the first, and how many.
+// Blocks of the unit: the first, and how many, as many as two bytes can tell.
 #[derive(Clone, Copy)]
 pub struct Range {
     pub start: u64,
-    pub blocks: u32,
+    pub blocks: u16,
 }
 
 // What a CDB asks for, by its operation code; REQUEST SENSE and INQUIRY with the bytes that they allow (byte 4).
@@ -54,48 +57,43 @@ pub enum Operation {
     Unknown,
 }
 
-// A CDB, decoded, and whether a field that must be zero is not.
-#[derive(Clone, Copy)]
-pub struct Decoded {
-    pub operation: Operation,
-    pub wrong_field: bool,
-}
-
-// What the task flags ask for: an answer with this RSP_CODE, a change of the logins, or the command of the CDB.
+// What the task flags ask for: a change of the logins, or the command of the CDB.
 #[derive(Clone, Copy)]
 pub enum Task {
-    Code(u8),
     Apply(Change),
     Execute,
 }
 
-// What tests 2 to 7 make of a command.
+// Why an FCP_CMND is answered with an RSP_CODE alone: its size, data bits or task flags; a task that the drive does not do; a task for another unit.
 #[derive(Clone, Copy)]
-pub enum Asked {
-    // CHECK CONDITION with this sense key and code
-    Refused(u8, u8),
-    // the login's attention is reported, and cleared
-    Attention,
-    // the exchange that would send or take what is wanted
-    Wants(Exchange),
+pub enum CmndFault {
+    Fields,
+    Unsupported,
+    OtherUnit,
+}
+
+// The test of a command that fails first, 1 to 7; test 3 with the attention that stands.
+#[derive(Clone, Copy)]
+pub enum Check {
+    OpenExchange,
+    OtherUnit,
+    Attention(u8),
+    UnknownCode,
+    Protected,
+    WrongField,
+    Outside,
 }
 
 // An FCP_CMND: without a paired login a drive LOGO, and the login ends.
-#[tactic(auto, using(crate::proofs::Ways::command_no_login, crate::proofs::Ways::command_paired, crate::proofs::Ways::command_unpaired))]
+#[tactic(auto, unfolding(crate::specs::Turn::command_turn))]
 pub fn command(v: View, h: Header, frame: &[u8]) -> Decision
     ensures { result ≡ command_turn v h frame.now }
 {
-    let seat = v.seat;
-    let Some(i) = seat else {
-        return logged_out(h.s_id);
-    };
-    let u = v.unit;
-    let l = v.login;
-    if l.paired == 1 {
-        let c = read_cmnd(frame);
-        commanded(u, i, l, h, c, frame.len())
-    } else {
-        logged_out(h.s_id)
+    match v.seat {
+        Some(i) if v.login.paired == 1 => {
+            commanded(v.unit, i, v.login, h, Cmnd::read(frame), frame.len())
+        }
+        _ => logged_out(h.s_id),
     }
 }
 
@@ -106,72 +104,97 @@ fn logged_out(from: u32) -> Decision
 }
 
 // An FCP_CMND from the paired login l at place i, in a frame of this length.
+// kept: a match picks the step, since each arm hands on other values
 #[tactic(auto, unfolding(crate::specs::Turn::commanded_turn))]
 fn commanded(u: Unit, i: usize, l: Login, h: Header, c: Cmnd, length: usize) -> Decision
     ensures { result ≡ commanded_turn u i l h c length }
 {
-    let t = task_of(c, length, h.s_id);
-    match t {
-        Task::Code(code) => answer_only(Reply::Respond(Response::Code(code))),
-        Task::Apply(e) => change_logins(Reply::Respond(Response::Code(0)), e),
-        Task::Execute => serve_at(i, execute(u, l, h.ox_id, c)),
+    match task_of(c, length, h.s_id) {
+        Ok(Task::Execute) => serve_at(i, execute(u, l, h.ox_id, c)),
+        Ok(Task::Apply(e)) => change_logins(Reply::Respond(Response::Code(DONE)), e),
+        Err(fault) => answer_only(Reply::Respond(Response::Code(fault.code()))),
     }
 }
 
-// The fields, each from its place in the frame; a byte past the end counts as 0.
-fn read_cmnd(frame: &[u8]) -> Cmnd
-    ensures { result ≡ cmnd_of frame.now }
-{
-    let cdb = cdb_at(frame);
-    Cmnd {
-        lun: be64(frame, 24),
-        task: byte_at(frame, 34),
-        bits: byte_at(frame, 35),
-        cdb: cdb,
-        expected: be32(frame, 52),
+impl Cmnd {
+    // The fields, each from its place in the frame; a byte past the end counts as 0.
+    fn read(frame: &[u8]) -> Cmnd
+        ensures { result ≡ cmnd_of frame.now }
+    {
+        let bits = byte_at(frame, 35);
+        Cmnd {
+            lun: u64::read(frame, 24),
+            task: byte_at(frame, 34),
+            read: read_bit(bits),
+            write: low_bit(bits),
+            cdb: part(frame, 36),
+            expected: u32::read(frame, 52),
+        }
     }
-}
-
-fn cdb_at(frame: &[u8]) -> [u8; 16]
-    ensures { result ≡ part 16 frame.now 36 }
-{
-    let a = name_at(frame, 36);
-    let b = name_at(frame, 44);
-    [
-        a[0], a[1], a[2], a[3], a[4], a[5], a[6], a[7], b[0], b[1], b[2], b[3], b[4], b[5], b[6],
-        b[7],
-    ]
 }
 
 // A command on its sender's login: test 1, that its OX_ID is not open, and what the other tests make of it.
-#[tactic(auto, using(crate::proofs::Ways::execute_again, crate::proofs::Ways::execute_refused, crate::proofs::Ways::execute_attention, crate::proofs::Ways::execute_wants))]
+// kept: a match picks the step, since each arm hands on other values
+#[tactic(auto, unfolding(crate::specs::Command::execute_of))]
 fn execute(u: Unit, l: Login, ox_id: u16, c: Cmnd) -> Served
     ensures { result ≡ execute_of u l (find_exchange l ox_id) ox_id c }
 {
-    let expected = c.expected;
     if let Some(j) = find_exchange(l, ox_id) {
-        return refuse(end_exchange(l, j), 0x0b, 0x4e, expected);
+        return refuse(end_exchange(l, j), Check::OpenExchange, c.expected);
     }
-    let a = tested(u, l.attention, ox_id, c);
-    match a {
-        Asked::Refused(key, code) => refuse(l, key, code, expected),
-        Asked::Attention => refuse(
-            set_attention(l, Login::NO_ATTENTION),
-            0x06,
-            l.attention,
-            expected,
-        ),
-        Asked::Wants(e) => answer(l, c.bits, e),
+    match tested(u, l.attention, ox_id, c) {
+        Ok(e) => answer(l, c, e),
+        Err(check) => refuse(l, check, c.expected),
     }
 }
 
-// CHECK CONDITION with this sense; nothing is wanted then.
-fn refuse(l: Login, key: u8, code: u8, expected: u32) -> Served
-    ensures { result ≡ refused_with l key code expected }
+// CHECK CONDITION with the sense of a test; nothing is wanted then.
+fn refuse(l: Login, check: Check, expected: u32) -> Served
+    ensures { result ≡ refused_with l check expected }
 {
-    let s = sense_with(key, code);
-    serve_as(
-        Reply::Respond(Response::Check(s, residual_of(0, expected))),
-        l,
-    )
+    let refused = Response::Check(Sense::from(check), residual_of(0, expected));
+    serve_as(Reply::Respond(refused), check.after(l))
+}
+
+impl CmndFault {
+    // Its RSP_CODE.
+    fn code(self) -> u8
+        ensures { result ≡ code_of self }
+    {
+        match self {
+            CmndFault::Fields => 0x02,
+            CmndFault::Unsupported => 0x04,
+            CmndFault::OtherUnit => 0x05,
+        }
+    }
+}
+
+impl Check {
+    // The login after it: an attention is cleared as it is reported.
+    fn after(self, l: Login) -> Login
+        ensures { result ≡ after_check self l }
+    {
+        match self {
+            Check::Attention(_) => set_attention(l, Login::NO_ATTENTION),
+            _ => l,
+        }
+    }
+}
+
+// The sense that a failed test is reported with.
+// kept: key and code are numbers, since document 01 names each by its byte; they stand here alone
+impl From<Check> for Sense {
+    ghost from_gives = { λ check s. s ≡ sense_of check };
+
+    fn from(check: Check) -> Sense {
+        match check {
+            Check::OpenExchange => sense_with(0x0b, 0x4e),
+            Check::OtherUnit => sense_with(0x05, 0x25),
+            Check::Attention(code) => sense_with(0x06, code),
+            Check::UnknownCode => sense_with(0x05, 0x20),
+            Check::Protected => sense_with(0x07, 0x27),
+            Check::WrongField => sense_with(0x05, 0x24),
+            Check::Outside => sense_with(0x05, 0x21),
+        }
+    }
 }

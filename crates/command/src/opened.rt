@@ -1,86 +1,71 @@
 // What a command wants, and the exchange that opens (document 01, "Wanted").
 #![tactic(auto, unfolding(crate::specs::Tests::sense_kind, crate::specs::Tests::inquiry_kind, crate::specs::Command::told_of, crate::specs::Command::bit_for))]
 
-ghost use Rattle.std.specs.Prelude.{◌≡◌, ◌*◌, ◌≤◌, min};
-ghost use Rattle.state.specs.Kinds.{kind_blocks, to_host};
-ghost use Rattle.command.specs.Cdb.{Countable};
-ghost use Rattle.command.specs.Tests.{sense_kind, inquiry_kind, fresh, exchange_for};
+ghost use Rattle.std.specs.Prelude.{◌≡◌, cond};
+ghost use Rattle.state.specs.Kinds.{to_host, from_host};
+ghost use Rattle.command.specs.Tests.{writes, sense_kind, inquiry_kind, exchange_for};
 ghost use Rattle.command.specs.Command.{told_of, bit_for, opened_of};
 
-use crate::tasks::{low_bit, read_bit};
-use crate::{Operation, Range};
+use crate::{Cmnd, CmndFault, Operation};
 use calls::{Served, serve_as};
 use formed::total_of;
 use reply::{Reply, Response};
 use residual::residual_of;
-use state::{Exchange, Login, free_exchange, put_exchange, set_attention};
+use state::{Exchange, Login, empty_exchange, free_exchange, put_exchange, set_attention};
+
+// SCSI status: the command is done; no place is free for its exchange.
+const GOOD: u8 = 0x00;
+
+const TASK_SET_FULL: u8 = 0x28;
 
 // The exchange that would send or take what a command wants; one that wants nothing opens none.
-pub(crate) fn exchange_for(
-    o: Operation,
-    attention: u8,
-    ox_id: u16,
-    lun: u64,
-    expected: u32,
-) -> Exchange
-    requires { Countable o }
-    ensures { result ≡ exchange_for o attention ox_id lun expected }
+// kept: kinds, directions and attentions are numbers, here and below, as the stored state has them (C interface)
+pub(crate) fn exchange_for(o: Operation, attention: u8, ox_id: u16, c: Cmnd) -> Exchange
+    ensures { result ≡ exchange_for o attention ox_id c.lun c.expected }
 {
+    let fresh = Exchange {
+        ox_id,
+        expected: c.expected,
+        direction: o.direction(),
+        ..empty_exchange()
+    };
     match o {
-        Operation::TestUnitReady => made_exchange(ox_id, expected, Exchange::FREE, 0),
-        Operation::RequestSense(most) => made_exchange(
-            ox_id,
-            expected,
-            sense_kind(lun, attention),
-            smaller(18, most as u32),
-        ),
-        Operation::Inquiry(most) => made_exchange(
-            ox_id,
-            expected,
-            inquiry_kind(lun),
-            smaller(36, most as u32),
-        ),
-        Operation::ReadCapacity => made_exchange(ox_id, expected, Exchange::READ_CAPACITY, 8),
-        Operation::Read(r) => blocks_exchange(ox_id, expected, Exchange::TO_HOST, r),
-        Operation::Write(r) => blocks_exchange(ox_id, expected, Exchange::FROM_HOST, r),
-        Operation::Unknown => made_exchange(ox_id, expected, Exchange::FREE, 0),
+        Operation::TestUnitReady | Operation::Unknown => fresh,
+        Operation::RequestSense(most) => Exchange {
+            kind: sense_kind(c.lun, attention),
+            wanted: u32::from(most).min(18),
+            ..fresh
+        },
+        Operation::Inquiry(most) => Exchange {
+            kind: inquiry_kind(c.lun),
+            wanted: u32::from(most).min(36),
+            ..fresh
+        },
+        Operation::ReadCapacity => Exchange {
+            kind: Exchange::READ_CAPACITY,
+            wanted: 8,
+            ..fresh
+        },
+        // 512 bytes for each block
+        Operation::Read(r) | Operation::Write(r) => Exchange {
+            start: r.start,
+            blocks: u32::from(r.blocks),
+            wanted: 512 * u32::from(r.blocks),
+            kind: Exchange::BLOCKS,
+            ..fresh
+        },
     }
 }
 
-// READ and WRITE: 512 bytes for each block.
-fn blocks_exchange(ox_id: u16, expected: u32, direction: u8, r: Range) -> Exchange
-    requires { r.blocks ≤ 65535 }
-    ensures { result ≡ fresh ox_id expected direction kind_blocks (512 * r.blocks) r.start r.blocks }
-{
-    Exchange {
-        start: r.start,
-        blocks: r.blocks,
-        wanted: 512 * r.blocks,
-        expected: expected,
-        sent: 0,
-        ox_id: ox_id,
-        count: 0,
-        kind: Exchange::BLOCKS,
-        direction: direction,
-        awaited: 0,
-    }
-}
-
-// An exchange of made data: of no blocks.
-fn made_exchange(ox_id: u16, expected: u32, kind: u16, wanted: u32) -> Exchange
-    ensures { result ≡ fresh ox_id expected to_host kind wanted 0 0 }
-{
-    Exchange {
-        start: 0,
-        blocks: 0,
-        wanted: wanted,
-        expected: expected,
-        sent: 0,
-        ox_id: ox_id,
-        count: 0,
-        kind: kind,
-        direction: Exchange::TO_HOST,
-        awaited: 0,
+impl Operation {
+    // Where its data go: those of a WRITE come from the host.
+    fn direction(self) -> u8
+        ensures { result ≡ cond (writes self) from_host to_host }
+    {
+        match self {
+            Operation::Write(_) => Exchange::FROM_HOST,
+            _ => Exchange::TO_HOST,
+        }
     }
 }
 
@@ -91,13 +76,10 @@ fn sense_kind(lun: u64, attention: u8) -> u16
     if lun != 0 {
         return Exchange::SENSE_OTHER_UNIT;
     }
-    if attention == Login::NO_ATTENTION {
-        return Exchange::SENSE_NONE;
-    }
-    if attention == Login::RESET {
-        Exchange::SENSE_RESET
-    } else {
-        Exchange::SENSE_CLEARED
+    match attention {
+        Login::NO_ATTENTION => Exchange::SENSE_NONE,
+        Login::RESET => Exchange::SENSE_RESET,
+        _ => Exchange::SENSE_CLEARED,
     }
 }
 
@@ -111,43 +93,33 @@ fn inquiry_kind(lun: u64) -> u16
     }
 }
 
-fn smaller(a: u32, b: u32) -> u32
-    ensures { result ≡ min a b }
-{
-    if a < b { a } else { b }
-}
-
 // Nothing to send or take is answered at once; else tests 8 and 9, and the exchange opens.
-#[tactic(auto, using(crate::proofs::Ways::answer_good, crate::proofs::Ways::answer_full, crate::proofs::Ways::answer_opens, crate::proofs::Ways::answer_bitless))]
-pub(crate) fn answer(l: Login, bits: u8, e: Exchange) -> Served
-    ensures { result ≡ opened_of l bits e }
+#[tactic(auto, unfolding(crate::specs::Command::opened_of))]
+pub(crate) fn answer(l: Login, c: Cmnd, e: Exchange) -> Served
+    ensures { result ≡ opened_of l c e }
 {
-    let wanted = e.wanted;
-    let expected = e.expected;
     if total_of(e) == 0 {
-        let good = Response::Status(0x00, residual_of(wanted, expected));
+        let good = Response::Status(GOOD, residual_of(e.wanted, e.expected));
         return serve_as(Reply::Respond(good), l);
     }
-    if data_bit(e, bits) {
-        let Some(j) = free_exchange(l) else {
-            let full = Response::Status(0x28, residual_of(0, expected));
-            return serve_as(Reply::Respond(full), l);
-        };
-        let m = told(l, e.kind);
-        serve_as(Reply::Nothing, put_exchange(m, j, e))
-    } else {
-        serve_as(Reply::Respond(Response::Code(0x02)), l)
+    if !data_bit(e, c) {
+        return serve_as(Reply::Respond(Response::Code(CmndFault::Fields.code())), l);
     }
+    let Some(j) = free_exchange(l) else {
+        let full = Response::Status(TASK_SET_FULL, residual_of(0, e.expected));
+        return serve_as(Reply::Respond(full), l);
+    };
+    serve_as(Reply::Nothing, put_exchange(told(l, e.kind), j, e))
 }
 
 // The bit that test 8 asks for: the write bit of a WRITE, else the read bit.
-fn data_bit(e: Exchange, bits: u8) -> bool
-    ensures { result ≡ bit_for e bits }
+fn data_bit(e: Exchange, c: Cmnd) -> bool
+    ensures { result ≡ bit_for e c }
 {
     if e.direction == Exchange::FROM_HOST {
-        low_bit(bits)
+        c.write
     } else {
-        read_bit(bits)
+        c.read
     }
 }
 
@@ -155,10 +127,7 @@ fn data_bit(e: Exchange, bits: u8) -> bool
 fn told(l: Login, kind: u16) -> Login
     ensures { result ≡ told_of l kind }
 {
-    if kind == Exchange::SENSE_RESET {
-        return set_attention(l, Login::NO_ATTENTION);
-    }
-    if kind == Exchange::SENSE_CLEARED {
+    if kind == Exchange::SENSE_RESET || kind == Exchange::SENSE_CLEARED {
         set_attention(l, Login::NO_ATTENTION)
     } else {
         l

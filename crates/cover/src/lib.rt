@@ -18,11 +18,8 @@ pub fn too_long(len: usize) -> bool
 pub fn lent_place(block: u64, offset: u32, n: usize, start: u64, len: usize) -> Option<usize>
     ensures { result ≡ lent_place (position_of block offset) n start len }
 {
-    if too_long(len) {
-        return None;
-    }
     // more bytes than a window may have are in none
-    if too_long(n) {
+    if too_long(len) || too_long(n) {
         return None;
     }
     covered(block, offset, n as u32, start, len)
@@ -43,29 +40,25 @@ pub fn covered(block: u64, offset: u32, n: u32, start: u64, len: usize) -> Optio
 fn after_start(blocks: u64, offset: u32, n: u32, len: usize) -> Option<usize>
     ensures { result ≡ fits_at (position_of blocks offset) n len }
 {
-    let most = len as u64;
-    if most / 512 < blocks {
-        return None;
-    }
-    let at = 512 * blocks;
-    if most - at < offset as u64 + n as u64 {
-        return None;
-    }
-    Some((at + offset as u64) as usize)
+    let at = blocks.checked_mul(512)?.checked_add(offset as u64)?;
+    fits_at(at, n, len)
 }
 
 // The same where the window's first block is so many blocks past the block.
 fn before_start(blocks: u64, offset: u32, n: u32, len: usize) -> Option<usize>
     ensures { result ≡ cond (leb (512 * blocks) offset) (fits_at (offset - 512 * blocks) n len) None }
 {
-    let most = len as u64;
-    let all = offset as u64;
-    if all / 512 < blocks {
-        return None;
+    let at = (offset as u64).checked_sub(blocks.checked_mul(512)?)?;
+    fits_at(at, n, len)
+}
+
+// A place, if the n bytes from it on are among len.
+fn fits_at(at: u64, n: u32, len: usize) -> Option<usize>
+    ensures { result ≡ fits_at at n len }
+{
+    if at.checked_add(n as u64)? <= len as u64 {
+        Some(at as usize)
+    } else {
+        None
     }
-    let at = all - 512 * blocks;
-    if most < at + n as u64 {
-        return None;
-    }
-    Some(at as usize)
 }

@@ -44,8 +44,9 @@ use Rattle.link.specs.Link.{new_login, outcome_after, outcome_port, ends_for, en
 use Rattle.command.specs.declared.Cmnd.{Cmnd}
 use Rattle.command.specs.declared.Task.{Task}
 use Rattle.command.specs.declared.Task.TheVariants as task
-use Rattle.command.specs.declared.Asked.{Asked}
-use Rattle.command.specs.declared.Asked.TheVariants as asks
+use Rattle.command.specs.declared.CmndFault.{CmndFault}
+use Rattle.command.specs.declared.Check.{Check}
+use Rattle.command.specs.declared.Check.TheVariants.{Attention}
 use Rattle.command.specs.Cmnd.{cmnd_of, task_of}
 use Rattle.command.specs.Tests.{asked_of}
 use Rattle.command.specs.Command.{refused_with, reports, told_of, bit_for, opened_of, answered_as, execute_of, done_as, commanded_at, logged_out, command_of}
@@ -57,7 +58,9 @@ use Rattle.serve.proofs.Frames.{runs}
 use Rattle.serve.proofs.Moving.{next_stays, next_only}
 use Rattle.arrival.specs.declared.Form.{Form}
 use Rattle.taking.specs.declared.Step.{Step}
-use Rattle.taking.specs.declared.Step.TheVariants.{NoWrite, Fault, Uncovered, Take}
+use Rattle.taking.specs.declared.Untaken.{Untaken}
+use Rattle.taking.specs.declared.Step.TheVariants.{Fault, Take}
+use Rattle.taking.specs.declared.Untaken.TheVariants.{NoWrite, Uncovered}
 use Rattle.taking.specs.Taking.{data_size, step_in, served_by, served_data, data_decided}
 use Rattle.taking.proofs.Steps.{Means, step_means}
 use Rattle.arrival.specs.declared.Form.TheVariants.{Link, Done, Abort, Command, Data}
@@ -223,8 +226,8 @@ module _ (u : Unit) (p : Port) (a x i j : ℕ) (w : well_formed u p ≡ true) (o
     unfolding data_decided
     data_others h size start len is = rw is (on_found_lem Says (find_login p b) _ _ (λ k e. elsewhere p unchanged k _ (not_here b k n e)) (λ _. unchanged))
 
-    task_others : (t : Task) (r : Decided) → Mild b t → (t ≡ task.Apply Reset → ⊥) → (t ≡ task.Apply (Clear b) → ⊥) → Says r → Says (done_as t p r)
-    task_others t r (mild.code m) z c s = unchanged
+    task_others : (t : Result Task CmndFault) (r : Decided) → Mild b t → (t ≡ Ok (task.Apply Reset) → ⊥) → (t ≡ Ok (task.Apply (Clear b)) → ⊥) → Says r → Says (done_as t p r)
+    task_others t r (mild.fault m) z c s = unchanged
     task_others t r mild.abort z c s = changed (EndExchangesOf b) (ends_exchanges b n)
     task_others t r mild.reset z c s = absurd (z refl)
     task_others t r mild.clear z c s = absurd (c refl)
@@ -232,7 +235,7 @@ module _ (u : Unit) (p : Port) (a x i j : ℕ) (w : well_formed u p ≡ true) (o
 
     -- where its login is paired; where it is not, that login ends
     command_others : (h : Header) (f : List ℕ) → h.s_id ≡ b
-        → ((login_of p b).paired ≡ 1 → task_of (cmnd_of f) (length f) b ≡ task.Apply Reset → ⊥) → ((login_of p b).paired ≡ 1 → task_of (cmnd_of f) (length f) b ≡ task.Apply (Clear b) → ⊥) → Says (command_of u p h f)
+        → ((login_of p b).paired ≡ 1 → task_of (cmnd_of f) (length f) b ≡ Ok (task.Apply Reset) → ⊥) → ((login_of p b).paired ≡ 1 → task_of (cmnd_of f) (length f) b ≡ Ok (task.Apply (Clear b)) → ⊥) → Says (command_of u p h f)
     unfolding command_of commanded_at logged_out
     command_others h f is z c = rw is (on_found_lem Says (find_login p b) _ _ (λ k e. by_cond Says (eqb (login_at p k).paired 1) (paired k e) (λ _. ended_stays)) (λ _. ended_stays))
       where
@@ -284,28 +287,28 @@ module _ (u : Unit) (p : Port) (a x i j : ℕ) (w : well_formed u p ≡ true) (o
   unfolding data_decided served_data
   data_own h size start len is n = rw (is, seat) (stored _ (by (step_in l h size start len) (step_means l h.ox_id h.offset (data_size h size) start len)))
     where
-      by : (s : Step) → Means l h.ox_id h.offset (data_size h size) start len s → Keeps (served_by s l (data_size h size))
-      by NoWrite at = itself l j
-      by (Fault k code) at = placed l l j k empty_exchange (itself l j) (not_its h.ox_id k n at.found)
-      by Uncovered at = itself l j
-      by (Take k m) at = placed l l j k _ (itself l j) (not_its h.ox_id k n at.found)
+      by : (s : Result Step Untaken) → Means l h.ox_id h.offset (data_size h size) start len s → Keeps (served_by s l (data_size h size))
+      by (Err NoWrite) at = itself l j
+      by (Ok (Fault k code)) at = placed l l j k empty_exchange (itself l j) (not_its h.ox_id k n at.found)
+      by (Err Uncovered) at = itself l j
+      by (Ok (Take k m)) at = placed l l j k _ (itself l j) (not_its h.ox_id k n at.found)
 
   -- a command of another OX_ID
   module _ (ox : ℕ) (n : ox ≡ x → ⊥) (c : Cmnd) where
-    opened_keeps : (e : Exchange) → Keeps (opened_of l c.bits e)
+    opened_keeps : (e : Exchange) → Keeps (opened_of l c e)
     unfolding opened_of told_of
     opened_keeps e =
         on_cond Keeps (eqb (total e) 0) (itself l j)
-        (on_cond Keeps (bit_for e c.bits)
+        (on_cond Keeps (bit_for e c)
         (on_found_lem Keeps (free_exchange l) _ _
         (λ k at. placed l _ j k e (on_cond (λ (m : Login). Kept l m j) (reports e.kind) (flagged l j l.proven l.paired 0) (itself l j)) (not_closed k at)) (λ _. itself l j))
         (itself l j))
 
-    answered_keeps : (q : Asked) → Keeps (answered_as q l c)
+    answered_keeps : (q : Result Exchange Check) → Keeps (answered_as q l c)
     unfolding refused_with
-    answered_keeps (asks.Refused key sense) = itself l j
-    answered_keeps asks.Attention = flagged l j l.proven l.paired 0
-    answered_keeps (asks.Wants e) = opened_keeps e
+    answered_keeps (Err (Attention code)) = flagged l j l.proven l.paired 0
+    answered_keeps (Err check) = itself l j
+    answered_keeps (Ok e) = opened_keeps e
 
     execute_keeps : (place : Option ℕ) → place ≡ find_exchange l ox → Keeps (execute_of u l place ox c)
     unfolding execute_of refused_with
@@ -319,7 +322,7 @@ module _ (u : Unit) (p : Port) (a x i j : ℕ) (w : well_formed u p ≡ true) (o
   is_paired = (runs u p a x i j w o).pair
 
   -- its own FCP_CMND, by what it asks for
-  pub own_command : (P : Decided → Type 0) (h : Header) (f : List ℕ) (t : Task) → h.s_id ≡ a → task_of (cmnd_of f) (length f) h.s_id ≡ t
+  pub own_command : (P : Decided → Type 0) (h : Header) (f : List ℕ) (t : Result Task CmndFault) → h.s_id ≡ a → task_of (cmnd_of f) (length f) h.s_id ≡ t
       → P (done_as t p (served_at p i (execute_of u l (sought_in p a h.ox_id) h.ox_id (cmnd_of f)))) → P (command_of u p h f)
   unfolding command_of commanded_at
   own_command P h f t is asks holds = rw (asks, is, seat, is_paired) holds
@@ -509,11 +512,11 @@ module _ (d : Drive) (a x i j : ℕ) (w : well_formed d.unit d.port ≡ true) (o
       own_left f start W room known 0x81 its (subst (λ (b : ℕ). Here (abts_of p b (header_of f).ox_id (header_of f).rx_id).port) (sym its.from) (abts_own u p a x i j w o (header_of f).ox_id (header_of f).rx_id (inr n)))
   leaves_open c (data_other f start W room known its n) = own_left f start W room known 0x01 its (data_own u p a x i j w o (header_of f) (length f) start (length W) its.from n)
   leaves_open c (coded f start W room known m its asks-code) =
-      own_left f start W room known 0x06 its (own_command u p a x i j w o (λ r. Here r.port) (header_of f) f (task.Code m) its.from asks-code (unchanged u p a x i j w o))
+      own_left f start W room known 0x06 its (own_command u p a x i j w o (λ r. Here r.port) (header_of f) f (Err m) its.from asks-code (unchanged u p a x i j w o))
   leaves_open c (command_other f start W room known its asks-it n) =
       let ox = (header_of f).ox_id in
       own_left f start W room known 0x06 its
-      (own_command u p a x i j w o (λ r. Here r.port) (header_of f) f task.Execute its.from asks-it
+      (own_command u p a x i j w o (λ r. Here r.port) (header_of f) f (Ok task.Execute) its.from asks-it
       (stored u p a x i j w o _ (execute_keeps u p a x i j w o ox n (cmnd_of f) (sought_in p a ox) (sought_there u p a x i j w o ox))))
   leaves_open c (unsized f start W room known its n) = own_left f start W room known 0x22 its (unsized_keeps u p a x i j w o (header_of f) f its.from n)
   leaves_open c (prli f start W room known s) = service_left f start W room known 0x20 s refl refl (prli_keeps u p a x i j w o f)

@@ -43,12 +43,15 @@ use Rattle.link.specs.Login.{named_in, Moves}
 use Rattle.link.specs.Link.{new_login, outcome_after, outcome_port, ends_for, ends_by, outcome_of, plogi_of, logo_of, pdisc_of, adisc_of, prlo_of, service_of, size_of, link_of, abts_of, names_differ, page_fine}
 use Rattle.command.specs.declared.Task.{Task}
 use Rattle.command.specs.declared.Task.TheVariants as task
+use Rattle.command.specs.declared.CmndFault.{CmndFault}
 use Rattle.command.specs.Cmnd.{cmnd_of, task_of}
 use Rattle.command.specs.Command.{refused_with, execute_of, done_as, commanded_at, logged_out, command_of}
 use Rattle.command.proofs.Logins.{Mild, task_mild}
 use Rattle.command.proofs.Logins as mild
 use Rattle.taking.specs.declared.Step.{Step}
-use Rattle.taking.specs.declared.Step.TheVariants.{NoWrite, Fault, Uncovered, Take}
+use Rattle.taking.specs.declared.Untaken.{Untaken}
+use Rattle.taking.specs.declared.Step.TheVariants.{Fault, Take}
+use Rattle.taking.specs.declared.Untaken.TheVariants.{NoWrite, Uncovered}
 use Rattle.taking.specs.Taking.{data_size, step_in, served_by, served_data, data_decided}
 use Rattle.taking.proofs.Steps.{Means, step_means}
 use Rattle.arrival.specs.Arrival.{unknown_form, known_pair, bad_sequence, form_of}
@@ -177,12 +180,12 @@ module _ (u : Unit) (p : Port) (a x i j : ℕ) (w : well_formed u p ≡ true) (o
           ]
 
   -- an FCP_CMND of whatever paired login that ends all exchanges
-  task_gone : (b : ℕ) (t : Task) (r : Decided) → (t ≡ task.Apply Reset) ⊎ (t ≡ task.Apply (Clear b)) → Over (done_as t p r)
+  task_gone : (b : ℕ) (t : Result Task CmndFault) (r : Decided) → (t ≡ Ok (task.Apply Reset)) ⊎ (t ≡ Ok (task.Apply (Clear b))) → Over (done_as t p r)
   task_gone b t r (inl e) = rw e (changed_gone a x p Reset (λ _. resets))
   task_gone b t r (inr e) = rw e (changed_gone a x p (Clear b) (λ _. clears b))
 
   all_gone : (h : Header) (f : List ℕ) → (login_of p h.s_id).paired ≡ 1
-      → (task_of (cmnd_of f) (length f) h.s_id ≡ task.Apply Reset) ⊎ (task_of (cmnd_of f) (length f) h.s_id ≡ task.Apply (Clear h.s_id)) → Over (command_of u p h f)
+      → (task_of (cmnd_of f) (length f) h.s_id ≡ Ok (task.Apply Reset)) ⊎ (task_of (cmnd_of f) (length f) h.s_id ≡ Ok (task.Apply (Clear h.s_id))) → Over (command_of u p h f)
   unfolding command_of commanded_at login_of
   all_gone h f pair flags = by (find_login p h.s_id) pair
     where
@@ -194,13 +197,13 @@ module _ (u : Unit) (p : Port) (a x i j : ℕ) (w : well_formed u p ≡ true) (o
       by None e = absurd (omega arith)
 
   -- its own: abort task set, and a command of its OX_ID
-  aborted_gone : (h : Header) (f : List ℕ) → h.s_id ≡ a → task_of (cmnd_of f) (length f) h.s_id ≡ task.Apply (EndExchangesOf a) → Over (command_of u p h f)
-  aborted_gone h f is asks = own_command u p a x i j w o Over h f (task.Apply (EndExchangesOf a)) is asks (changed_gone a x p (EndExchangesOf a) (λ _. ends_exchanges))
+  aborted_gone : (h : Header) (f : List ℕ) → h.s_id ≡ a → task_of (cmnd_of f) (length f) h.s_id ≡ Ok (task.Apply (EndExchangesOf a)) → Over (command_of u p h f)
+  aborted_gone h f is asks = own_command u p a x i j w o Over h f (Ok (task.Apply (EndExchangesOf a))) is asks (changed_gone a x p (EndExchangesOf a) (λ _. ends_exchanges))
 
-  again_gone : (h : Header) (f : List ℕ) → h.s_id ≡ a → task_of (cmnd_of f) (length f) h.s_id ≡ task.Execute → h.ox_id ≡ x → Over (command_of u p h f)
+  again_gone : (h : Header) (f : List ℕ) → h.s_id ≡ a → task_of (cmnd_of f) (length f) h.s_id ≡ Ok task.Execute → h.ox_id ≡ x → Over (command_of u p h f)
   unfolding execute_of refused_with
   again_gone h f is asks its =
-      own_command u p a x i j w o Over h f task.Execute is asks
+      own_command u p a x i j w o Over h f (Ok task.Execute) is asks
       (rw (its, sought_there u p a x i j w o x, open_exchange p a x i j o) (login_gone (ended_at l j) freed))
 
   -- ABTS
@@ -213,15 +216,15 @@ module _ (u : Unit) (p : Port) (a x i j : ℕ) (w : well_formed u p ≡ true) (o
   unfolding data_decided served_data
   data_gone h size start len is its = rw (is, seat u p a x i j w o) (by (step_in l h size start len) (step_means l h.ox_id h.offset (data_size h size) start len))
     where
-      by : (s : Step) → Means l h.ox_id h.offset (data_size h size) start len s → (silent (served_by s l (data_size h size)).reply ≡ true → ⊥) → Gone a x (with_login p i (served_by s l (data_size h size)).login)
-      by NoWrite at loud = absurd (loud refl)
-      by (Fault k code) at loud =
+      by : (s : Result Step Untaken) → Means l h.ox_id h.offset (data_size h size) start len s → (silent (served_by s l (data_size h size)).reply ≡ true → ⊥) → Gone a x (with_login p i (served_by s l (data_size h size)).login)
+      by (Err NoWrite) at loud = absurd (loud refl)
+      by (Ok (Fault k code)) at loud =
           let there = open_exchange p a x i j o in
           let here = ap (find_exchange l) (sym its) ∙ at.found in
           let place : j ≡ k = cc in
           subst (λ (m : ℕ). Gone a x (with_login p i (ended_at l m))) place (login_gone (ended_at l j) freed)
-      by Uncovered at loud = absurd (loud refl)
-      by (Take k m) at loud = absurd (loud refl)
+      by (Err Uncovered) at loud = absurd (loud refl)
+      by (Ok (Take k m)) at loud = absurd (loud refl)
 
   -- its login ended
   ended_gone : Gone a x (changed_all (EndLogin a) p)
@@ -332,8 +335,8 @@ request c =
     is {k} r e _ = subst Request (sym (eqb-true c k e)) r
 
 -- whether a task ends all exchanges, and so whether a frame does
-asks_all : (b : ℕ) (t : Task) → Mild b t → Dec ((t ≡ task.Apply Reset) ⊎ (t ≡ task.Apply (Clear b)))
-asks_all b t (mild.code m) = no (⊎_elim (λ e. let z : ◌≡◌ {A = ℕ} 0 1 = cc in absurd (omega arith)) (λ e. let z : ◌≡◌ {A = ℕ} 0 1 = cc in absurd (omega arith)))
+asks_all : (b : ℕ) (t : Result Task CmndFault) → Mild b t → Dec ((t ≡ Ok (task.Apply Reset)) ⊎ (t ≡ Ok (task.Apply (Clear b))))
+asks_all b t (mild.fault m) = no (⊎_elim (λ e. let z : ◌≡◌ {A = ℕ} 0 1 = cc in absurd (omega arith)) (λ e. let z : ◌≡◌ {A = ℕ} 0 1 = cc in absurd (omega arith)))
 asks_all b t mild.abort = no (⊎_elim (λ e. let z : ◌≡◌ {A = ℕ} 0 1 = cc in absurd (omega arith)) (λ e. let z : ◌≡◌ {A = ℕ} 0 1 = cc in absurd (omega arith)))
 asks_all b t mild.reset = yes (inl refl)
 asks_all b t mild.clear = yes (inr refl)
@@ -493,9 +496,9 @@ module _ (d : Drive) (a x i j : ℕ) (w : well_formed d.unit d.port ≡ true) (o
         paired : (login_of p (header_of f).s_id).paired ≡ 1
         paired = rw (own.from, login_there u p a x i j w o) (eqb-true (login_at p i).paired 1 (is_paired u p a x i j w o))
 
-        by : (k : Task) → asked f ≡ k → Mild (header_of f).s_id k → Sorted its
-        by k e (mild.code m) = inl (call.coded f start W room known m own e)
-        by k e mild.abort = inr (t, call.aborts_set f start W room known own (e ∙ ap (λ (b : ℕ). task.Apply (EndExchangesOf b)) own.from))
+        by : (k : Result Task CmndFault) → asked f ≡ k → Mild (header_of f).s_id k → Sorted its
+        by k e (mild.fault m) = inl (call.coded f start W room known m own e)
+        by k e mild.abort = inr (t, call.aborts_set f start W room known own (e ∙ ap (λ (b : ℕ). Ok (task.Apply (EndExchangesOf b))) own.from))
         by k e mild.reset = inr (t, call.all_end f start W room known record { command = own.form; paired = paired; flags = inl e })
         by k e mild.clear = inr (t, call.all_end f start W room known record { command = own.form; paired = paired; flags = inr e })
         by k e mild.execute =

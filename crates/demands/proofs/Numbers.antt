@@ -17,7 +17,7 @@ use Rattle.reply.specs.Reply.{answer_head, data_head, filled, bytes_of}
 use Rattle.residual.specs.Residual.{residual_of}
 use Rattle.link.specs.Link.{size_of, new_login, outcome_of, plogi_of, page_fine, pair_fine, prli_of, service_of, link_of}
 use Rattle.command.specs.Cmnd.{cmnd_of, malformed, task_for, task_of}
-use Rattle.command.specs.Cdb.{inquiry_field, capacity_field, range10, decoded_of}
+use Rattle.command.specs.Cdb.{inquiry_field, capacity_field, range10, operation_of}
 use Rattle.command.specs.Tests.{other_unit, attends, protected, beyond, tested_by, asked_of}
 use Rattle.command.specs.Command.{refused_with, told_of, bit_for, opened_of, execute_of, commanded_at, command_of}
 use Rattle.cover.specs.Cover.{cover_of}
@@ -50,7 +50,7 @@ record Long : Type 0 where
   proven : (login_at long.port 0).proven ≡ 1
 
 long_is : Long
-unfolding frame_in frame_in_buffer reply_bytes header_of header_bytes bad_size bad_source known_pair bad_sequence unknown_form spared unproven_login form_of valid_address made_from well_formed setup_rules setup_of setup_passes params_of size_fails zero_name verdict_of login_fine used_fine flags_fine address_fine params_fine exchange_fine apart_id apart_login wanted_fits blocks_fit made_fits direction_fits sent_fits moved_fits find_login free_login find_exchange free_exchange login_of has_address has_id login_at exchange_at with_login with_exchange ended_of host_ended has_name name_of changed_all bytes_of filled onto answer_head data_head short_bytes login_bytes pair_bytes reject_bytes status_bytes code_bytes sense_bytes residual_of link_of size_of plogi_of outcome_of new_login service_of prli_of pair_fine page_fine cmnd_of malformed task_for task_of other_unit attends protected inquiry_field capacity_field range10 decoded_of beyond tested_by asked_of refused_with told_of bit_for opened_of execute_of commanded_at command_of next_frame next_frame_buffer lookup_of has_more reads_more cover_of place_of frame_of next_reply next_exchange source_of window_place own_of asked_by open_step step_of frame_bytes moved_on next_of next_buffer
+unfolding frame_in frame_in_buffer reply_bytes header_of header_bytes bad_size bad_source known_pair bad_sequence unknown_form spared unproven_login form_of valid_address made_from well_formed setup_rules setup_of setup_passes params_of size_fails zero_name verdict_of login_fine used_fine flags_fine address_fine params_fine exchange_fine apart_id apart_login wanted_fits blocks_fit made_fits direction_fits sent_fits moved_fits find_login free_login find_exchange free_exchange login_of has_address has_id login_at exchange_at with_login with_exchange ended_of host_ended has_name name_of changed_all bytes_of filled onto answer_head data_head short_bytes login_bytes pair_bytes reject_bytes status_bytes code_bytes sense_bytes residual_of link_of size_of plogi_of outcome_of new_login service_of prli_of pair_fine page_fine cmnd_of malformed task_for task_of other_unit attends protected inquiry_field capacity_field range10 operation_of beyond tested_by asked_of refused_with told_of bit_for opened_of execute_of commanded_at command_of next_frame next_frame_buffer lookup_of has_more reads_more cover_of place_of frame_of next_reply next_exchange source_of window_place own_of asked_by open_step step_of frame_bytes moved_on next_of next_buffer
 long_is = record { formed = refl; stands = refl; is = refl; full = refl; own = refl; blocks = refl; proven = refl }
 
 long_fresh : Fresh long 0x01 0x0004 0 0
@@ -91,7 +91,7 @@ module _ (unit : List ℕ) (size : length unit ≡ 512 * 65535) where
     count_65537 = ap (λ (f : List ℕ). take 12 (drop 12 f)) (frame_is 65536 (omega arith))
 
 pub known_numbers : KnownNumbers
-unfolding frame_in frame_in_buffer reply_bytes header_of header_bytes bad_size bad_source known_pair bad_sequence unknown_form spared unproven_login form_of valid_address made_from well_formed setup_rules setup_of setup_passes params_of size_fails zero_name verdict_of login_fine used_fine flags_fine address_fine params_fine exchange_fine apart_id apart_login wanted_fits blocks_fit made_fits direction_fits sent_fits moved_fits find_login free_login find_exchange free_exchange login_of has_address has_id login_at exchange_at with_login with_exchange ended_of host_ended has_name name_of changed_all bytes_of filled onto answer_head data_head short_bytes login_bytes pair_bytes reject_bytes status_bytes code_bytes sense_bytes residual_of link_of size_of plogi_of outcome_of new_login service_of prli_of pair_fine page_fine cmnd_of malformed task_for task_of other_unit attends protected inquiry_field capacity_field range10 decoded_of beyond tested_by asked_of refused_with told_of bit_for opened_of execute_of commanded_at command_of next_frame next_frame_buffer lookup_of has_more reads_more cover_of place_of frame_of next_reply next_exchange source_of window_place own_of asked_by open_step step_of frame_bytes moved_on next_of next_buffer
+unfolding frame_in frame_in_buffer reply_bytes header_of header_bytes bad_size bad_source known_pair bad_sequence unknown_form spared unproven_login form_of valid_address made_from well_formed setup_rules setup_of setup_passes params_of size_fails zero_name verdict_of login_fine used_fine flags_fine address_fine params_fine exchange_fine apart_id apart_login wanted_fits blocks_fit made_fits direction_fits sent_fits moved_fits find_login free_login find_exchange free_exchange login_of has_address has_id login_at exchange_at with_login with_exchange ended_of host_ended has_name name_of changed_all bytes_of filled onto answer_head data_head short_bytes login_bytes pair_bytes reject_bytes status_bytes code_bytes sense_bytes residual_of link_of size_of plogi_of outcome_of new_login service_of prli_of pair_fine page_fine cmnd_of malformed task_for task_of other_unit attends protected inquiry_field capacity_field range10 operation_of beyond tested_by asked_of refused_with told_of bit_for opened_of execute_of commanded_at command_of next_frame next_frame_buffer lookup_of has_more reads_more cover_of place_of frame_of next_reply next_exchange source_of window_place own_of asked_by open_step step_of frame_bytes moved_on next_of next_buffer
 known_numbers =
     record {
       frame_20 = refl;

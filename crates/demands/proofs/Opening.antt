@@ -33,10 +33,9 @@ use Rattle.calls.proofs.Standing.{stands_there}
 use Rattle.calls.proofs.Views.{sought_is}
 use Rattle.command.specs.declared.Operation.TheVariants as op
 use Rattle.command.specs.Cmnd.{cmnd_of}
-use Rattle.command.specs.Cdb.{range10, decoded_of}
+use Rattle.command.specs.Cdb.{range10, operation_of}
 use Rattle.command.specs.Tests.{inquiry_kind, sense_kind}
 use Rattle.command.specs.Command.{reports, told_of, command_of}
-use Rattle.command.proofs.Moves.{operation_of}
 use Rattle.command.proofs.Silent.{wish_of, OpensAt, command_silent}
 use Rattle.arrival.specs.Arrival.{spared, unproven_login, form_of}
 use Rattle.arrival.proofs.Passes.{Passes}
@@ -66,12 +65,12 @@ none_silent d h r e = by (silent r.reply) refl (cc)
 
 -- what a command of each code asks of a login is what its frame's bytes say
 wish_is : {code : ℕ} {wish : List ℕ → Login → Exchange} → Opens code wish → (f : List ℕ) (m : Login) → get_or f 36 0 ≡ code → wish_of m (header_of f).ox_id (cmnd_of f) ≡ wish f m
-unfolding cmnd_of decoded_of range10 header_of
-wish_is read f m c = let is : operation_of (cmnd_of f) ≡ op.Read record { start = num 4 f 38; blocks = num 2 f 43 } = rw c in rw is
-wish_is write f m c = let is : operation_of (cmnd_of f) ≡ op.Write record { start = num 4 f 38; blocks = num 2 f 43 } = rw c in rw is
-wish_is inquiry f m c = let is : operation_of (cmnd_of f) ≡ op.Inquiry (get_or f 40 0) = rw c in rw is
-wish_is capacity f m c = let is : operation_of (cmnd_of f) ≡ op.ReadCapacity = rw c in rw is
-wish_is sense f m c = let is : operation_of (cmnd_of f) ≡ op.RequestSense (get_or f 40 0) = rw c in rw is
+unfolding cmnd_of operation_of range10 header_of
+wish_is read f m c = let is : operation_of (cmnd_of f).cdb ≡ op.Read record { start = num 4 f 38; blocks = num 2 f 43 } = rw c in rw is
+wish_is write f m c = let is : operation_of (cmnd_of f).cdb ≡ op.Write record { start = num 4 f 38; blocks = num 2 f 43 } = rw c in rw is
+wish_is inquiry f m c = let is : operation_of (cmnd_of f).cdb ≡ op.Inquiry (get_or f 40 0) = rw c in rw is
+wish_is capacity f m c = let is : operation_of (cmnd_of f).cdb ≡ op.ReadCapacity = rw c in rw is
+wish_is sense f m c = let is : operation_of (cmnd_of f).cdb ≡ op.RequestSense (get_or f 40 0) = rw c in rw is
 
 -- its exchange is open, of the frame's OX_ID and FCP_DL, and nothing of it was sent
 record Anew (f : List ℕ) (e : Exchange) : Type 0 where

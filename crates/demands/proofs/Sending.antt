@@ -1,5 +1,5 @@
 -- A data frame as a host sends it: its bytes, how one reads them, and that the drive takes it. Assumes nothing.
-use Rattle.std.specs.Prelude.{Some}
+use Rattle.std.specs.Prelude.{Some, Ok}
 use mathlib.Core.Path.{◌≡◌, refl, sym, ap, ◌∙◌}
 use mathlib.Core.Bool.{true, false, not, ◌&&◌}
 use mathlib.Core.List.{List, [], ◌∷◌, ◌++◌}
@@ -248,7 +248,7 @@ module _ {d : Drive} {unit : List ℕ} {a x i j : ℕ} {P : List ℕ} (may : Sen
   unfolding login_of
   login_is = rw (open_place p a x i j may.stands)
 
-  step_is : data_step d sent_frame sent_start (length W) ≡ Take j (e.sent % 512)
+  step_is : data_step d sent_frame sent_start (length W) ≡ Ok (Take j (e.sent % 512))
   step_is =
       (λ n. step_of (login_of p (header_is n).s_id) (header_is n).ox_id (header_is n).offset (size_is n) sent_start (length W))
       ∙ ap (λ (m : Login). step_of m x e.sent (length P) sent_start (length W)) login_is

@@ -1,5 +1,5 @@
 -- A data frame: what becomes of its window and of the drive. Assumes nothing.
-use Rattle.std.specs.Prelude.{Some, Ok, Result}
+use Rattle.std.specs.Prelude.{Some, Ok, Result, Err}
 use Rattle.refusal.specs.declared.Refusal.{Refusal}
 use mathlib.Core.Path.{◌≡◌, refl, sym, ap, ◌∙◌, subst}
 use mathlib.Core.Bool.{true, false}
@@ -26,7 +26,9 @@ use Rattle.reply.specs.Payload.{status_bytes, code_bytes}
 use Rattle.reply.specs.Reply.{filled, bytes_of}
 use Rattle.calls.specs.Turn.{Decided}
 use Rattle.taking.specs.declared.Step.{Step}
-use Rattle.taking.specs.declared.Step.TheVariants.{NoWrite, Fault, Uncovered, Take}
+use Rattle.taking.specs.declared.Untaken.{Untaken}
+use Rattle.taking.specs.declared.Step.TheVariants.{Fault, Take}
+use Rattle.taking.specs.declared.Untaken.TheVariants.{NoWrite, Uncovered}
 use Rattle.taking.specs.Taking.{data_size, data_in, burst_end, fault_of, find_write, covered_step, step_of, taken_on, window_by, window_after, data_decided}
 use Rattle.taking.proofs.Steps.{Takes}
 use Rattle.taking.proofs.Silent.{TakeAt, data_take, data_fault}
@@ -51,7 +53,7 @@ carried_long h f =
 
 -- the next bytes of a WRITE, within its burst and in the window, are taken
 pub step_take : (l : Login) (x offset n start len j k : ℕ) → find_exchange l x ≡ Some j → is_write (exchange_at l j) ≡ true → offset ≡ (exchange_at l j).sent → offset + n ≤ burst_end (exchange_at l j)
-    → lent_place (position_of (exchange_at l j).start (exchange_at l j).sent) n start len ≡ Some k → step_of l x offset n start len ≡ Take j k
+    → lent_place (position_of (exchange_at l j).start (exchange_at l j).sent) n start len ≡ Some k → step_of l x offset n start len ≡ Ok (Take j k)
 unfolding step_of find_write fault_of covered_step
 step_take l x offset n start len j k found write next within place =
     let e = exchange_at l j in
@@ -73,11 +75,11 @@ module _ (d : Drive) (f : List ℕ) (start : ℕ) (W : List ℕ) (room : ℕ) wh
 
   -- the window is as it was, or the bytes of a data frame stand in it
   module _ (P : List ℕ → Type 0) (same : P W) (stores : (j k : ℕ) → Passes → TakeAt p h (length f) start (length W) j k → P (over W k (data_in h f))) where
-    by_step : (s : Step) → Passes → data_step d f start (length W) ≡ s → P (window_by s (data_in h f) W)
-    by_step NoWrite n e = same
-    by_step (Fault j code) n e = same
-    by_step Uncovered n e = same
-    by_step (Take j k) n e = stores j k n (data_take p h (length f) start (length W) j k e)
+    by_step : (s : Result Step Untaken) → Passes → data_step d f start (length W) ≡ s → P (window_by s (data_in h f) W)
+    by_step (Err NoWrite) n e = same
+    by_step (Ok (Fault j code)) n e = same
+    by_step (Err Uncovered) n e = same
+    by_step (Ok (Take j k)) n e = stores j k n (data_take p h (length f) start (length W) j k e)
 
     by_form : (g : Form) → Passes → P (window_of d g f start W)
     unfolding window_after
@@ -117,7 +119,7 @@ module _ (d : Drive) (f : List ℕ) (start : ℕ) (W : List ℕ) (room : ℕ) wh
     window_is = none_then (applies d f start (length W) room) frame_order (λ x. W) (window_of d (form_of h.r_ctl) f start W) (passes_in d f start (length W) room n) ∙ rw is_data_lem
 
     module _ (i j : ℕ) (stands : lookup_of p h.s_id h.ox_id ≡ Open i j) where
-      pub stores_taken : (m k : ℕ) → data_step d f start (length W) ≡ Take m k → Stores i j
+      pub stores_taken : (m k : ℕ) → data_step d f start (length W) ≡ Ok (Take m k) → Stores i j
       unfolding reply_bytes bytes_of
       stores_taken m k e =
           let t = data_take p h (length f) start (length W) m k e in
@@ -127,19 +129,19 @@ module _ (d : Drive) (f : List ℕ) (start : ℕ) (W : List ℕ) (room : ℕ) wh
           let a = answer_is t.is in
           subst (Stores i) is_j
           (subst (λ (s : ℕ). Stores s m) is_i
-          record { k = k; takes = t.takes; said = ap (λ (r : Answer). r.said) a; drive = ap (λ (r : Answer). r.drive) a; window = window_is ∙ ap (λ (s : Step). window_by s (data_in h f) W) e })
+          record { k = k; takes = t.takes; said = ap (λ (r : Answer). r.said) a; drive = ap (λ (r : Answer). r.drive) a; window = window_is ∙ ap (λ (s : Result Step Untaken). window_by s (data_in h f) W) e })
 
       -- it is taken if nothing is sent
-      by_said : (s : Step) → data_step d f start (length W) ≡ s → (frame_in d f start W room).said ≡ Ok 0 → Stores i j
+      by_said : (s : Result Step Untaken) → data_step d f start (length W) ≡ s → (frame_in d f start W room).said ≡ Ok 0 → Stores i j
       unfolding reply_bytes bytes_of filled header_bytes status_bytes code_bytes
-      by_said NoWrite e q = apart {a = true} refl (rw (form, e) at n.open_write)
-      by_said Uncovered e q = apart {a = true} refl (rw (form, e) at n.covers)
-      by_said (Fault m code) e q =
+      by_said (Err NoWrite) e q = apart {a = true} refl (rw (form, e) at n.open_write)
+      by_said (Err Uncovered) e q = apart {a = true} refl (rw (form, e) at n.covers)
+      by_said (Ok (Fault m code)) e q =
           let a = ap (λ (r : Answer). r.said) (answer_is (data_fault p h (length f) start (length W) m code e).is) in
           let b : ◌≡◌ {A = Result ℕ Refusal} (Ok 56) (Ok 0) = sym a ∙ q in
           let c : ◌≡◌ {A = ℕ} 56 0 = cc in
           absurd (omega arith)
-      by_said (Take m k) e q = stores_taken m k e
+      by_said (Ok (Take m k)) e q = stores_taken m k e
 
   pub stores_said : (i j : ℕ) → h.r_ctl ≡ 0x01 → lookup_of p h.s_id h.ox_id ≡ Open i j → (frame_in d f start W room).said ≡ Ok 0 → Stores i j
   unfolding frame_in

@@ -1,5 +1,5 @@
 -- Calls that come between the frames of an open exchange: those that leave it open, and those that end it (document 01, "Link services", "Commands", "Events"; document 02, requests 1 and 2).
-use Rattle.std.specs.Prelude.{◌≡◌, true, false, ◌⊎◌, List, ℕ, ◌+◌, length, get_or, Ok, Err}
+use Rattle.std.specs.Prelude.{◌≡◌, true, false, ◌⊎◌, List, ℕ, ◌+◌, length, get_or, Ok, Err, Result}
 use Rattle.wire.specs.Bytes.{num, part}
 use Rattle.wire.specs.Layout.{AllBytes}
 use Rattle.frame.specs.Head.{header_of}
@@ -13,6 +13,7 @@ use Rattle.link.specs.Link.{size_of, names_differ, page_fine}
 use Rattle.link.specs.Login.{Moves}
 use Rattle.command.specs.declared.Task.{Task}
 use Rattle.command.specs.declared.Task.TheVariants as task
+use Rattle.command.specs.declared.CmndFault.{CmndFault}
 use Rattle.command.specs.Cmnd.{cmnd_of, task_of}
 use Rattle.formed.specs.Formed.{well_formed}
 use Rattle.serve.specs.Whole.{StaysOpen}
@@ -39,7 +40,7 @@ abbrev pub after : Drive → Call → Drive
 after d c = (answer_of d c).drive
 
 -- what an FCP_CMND's task flags ask for: the answer alone, a change of the logins, or the command
-abbrev pub asked : List ℕ → Task
+abbrev pub asked : List ℕ → Result Task CmndFault
 asked f = task_of (cmnd_of f) (length f) (header_of f).s_id
 
 -- "20h target reset ends all exchanges", "04h clear task set ends all": an FCP_CMND (R_CTL 06h) of a paired login that asks for one of these;
@@ -47,7 +48,7 @@ asked f = task_of (cmnd_of f) (length f) (header_of f).s_id
 pub record EndsAll (p : Port) (f : List ℕ) : Type 0 where
   pub command : (header_of f).r_ctl ≡ 0x06
   pub paired : (login_of p (header_of f).s_id).paired ≡ 1
-  pub flags : (asked f ≡ task.Apply Reset) ⊎ (asked f ≡ task.Apply (Clear (header_of f).s_id))
+  pub flags : (asked f ≡ Ok (task.Apply Reset)) ⊎ (asked f ≡ Ok (task.Apply (Clear (header_of f).s_id)))
 
 -- a frame of address a with this R_CTL
 pub record Own (a rctl : ℕ) (f : List ℕ) : Type 0 where
@@ -87,8 +88,8 @@ pub data LeavesOpen (d : Drive) (a x : ℕ) : Call → Type 0 where
   -- a data frame of another OX_ID (02, 2), whatever becomes of it
   data_other : (f : List ℕ) (start : ℕ) (W : List ℕ) (room : ℕ) (known : AllBytes f) → Own a 0x01 f → ((header_of f).ox_id ≡ x → ⊥) → LeavesOpen d a x (frame f start W room known)
   -- an FCP_CMND that is answered with RSP_CODE alone, and a command of another OX_ID, whatever becomes of it
-  coded : (f : List ℕ) (start : ℕ) (W : List ℕ) (room : ℕ) (known : AllBytes f) (n : ℕ) → Own a 0x06 f → asked f ≡ task.Code n → LeavesOpen d a x (frame f start W room known)
-  command_other : (f : List ℕ) (start : ℕ) (W : List ℕ) (room : ℕ) (known : AllBytes f) → Own a 0x06 f → asked f ≡ task.Execute → ((header_of f).ox_id ≡ x → ⊥) → LeavesOpen d a x (frame f start W room known)
+  coded : (f : List ℕ) (start : ℕ) (W : List ℕ) (room : ℕ) (known : AllBytes f) (t : CmndFault) → Own a 0x06 f → asked f ≡ Err t → LeavesOpen d a x (frame f start W room known)
+  command_other : (f : List ℕ) (start : ℕ) (W : List ℕ) (room : ℕ) (known : AllBytes f) → Own a 0x06 f → asked f ≡ Ok task.Execute → ((header_of f).ox_id ≡ x → ⊥) → LeavesOpen d a x (frame f start W room known)
   -- "other code 0B,00; wrong size 03,00"
   unsized : (f : List ℕ) (start : ℕ) (W : List ℕ) (room : ℕ) (known : AllBytes f) → Own a 0x22 f → (length f ≡ 24 + size_of (get_or f 24 0) → ⊥) → LeavesOpen d a x (frame f start W room known)
   -- PRLI "ends nothing"; RRQ
@@ -111,9 +112,9 @@ pub data EndsOpen (d : Drive) (a x : ℕ) : Call → Type 0 where
   -- "A PLOGI whose parameters pass, with a port name logged in at another address, ends that login and its exchanges" (02, 1)
   moved : (f : List ℕ) (start : ℕ) (W : List ℕ) (room : ℕ) (known : AllBytes f) → ((header_of f).s_id ≡ a → ⊥) → Moves d.port a (header_of f) f → EndsOpen d a x (frame f start W room known)
   -- "02h abort task set the sender's"
-  aborts_set : (f : List ℕ) (start : ℕ) (W : List ℕ) (room : ℕ) (known : AllBytes f) → Own a 0x06 f → asked f ≡ task.Apply (EndExchangesOf a) → EndsOpen d a x (frame f start W room known)
+  aborts_set : (f : List ℕ) (start : ℕ) (W : List ℕ) (room : ℕ) (known : AllBytes f) → Own a 0x06 f → asked f ≡ Ok (task.Apply (EndExchangesOf a)) → EndsOpen d a x (frame f start W room known)
   -- "(1) OX_ID open at this login: that exchange ends"
-  again : (f : List ℕ) (start : ℕ) (W : List ℕ) (room : ℕ) (known : AllBytes f) → Own a 0x06 f → asked f ≡ task.Execute → (header_of f).ox_id ≡ x → EndsOpen d a x (frame f start W room known)
+  again : (f : List ℕ) (start : ℕ) (W : List ℕ) (room : ℕ) (known : AllBytes f) → Own a 0x06 f → asked f ≡ Ok task.Execute → (header_of f).ox_id ≡ x → EndsOpen d a x (frame f start W room known)
   -- ABTS: "the sender's exchange of that OX_ID, if any, ends"
   abts : (f : List ℕ) (start : ℕ) (W : List ℕ) (room : ℕ) (known : AllBytes f) → Own a 0x81 f → (header_of f).ox_id ≡ x → (header_of f).rx_id ≡ 0xffff → EndsOpen d a x (frame f start W room known)
   -- a data frame of this OX_ID "at another offset than the next is answered at once with RSP_CODE 03, else past the burst with 01, and ends the exchange" (02, 2): one that is answered with a frame

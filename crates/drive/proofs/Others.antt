@@ -44,7 +44,7 @@ use Rattle.drive.specs.declared.Answer.{Answer}
 use Rattle.drive.specs.Entry.{frame_in, next_frame}
 use Rattle.drive.specs.Turn.{arrived_in, on_judged, decision_as, decision_of, passed_turn, arrived_turn, next_out_turn, answer_to}
 use Rattle.drive.specs.Others.{OfOthers, frame, done, next, Unmoved, turn_in, turn_out, others_answer, turn_of}
-use Rattle.drive.proofs.Turns.{stays_is, frame_came, arrived_turn_lem, next_out_turn_lem}
+use Rattle.drive.proofs.Turns.{stays_is, frame_came, frame_turn_lem, next_out_turn_lem}
 use Rattle.drive.proofs.Ways.{frame_short, next_short}
 
 module _ (d : Drive) (w : well_formed d.unit d.port ≡ true) where
@@ -95,7 +95,7 @@ module _ (d : Drive) (w : well_formed d.unit d.port ≡ true) where
 
         on : (j : Result Form Refusal) → short_buffer room ≡ false → arrived_in v (header_of f) f ≡ j → answer_to d (arrives j) ≡ frame_in d f start W room
         on (Err x) s e = stays_is d x ∙ sym (frame_came d f start W room s ∙ rw e)
-        on (Ok k) s e = arrived_turn_lem d f start W k e room s
+        on (Ok k) s e = frame_turn_lem d f start W k e room s
 
         by : (s : Bool) → short_buffer room ≡ s → answer_to d (cond s (refused_turn ShortBuffer) (arrives (arrived_in v (header_of f) f))) ≡ frame_in d f start W room
         by true s = stays_is d ShortBuffer ∙ sym (frame_short d f start W room s)

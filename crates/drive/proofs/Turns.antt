@@ -16,8 +16,7 @@ use Rattle.frame.specs.declared.Header.{Header}
 use Rattle.frame.specs.Head.{header_of}
 use Rattle.refusal.specs.declared.Refusal.{Refusal}
 use Rattle.refusal.specs.declared.Refusal.TheVariants.{IllFormed, BadSize, NotOurs, BadSource, UnknownForm, Unproven, NoWrite, BadWindow}
-use Rattle.refusal.specs.Refusal.{number_of, frame_order}
-use Rattle.refusal.proofs.Numbers.{numbers}
+use Rattle.refusal.specs.Refusal.{frame_order}
 use Rattle.state.specs.declared.Login.{Login}
 use Rattle.state.specs.declared.Port.{Port}
 use Rattle.state.specs.declared.Unit.{Unit}
@@ -42,7 +41,9 @@ use Rattle.serve.specs.Turn.{next_turn, next_turn_buffer}
 use Rattle.serve.proofs.Turns.{next_turn_lem, next_buffer_lem, next_keeps}
 use Rattle.arrival.specs.declared.Form.{Form}
 use Rattle.taking.specs.declared.Step.{Step}
+use Rattle.taking.specs.declared.Untaken.{Untaken}
 use Rattle.taking.specs.declared.Step.TheVariants as step
+use Rattle.taking.specs.declared.Untaken.TheVariants as untaken
 use Rattle.taking.specs.Taking.{is_data, step_in, no_write, uncovered, applies_data, on_step, served_data, window_after, data_decided, taking_turn, taking_buffer, taking_window}
 use Rattle.taking.proofs.Turns.{served_decided, taking_turn_lem, taking_buffer_lem, taking_window_lem}
 use Rattle.arrival.specs.declared.Form.TheVariants.{Link, Done, Abort, Command, Data}
@@ -52,7 +53,7 @@ use Rattle.drive.specs.declared.Drive.{Drive}
 use Rattle.drive.specs.declared.Answer.{Answer}
 use Rattle.drive.specs.Drive.{refused}
 use Rattle.drive.specs.Entry.{applies, decided_of, decided_in, reply_bytes, answered, frame_in, frame_in_buffer, window_of, frame_in_window, next_answer, next_frame, next_frame_buffer}
-use Rattle.drive.specs.Turn.{unproven_at, unproven_in, arrived_in, on_judged, refusal_of, decision_as, decision_of, passed_turn, passed_buffer, arrived_turn, arrived_buffer, arrived_window, next_out_turn, next_out_buffer, answer_to}
+use Rattle.drive.specs.Turn.{unproven_at, unproven_in, arrived_in, on_judged, decision_as, decision_of, passed_turn, passed_buffer, arrived_turn, arrived_buffer, arrived_window, next_out_turn, next_out_buffer, answer_to}
 
 -- a judgement is a refusal or a pass, not both
 not_both : (x : Refusal) (k : Form) → Err x ≡ Ok k → ⊥
@@ -111,19 +112,19 @@ module _ (d : Drive) where
         by true w = λ i. tested g b true (unproven_is w h.s_id i) p.address (view_is u p h.s_id (fine w) i)
 
     -- what a data frame comes to
-    abbrev coming : Step
+    abbrev coming : Result Step Untaken
     coming = step_in v.login h (length f) start len
 
     -- 11 and 10 are a data frame's, by what it comes to
     data_first : {B : Type 0} (g : Refusal → B) (b : B) → first_of (applies_data h coming) (NoWrite ∷ BadWindow ∷ []) g b ≡ cond (is_data h) (on_step coming g b) b
     data_first {B} g b = by (is_data h) coming
       where
-        by : (x : Bool) (s : Step) → cond (x && no_write s) (g NoWrite) (cond (x && uncovered s) (g BadWindow) b) ≡ cond x (on_step s g b) b
+        by : (x : Bool) (s : Result Step Untaken) → cond (x && no_write s) (g NoWrite) (cond (x && uncovered s) (g BadWindow) b) ≡ cond x (on_step s g b) b
         by false s = refl
-        by true step.NoWrite = refl
-        by true (step.Fault i code) = refl
-        by true step.Uncovered = refl
-        by true (step.Take i k) = refl
+        by true (Err untaken.NoWrite) = refl
+        by true (Ok (step.Fault i code)) = refl
+        by true (Err untaken.Uncovered) = refl
+        by true (Ok (step.Take i k)) = refl
 
     -- and come after the numbers by what arrived
     abbrev came : {B : Type 0} → (Refusal → B) → B → Result Form Refusal → B
@@ -166,7 +167,7 @@ module _ (d : Drive) where
     window_came room e = first_came (λ _. W) left room e
 
     -- one that arrived well is of a drive that is well formed
-    arrived_fine : (k : Form) → arrived_in v h f ≡ Ok k → well_formed u p ≡ true
+    pub arrived_fine : (k : Form) → arrived_in v h f ≡ Ok k → well_formed u p ≡ true
     unfolding arrived_in judged_by
     arrived_fine k e = by (well_formed u p) refl
       where
@@ -242,88 +243,37 @@ module _ (d : Drive) where
           left_is : window_after v.login h f start W ≡ left
           left_is = ap (λ (l : Login). window_after l h f start W) (view_is u p h.s_id (fine w)) ∙ sym (ap (λ (k : Form). window_of d k f start W) form_is)
 
-          by : (s : Step) → coming ≡ s → window_after v.login h f start W ≡ on_step s (λ _. W) left
-          by step.NoWrite e = rw e
-          by (step.Fault i code) e = left_is
-          by step.Uncovered e = rw e
-          by (step.Take i k) e = left_is
+          by : (s : Result Step Untaken) → coming ≡ s → window_after v.login h f start W ≡ on_step s (λ _. W) left
+          by (Err untaken.NoWrite) e = rw e
+          by (Ok (step.Fault i code)) e = left_is
+          by (Err untaken.Uncovered) e = rw e
+          by (Ok (step.Take i k)) e = left_is
 
     -- arrived well: a frame in is the answer to its turn, and buffer and window are what that leaves
     module _ (k : Form) (e : arrived_in v h f ≡ Ok k) where
-      pub arrived_turn_lem : (room : ℕ) → short_buffer room ≡ false → answer_to d (arrived_turn v h f start len room) ≡ frame_in d f start W room
+      pub frame_turn_lem : (room : ℕ) → short_buffer room ≡ false → answer_to d (arrived_turn v h f start len room) ≡ frame_in d f start W room
       unfolding arrived_turn passed_turn
-      arrived_turn_lem room s =
+      frame_turn_lem room s =
           by_cond (λ t. answer_to d t ≡ cond (is_data h) (on_step coming (λ x. refused x d) result) result) (is_data h)
           (λ y. data_answer (arrived_fine k e) y room s ∙ sym (rw y))
           (λ n. sent_answer (arrived_fine k e) (decision_of v h f) (decided_in d f start len) (decided_is (arrived_fine k e) n) room s ∙ sym (rw n))
           ∙ sym (frame_came room s ∙ rw e)
 
-      pub arrived_turn_buffer : (l : List ℕ) → short_buffer (length l) ≡ false → arrived_buffer v h f start len l ≡ frame_in_buffer d f start W l
+      pub frame_turn_buffer : (l : List ℕ) → short_buffer (length l) ≡ false → arrived_buffer v h f start len l ≡ frame_in_buffer d f start W l
       unfolding arrived_buffer passed_buffer
-      arrived_turn_buffer l s =
+      frame_turn_buffer l s =
           by_cond (λ m. m ≡ cond (is_data h) (on_step coming (λ _. l) (written l)) (written l)) (is_data h)
           (λ y. data_buffer (arrived_fine k e) y l s ∙ sym (rw y))
           (λ n. sent_buffer (arrived_fine k e) (decision_of v h f) (decided_in d f start len) (decided_is (arrived_fine k e) n) l s ∙ sym (rw n))
           ∙ sym (buffer_came l s ∙ rw e)
 
-      pub arrived_turn_window : (room : ℕ) → short_buffer room ≡ false → arrived_window v h f start W ≡ frame_in_window d f start W room
+      pub frame_turn_window : (room : ℕ) → short_buffer room ≡ false → arrived_window v h f start W ≡ frame_in_window d f start W room
       unfolding arrived_window
-      arrived_turn_window room s =
+      frame_turn_window room s =
           by_cond (λ m. m ≡ cond (is_data h) (on_step coming (λ _. W) left) left) (is_data h)
           (λ y. data_window (arrived_fine k e) y ∙ sym (rw y))
           (λ n. other_window (arrived_fine k e) n ∙ sym (rw n))
           ∙ sym (window_came room s ∙ rw e)
-
-    -- the number that is told of it
-    abbrev number : ℕ
-    number = refusal_of v.fine (unproven_in v) v.own.address h f
-
-    -- it is 0 where it arrived well, else that of the refusal
-    number_cases : (P : ℕ → Type 0) → ((k : Form) → arrived_in v h f ≡ Ok k → P 0) → ((x : Refusal) → arrived_in v h f ≡ Err x → P (number_of x)) → P number
-    unfolding refusal_of arrived_in
-    number_cases P passes refuses = by (arrived_in v h f) refl
-      where
-        by : (j : Result Form Refusal) → arrived_in v h f ≡ j → P (on_judged j number_of (λ _. 0))
-        by (Err x) e = refuses x e
-        by (Ok k) e = passes k e
-
-    -- number 0: what follows where it arrived well
-    module _ (zero : number ≡ 0) where
-      as_arrived : {P : Type 0} → ((k : Form) → arrived_in v h f ≡ Ok k → P) → P
-      as_arrived {P} passes = number_cases (λ n. n ≡ 0 → P) (λ k e _. passes k e) (λ x _ z. let some = (numbers x).0 in absurd (omega (arith, some, z))) zero
-
-      pub arrived_formed : well_formed u p ≡ true
-      arrived_formed = as_arrived arrived_fine
-
-      -- a frame in is the answer to what it comes to, and so are buffer and window
-      pub frame_turn_lem : (room : ℕ) → short_buffer room ≡ false → answer_to d (arrived_turn v h f start len room) ≡ frame_in d f start W room
-      frame_turn_lem room s = as_arrived (λ k e. arrived_turn_lem k e room s)
-
-      pub frame_turn_buffer : (l : List ℕ) → short_buffer (length l) ≡ false → arrived_buffer v h f start len l ≡ frame_in_buffer d f start W l
-      frame_turn_buffer l s = as_arrived (λ k e. arrived_turn_buffer k e l s)
-
-      pub frame_turn_window : (room : ℕ) → short_buffer room ≡ false → arrived_window v h f start W ≡ frame_in_window d f start W room
-      frame_turn_window room s = as_arrived (λ k e. arrived_turn_window k e room s)
-
-    -- another number: a frame in is refused with it, the drive, the buffer and the window unchanged
-    pub record RefusedBy (n : ℕ) : Type 0 where
-      pub refusal : Refusal
-      pub number : number_of refusal ≡ n
-      pub answer : (room : ℕ) → short_buffer room ≡ false → frame_in d f start W room ≡ refused refusal d
-      pub buffer : (l : List ℕ) → short_buffer (length l) ≡ false → frame_in_buffer d f start W l ≡ l
-      pub window : (room : ℕ) → short_buffer room ≡ false → frame_in_window d f start W room ≡ W
-
-    pub frame_refused : (number ≡ 0 → ⊥) → RefusedBy number
-    frame_refused =
-        number_cases (λ n. (n ≡ 0 → ⊥) → RefusedBy n) (λ k e z. absurd (z refl))
-        (λ x e _.
-        record {
-          refusal = x;
-          number = refl;
-          answer = λ room s. frame_came room s ∙ rw e;
-          buffer = λ l s. buffer_came l s ∙ rw e;
-          window = λ room s. window_came room s ∙ rw e;
-        })
 
   -- a next frame out is the answer to its turn, and the buffer is what that leaves
   module _ (a x start : ℕ) (W : List ℕ) where

@@ -13,7 +13,7 @@ use Rattle.frame.specs.declared.Header.{Header}
 use Rattle.frame.specs.Head.{header_of}
 use Rattle.refusal.specs.declared.Refusal.{Refusal}
 use Rattle.refusal.specs.declared.Refusal.TheVariants.{ShortBuffer, IllFormed}
-use Rattle.refusal.specs.Refusal.{number_of, frame_order}
+use Rattle.refusal.specs.Refusal.{frame_order}
 use Rattle.reply.specs.Reply.{sent_of, written_of}
 use Rattle.calls.specs.declared.View.{View}
 use Rattle.calls.specs.declared.Decision.{Decision}
@@ -23,14 +23,14 @@ use Rattle.calls.specs.Turn.{refused_turn, sent_turn}
 use Rattle.serve.specs.Turn.{next_turn, next_turn_buffer}
 use Rattle.taking.specs.Taking.{is_data, no_write, uncovered, taking_turn, taking_buffer, taking_window}
 use Rattle.arrival.specs.declared.Form.{Form}
-use Rattle.arrival.specs.Arrival.{short_buffer, judged_by}
+use Rattle.arrival.specs.Arrival.{short_buffer}
 use Rattle.arrival.proofs.Passes.{Passes, passed, passes}
 use Rattle.drive.specs.declared.Drive.{Drive}
 use Rattle.drive.specs.declared.Answer.{Answer}
 use Rattle.drive.specs.Drive.{refused}
 use Rattle.drive.specs.Entry.{data_step, applies, decided_in, answered, frame_in, frame_in_buffer, frame_in_window, next_frame, next_frame_buffer}
-use Rattle.drive.specs.Turn.{arrived_in, refusal_of, decision_of, passed_turn, passed_buffer, arrived_turn, arrived_buffer, arrived_window, next_out_turn, next_out_buffer, answer_to}
-use Rattle.drive.proofs.Turns.{frame_came, buffer_came, window_came, arrived_turn_lem, arrived_turn_buffer, arrived_turn_window}
+use Rattle.drive.specs.Turn.{arrived_in, decision_of, passed_turn, passed_buffer, arrived_turn, arrived_buffer, arrived_window, next_out_turn, next_out_buffer, answer_to}
+use Rattle.drive.proofs.Turns.{frame_came, buffer_came, window_came, frame_turn_lem, frame_turn_buffer, frame_turn_window}
 
 -- no number applies to a frame in: what arrived passes, and a data frame is for an open WRITE, with a window that covers it or a fault
 pub record PassesIn (d : Drive) (f : List ℕ) (start len room : ℕ) : Type 0 where
@@ -117,19 +117,9 @@ module _ (d : Drive) (f : List ℕ) (start : ℕ) (W l : List ℕ) where
     pub says_arrived : (k : Form) (t : Turn) (l₁ W₁ : List ℕ) (r : Answer) → j ≡ Ok k → t ≡ arrived_turn v h f start (length W) (length l) → l₁ ≡ arrived_buffer v h f start (length W) l
         → W₁ ≡ arrived_window v h f start W → r ≡ answer_to d t → Says r l₁ W₁
     says_arrived k t l₁ W₁ r e et el ew er = (
-      er ∙ ap (answer_to d) (rw (view_as, eh) at et) ∙ arrived_turn_lem d f start W k (judged_as e) (length l) roomy,
-      ((rw (view_as, eh) at el) ∙ arrived_turn_buffer d f start W k (judged_as e) l roomy, (rw (view_as, eh) at ew) ∙ arrived_turn_window d f start W k (judged_as e) (length l) roomy),
+      er ∙ ap (answer_to d) (rw (view_as, eh) at et) ∙ frame_turn_lem d f start W k (judged_as e) (length l) roomy,
+      ((rw (view_as, eh) at el) ∙ frame_turn_buffer d f start W k (judged_as e) l roomy, (rw (view_as, eh) at ew) ∙ frame_turn_window d f start W k (judged_as e) (length l) roomy),
     )
-
--- what `refusal_number` answers
-module _ (fine unproven : Bool) (own : ℕ) (h : Header) (f : List ℕ) where
-  pub number_refused : (j : Result Form Refusal) (x : Refusal) (n : ℕ) → j ≡ judged_by fine unproven own h f → j ≡ Err x → n ≡ number_of x → n ≡ refusal_of fine unproven own h f
-  unfolding refusal_of
-  number_refused j x n ej e en = rw (sym ej ∙ e) en
-
-  pub number_passed : (j : Result Form Refusal) (k : Form) → j ≡ judged_by fine unproven own h f → j ≡ Ok k → 0 ≡ refusal_of fine unproven own h f
-  unfolding refusal_of
-  number_passed j k ej e = rw (sym ej ∙ e)
 
 module _ (v : View) (h : Header) (f : List ℕ) where
   -- what `passed_turn` answers

@@ -1,5 +1,5 @@
 -- A frame in and a next frame out: the definitions of record (document 01, "Numbers returned for refused calls"; document 02, request 2).
-use Rattle.std.specs.Prelude.{ℕ, Bool, cond, not, ◌||◌, List, [], length, Ok}
+use Rattle.std.specs.Prelude.{ℕ, Bool, cond, not, ◌||◌, List, [], length, Ok, Result}
 use Rattle.tables.specs.Firsts.{first_of}
 use Rattle.wire.specs.Bytes.{onto}
 use Rattle.frame.specs.declared.Header.{Header}
@@ -19,6 +19,7 @@ use Rattle.link.specs.Link.{link_of, abts_of}
 use Rattle.command.specs.Command.{command_of}
 use Rattle.serve.specs.Next.{Next, next_of, next_buffer}
 use Rattle.taking.specs.declared.Step.{Step}
+use Rattle.taking.specs.declared.Untaken.{Untaken}
 use Rattle.taking.specs.Taking.{step_in, applies_data, data_decided, window_after}
 use Rattle.arrival.specs.declared.Form.{Form}
 use Rattle.arrival.specs.declared.Form.TheVariants.{Link, Done, Abort, Command, Data}
@@ -48,7 +49,7 @@ abbrev pub answered : Drive → Header → Decided → Answer
 answered d h r = record { said = Ok (length (reply_bytes d h r)); drive = record { unit = d.unit; port = r.port } }
 
 -- what the frame comes to if it is a data frame
-abbrev pub data_step : Drive → List ℕ → ℕ → ℕ → Step
+abbrev pub data_step : Drive → List ℕ → ℕ → ℕ → Result Step Untaken
 data_step d f start len = step_in (login_of d.port (header_of f).s_id) (header_of f) (length f) start len
 
 -- "When", of each number, for the frame f with a window of len bytes from block start on and a buffer of so many bytes: 1 to 7 by what arrived, 11 and 10 by what a data frame comes to

@@ -4,7 +4,6 @@ use Rattle.tables.specs.Lists.{on_found}
 use Rattle.frame.specs.declared.Header.{Header}
 use Rattle.refusal.specs.declared.Refusal.{Refusal}
 use Rattle.refusal.specs.declared.Refusal.TheVariants.{IllFormed}
-use Rattle.refusal.specs.Refusal.{number_of}
 use Rattle.reply.specs.declared.Reply.TheVariants as reply
 use Rattle.reply.specs.Reply.{sent_of, written_of}
 use Rattle.calls.specs.declared.View.{View}
@@ -35,10 +34,6 @@ arrived_in v h f = judged_by v.fine (unproven_in v) v.own.address h f
 abbrev pub on_judged : {A : Type 0} → Result Form Refusal → (Refusal → A) → (Form → A) → A
 on_judged (Err x) g k = g x
 on_judged (Ok t) g k = k t
-
--- the number of the refusal, or 0 where the frame arrived well
-unfoldable pub refusal_of : Bool → Bool → ℕ → Header → List ℕ → ℕ
-refusal_of fine unproven own h f = on_judged (judged_by fine unproven own h f) number_of (λ _. 0)
 
 -- the reply to a frame of a form, and what changes; by the forms of `decided_of`, but for a data frame, which has a turn of its own
 abbrev pub decision_as : View → Header → Form → List ℕ → Decision

@@ -4,7 +4,7 @@
 ghost use Rattle.std.specs.Prelude.{◌≡◌, length};
 ghost use Rattle.drive.specs.Drive.{refused, made_from, no_drive, new_answer, change_of, event_answer};
 ghost use Rattle.drive.specs.Entry.{frame_in, frame_in_buffer, frame_in_window};
-ghost use Rattle.drive.specs.Turn.{unproven_at, arrived_in, refusal_of, decision_of, passed_turn, passed_buffer, arrived_turn, arrived_buffer, arrived_window, next_out_turn, next_out_buffer, answer_to};
+ghost use Rattle.drive.specs.Turn.{unproven_at, arrived_in, decision_of, passed_turn, passed_buffer, arrived_turn, arrived_buffer, arrived_window, next_out_turn, next_out_buffer, answer_to};
 
 use arrival::{Form, form_of, judge};
 use calls::{
@@ -21,7 +21,8 @@ use state::{Change, Port, Setup, Unit, change_all, empty_login};
 use taking::data_turn;
 
 // The R_CTL of a data frame.
-const DATA: u8 = 0x01;
+// kept: a name here beside arrival's, and below beside frame's, since the edits data_as_other and frame_room_2135 change these
+const DATA: u8 = Form::DATA;
 
 // The bytes of a reply buffer at least.
 const LEAST_ROOM: usize = Header::MOST_FRAME;
@@ -56,7 +57,7 @@ impl Drive {
         if setup_rules(setup) {
             Answer {
                 said: Ok(0),
-                drive: made_from(setup),
+                drive: Drive::from(setup),
             }
         } else {
             no_drive().refuse(Refusal::BadSetup)
@@ -74,12 +75,9 @@ impl Drive {
         if reply.len() < LEAST_ROOM {
             return self.refuse(Refusal::ShortBuffer);
         }
-        let u = self.unit;
-        let p = self.port;
         let h = read_header(frame);
-        let v = look(u, p, h.s_id);
-        let j = arrived(v, h, frame);
-        match j {
+        let v = look(self.unit, &self.port, h.s_id);
+        match arrived(v, h, frame) {
             Err(x) => self.refuse(x),
             Ok(_) => self.after(arrived_turn(v, h, frame, start, window, reply)),
         }
@@ -89,15 +87,13 @@ impl Drive {
     pub fn event(self, e: Event) -> Answer
         ensures { result ≡ event_answer self e }
     {
-        let u = self.unit;
-        let p = self.port;
-        let s = sight_of(u, p);
-        if s.fine {
-            let q = change_all(p, change_of(e));
-            let d = Drive { unit: u, port: q };
+        if sight_of(self.unit, &self.port).fine {
             Answer {
                 said: Ok(0),
-                drive: d,
+                drive: Drive {
+                    port: change_all(self.port, change_of(e)),
+                    ..self
+                },
             }
         } else {
             self.refuse(Refusal::IllFormed)
@@ -108,13 +104,12 @@ impl Drive {
     pub fn after(self, t: Turn) -> Answer
         ensures { result ≡ answer_to self t }
     {
-        let u = self.unit;
-        let p = self.port;
-        let s = t.said;
-        let q = port_after(p, t);
         Answer {
-            said: s,
-            drive: Drive { unit: u, port: q },
+            said: t.said,
+            drive: Drive {
+                port: port_after(self.port, t),
+                ..self
+            },
         }
     }
 
@@ -129,42 +124,23 @@ impl Drive {
     }
 }
 
-// The number of the refusal, 2 to 7, of a frame in with header h to a drive of this address, or 0 where it arrived well.
-// Whether the state is well formed and whether the sender's login is unproven is the caller's to tell.
-#[tactic(auto, using(crate::proofs::Ways::number_refused, crate::proofs::Ways::number_passed))]
-pub fn refusal_number(fine: bool, unproven: bool, own: u32, h: Header, frame: &[u8]) -> u64
-    ensures { result ≡ refusal_of fine unproven own h frame.now }
-{
-    let j = judge(fine, unproven, own, h, frame);
-    match j {
-        Err(x) => x.number() as u64,
-        Ok(_) => 0,
-    }
-}
-
 // What a frame in that arrived well comes to, seen by its sender, if it is no data frame. A buffer under 2,136 bytes is left alone.
 #[tactic(auto, using(crate::proofs::Ways::turn_passed))]
 pub fn passed_turn(v: View, h: Header, frame: &[u8], reply: &mut [u8]) -> Turn
     ensures value { result ≡ passed_turn v h frame.now (length reply.old) }
     ensures reply_after { reply.new ≡ passed_buffer v h frame.now reply.old }
 {
-    let o = v.own;
     let d = decide(v, h, frame);
-    let r = d.reply;
-    let none = [0u8; 0];
-    let n = write(o, h, r, &none, reply);
-    send_turn(n, d)
+    send_turn(write(v.own, h, d.reply, &[], reply), d)
 }
 
 // Whether a login stands at a seat, and its flag says that it is unproven.
+// kept: proven is the stored flag of the C interface, and the contract speaks of any number
 #[tactic(auto, unfolding(crate::specs::Turn::unproven_at))]
 pub fn unproven_at(seat: Option<usize>, proven: u8) -> bool
     ensures { result ≡ unproven_at seat proven }
 {
-    let Some(_) = seat else {
-        return false;
-    };
-    proven != 1
+    seat.is_some() && proven != 1
 }
 
 // What the next frame out of the exchange of an address and an OX_ID comes to, seen by the port at that address: refused by the first of 2, 9, 7, 10 that fits.
@@ -203,14 +179,13 @@ pub fn change_of(e: Event) -> Change
 pub fn no_drive() -> Drive
     ensures { result ≡ no_drive }
 {
-    let s = Setup {
+    Drive::from(Setup {
         capacity: 0,
         address: 0,
         identity: [0; 28],
         accept: [0; 112],
         writable: 0,
-    };
-    made_from(s)
+    })
 }
 
 // A frame in, refused by the first of 2 to 7 that fits it, or passed.
@@ -218,11 +193,8 @@ pub fn no_drive() -> Drive
 fn arrived(v: View, h: Header, frame: &[u8]) -> Result<Form, Refusal>
     ensures { result ≡ arrived_in v h frame.now }
 {
-    let o = v.own;
-    let l = v.login;
-    let seat = v.seat;
-    let unproven = unproven_at(seat, l.proven);
-    judge(v.fine, unproven, o.address, h, frame)
+    let unproven = unproven_at(v.seat, v.login.proven);
+    judge(v.fine, unproven, v.own.address, h, frame)
 }
 
 // What a frame in that arrived well comes to, seen by its sender, with a window that starts at a block.
@@ -247,12 +219,12 @@ fn arrived_turn(
 }
 
 // What a frame that arrived well is answered, and what changes; a data frame has a turn of its own.
+// kept: a match picks the step, since each arm hands on other values
 #[tactic(auto, unfolding(crate::specs::Turn::decision_of))]
 fn decide(v: View, h: Header, frame: &[u8]) -> Decision
     ensures { result ≡ decision_of v h frame.now }
 {
-    let k = form_of(h.r_ctl);
-    match k {
+    match form_of(h.r_ctl) {
         Form::Link => link(v, h, frame),
         Form::Done => answer_only(Reply::Nothing),
         Form::Abort => abts(v, h),
@@ -261,23 +233,26 @@ fn decide(v: View, h: Header, frame: &[u8]) -> Decision
     }
 }
 
-#[tactic(auto, unfolding(crate::specs::Drive::made_from))]
-fn made_from(s: Setup) -> Drive
-    ensures { result ≡ made_from s }
-{
-    let identity = s.identity;
-    let accept = s.accept;
-    let l = empty_login();
-    let logins = [l; 8];
-    let u = Unit {
-        capacity: s.capacity,
-        identity: identity,
-        writable: s.writable,
-    };
-    let p = Port {
-        address: s.address,
-        accept: accept,
-        logins: logins,
-    };
-    Drive { unit: u, port: p }
+// A drive with no logins, of a setup whose rules are the caller's to test.
+impl From<Setup> for Drive {
+    ghost from_gives = { λ s d. d ≡ made_from s };
+
+    #[tactic(auto, unfolding(crate::specs::Drive::made_from))]
+    fn from(s: Setup) -> Drive {
+        let identity = s.identity;
+        let accept = s.accept;
+        let l = empty_login();
+        Drive {
+            unit: Unit {
+                capacity: s.capacity,
+                identity,
+                writable: s.writable,
+            },
+            port: Port {
+                address: s.address,
+                accept,
+                logins: [l; 8],
+            },
+        }
+    }
 }

@@ -1,14 +1,14 @@
 -- The next data frame of an exchange that fits leaves one that fits, and its count is the number of the frames sent, modulo 65,536; what fits by one quotient.
 -- Assumes nothing.
 use mathlib.Core.Path.{◌≡◌, sym, ap, ◌∙◌}
-use mathlib.Core.Bool.{Bool, true, false, cond, ◌&&◌, ◌||◌, or-true, or-false}
-use Prim.Native.Nat.{ℕ, ◌+◌, ◌-◌, ◌*◌, ◌/◌, ◌%◌, ◌≤◌, ◌<◌}
-use native.Mathlib.Nat.{div-add-mod', mod-lt, mod-eq_of_lt, add-mul, one-mul, le-mul_of_pos_right}
+use mathlib.Core.Bool.{Bool, true, false, cond, ◌&&◌, ◌||◌, or-false}
+use Prim.Native.Nat.{ℕ, ◌+◌, ◌-◌, ◌*◌, ◌/◌, ◌%◌, min, ◌≤◌, ◌<◌}
+use native.Mathlib.Nat.{div-add-mod', mod-lt, mod-eq_of_lt, add-mul, one-mul}
 use native.Mathlib.Decide.{dec_le, ℕ_discrete}
 use native.Mathlib.Omega.{arith}
 use lib.Arith.{digits_div, digits_mod}
 use lib.Dec.{eqb, leb, ltb}
-use borrow.Author.Tests.{le-leb, lt-leb, leb-true, eqb-true, eq-eqb, ne_eqb}
+use borrow.Author.Tests.{le-leb, lt-leb, leb-true, eqb-true, eq-eqb}
 use Rattle.tables.proofs.Bools.{and_left, and_right, or_short}
 use Rattle.state.specs.declared.Exchange.{Exchange}
 use Rattle.state.specs.declared.Unit.{Unit}
@@ -32,43 +32,18 @@ frames_more q full n h l =
     let e : q * full + n + (full - 1) ≡ (q + 1) * full + (n - 1) = let d = one_more q full in omega arith in
     ap (λ (m : ℕ). m / full) e ∙ digits_div (q + 1) {m = full} {r = n - 1} (omega arith)
 
--- what fits, tested with one quotient, all being the bytes to send: where full frames make up what was sent, and where bytes are left past them
-module _ (full : ℕ) (e : Exchange) {all : ℕ} (t : all ≡ total e) (pos : 0 < full) (within : e.sent ≤ all) where
-  pub sent_whole : e.sent / full * full ≡ e.sent → sent_fits full e ≡ eqb e.count (e.sent / full % 65536)
-  unfolding sent_fits
-  sent_whole w =
-      let m : e.sent % full ≡ 0 = let d = div-add-mod' e.sent full in omega arith in
-      let f : frames_of e.sent full ≡ e.sent / full = ap (λ (s : ℕ). frames_of s full) (sym w) ∙ frames_at (e.sent / full) full pos in
-      rw (sym t, le-leb e.sent all within, eq-eqb (e.sent % full) 0 m, or-true (leb all e.sent), f)
-
-  module _ (part : e.sent / full * full ≡ e.sent → ⊥) where
-    left_over : 0 < e.sent % full
-    left_over = elim (ℕ_discrete (e.sent % full) 0) [
-      | yes h ↦ absurd (part (let d = div-add-mod' e.sent full in omega arith))
-      | no h ↦ omega arith
+-- the frames are the quotient, rounded up
+pub frames_ceil : (n full : ℕ) → 0 < full → frames_of n full ≡ n / full + min 1 (n % full)
+frames_ceil n full h =
+    let d = div-add-mod' n full in
+    let m = mod-lt n h in
+    elim (ℕ_discrete (n % full) 0) [
+      | yes z ↦ (let w : n / full * full ≡ n = omega arith in
+          let e : n / full ≡ n / full + min 1 (n % full) = omega arith in
+          ap (λ (s : ℕ). frames_of s full) (sym w) ∙ frames_at (n / full) full h ∙ e)
+      | no z ↦ (let e : n / full + 1 ≡ n / full + min 1 (n % full) = omega arith in
+          ap (λ (s : ℕ). frames_of s full) (sym d) ∙ frames_more (n / full) full (n % full) (omega arith) (omega arith) ∙ e)
     ]
-
-    -- the frames, with the one that is not full, are no more than the bytes
-    pub frames_few : e.sent / full + 1 ≤ e.sent
-    frames_few =
-        let d = div-add-mod' e.sent full in
-        let q = le-mul_of_pos_right (e.sent / full) pos in
-        let l = left_over in
-        omega arith
-
-    -- short of the total no bytes are left past full frames
-    pub sent_short : e.sent < all → sent_fits full e ≡ false
-    unfolding sent_fits
-    sent_short s = rw (sym t, le-leb e.sent all within, lt-leb all e.sent s, ne_eqb (e.sent % full) 0 (λ h. let l = left_over in omega arith))
-
-    -- all was sent, in one frame more
-    pub sent_all : all ≤ e.sent → sent_fits full e ≡ eqb e.count ((e.sent / full + 1) % 65536)
-    unfolding sent_fits
-    sent_all s =
-        let f : frames_of e.sent full ≡ e.sent / full + 1 =
-        ap (λ (n : ℕ). frames_of n full) (sym (div-add-mod' e.sent full))
-        ∙ frames_more (e.sent / full) full (e.sent % full) left_over (let l = mod-lt e.sent pos in omega arith) in
-        rw (sym t, le-leb e.sent all within, le-leb all e.sent s, f)
 
 module _ (full : ℕ) (e : Exchange) (fits : sent_fits full e ≡ true) where
   -- the count is the number of the data frames sent, modulo 65,536

@@ -1,13 +1,13 @@
 -- A table's test by the numbers or the keys of its places is the test of each place and of each two. Assumes nothing.
-use Prim.Native.Nat.{ℕ, ◌+◌, ◌≤◌, ◌<◌}
+use Prim.Native.Nat.{ℕ, ◌+◌}
 use mathlib.Core.Path.{◌≡◌, refl, sym, ap, ◌∙◌}
 use mathlib.Core.List.{List, [], ◌∷◌, map}
-use mathlib.Core.Bool.{Bool, true, false, cond, not, ◌&&◌, ◌||◌}
+use mathlib.Core.Bool.{Bool, true, false, cond, not, ◌&&◌, ◌||◌, and-false}
 use native.Mathlib.Decide.{ℕ_discrete}
 use native.Mathlib.Omega.{arith}
 use lib.Dec.{eqb}
 use borrow.Author.Tests.{eq-eqb, ne_eqb, not-true, not-false}
-use Rattle.tables.specs.Lists.{every, all, pairs}
+use Rattle.tables.specs.Lists.{all, pairs}
 use Rattle.tables.proofs.Bools.{and_left, and_right}
 use Rattle.tables.proofs.Keeping.{all_always}
 use Rattle.wire.specs.Bytes.{name_of}
@@ -20,7 +20,7 @@ use Rattle.state.specs.Changes.{is_used, is_closed, has_name, own_of}
 use Rattle.state.specs.Tables.{is_free}
 use Rattle.formed.specs.declared.Key.{Key}
 use Rattle.formed.specs.Formed.{setup_rules, setup_of, full_frame, exchange_fine, apart_id, params_fine, login_fine, apart_login, well_formed}
-use Rattle.formed.specs.Keys.{number_of, key_of, place_fine, apart_number, number_fine, numbers_fine, key_named, apart_key, key_fine, keys_fine, exchange_number, login_key, keys_of, fine_by}
+use Rattle.formed.specs.Keys.{number_of, key_of, place_fine, places_fine, apart_number, numbers_fine, key_named, apart_key, keys_fine, exchange_number, login_key, keys_of, fine_by}
 use Rattle.formed.proofs.Parts.{fine_used}
 
 -- what reading past the end of a list of keys gives
@@ -50,20 +50,6 @@ free_unnamed m =
       | no h ↦ rw (ne_eqb m 0 h, ne_eqb 0 m (λ e. h (sym e)))
     ]
 
--- a number below 2 is that of a place without a name
-pub key_unnamed : (fine free : Bool) (n name : ℕ) {r : ℕ} → r ≡ number_of fine free n → r < 2 → record { id = r; name = 0 } ≡ key_of fine free n name
-unfolding key_of
-key_unnamed true true n name e h = rw e
-key_unnamed true false n name e h = absurd (omega arith)
-key_unnamed false free n name e h = rw e
-
--- and every other has its name
-pub key_with_name : (fine free : Bool) (n name : ℕ) {r : ℕ} → r ≡ number_of fine free n → 2 ≤ r → record { id = r; name = name } ≡ key_of fine free n name
-unfolding key_of
-key_with_name true true n name e h = absurd (omega arith)
-key_with_name true false n name e h = rw e
-key_with_name false free n name e h = absurd (omega arith)
-
 -- the number of a place in use, and that of one that is fine behind it: free, or another
 number_apart : (g : Bool) (a b : ℕ) → apart_number (number_of true false a) (number_of true g b) ≡ (g || not (eqb a b))
 number_apart true a b = rw (used_free a)
@@ -75,10 +61,6 @@ unfolding key_of apart_key
 key_apart true a b m n h = rw (used_free a, h)
 key_apart false a b m n h = rw (two_more a b)
 
-and-false : (a : Bool) → (a && false) ≡ false
-and-false true = refl
-and-false false = refl
-
 -- places known by keys that have the numbers of the places, where two places that are fine, the first in use, are apart exactly when their keys are, and a free one is apart from all
 module _ {A K : Type 0} (fine free : A → Bool) (id : A → ℕ) (apart : A → A → Bool) (key : A → K) (number : K → ℕ) (apart_keys : K → K → Bool)
     (numbered : (x : A) → number (key x) ≡ number_of (fine x) (free x) (id x))
@@ -88,7 +70,7 @@ module _ {A K : Type 0} (fine free : A → Bool) (id : A → ℕ) (apart : A →
   fine_by_key x xs = place_fine number apart_keys (key x) (map key xs)
 
   abbrev fine_by_keys : List A → Bool
-  fine_by_keys xs = every (place_fine number apart_keys) (map key xs)
+  fine_by_keys xs = places_fine number apart_keys (map key xs)
 
   -- a place that is fine and in use, before places that are fine
   key_before : (x : A) → fine x ≡ true → free x ≡ false → (xs : List A) → all fine xs ≡ true → all (apart_keys (key x)) (map key xs) ≡ all (apart x) xs
@@ -120,7 +102,7 @@ module _ {A K : Type 0} (fine free : A → Bool) (id : A → ℕ) (apart : A →
 -- what the numbers of a login's exchanges say, where full is the bytes of a full frame to it
 pub exchanges_are : (u : Unit) (full : ℕ) (l : Login) {ns : List ℕ} {r : Bool} → full ≡ full_frame l.size → ns ≡ map (exchange_number u full l.paired) l.places
     → r ≡ numbers_fine ns → r ≡ (all (exchange_fine u (full_frame l.size) l.paired) l.places && pairs apart_id l.places)
-unfolding exchange_number number_fine apart_id
+unfolding exchange_number apart_id
 exchanges_are u full l f k e =
     e ∙ ap numbers_fine (k ∙ ap (λ (n : ℕ). map (exchange_number u n l.paired) l.places) f)
     ∙ keys_are (exchange_fine u (full_frame l.size) l.paired) is_closed (λ x. x.ox_id) apart_id (exchange_number u (full_frame l.size) l.paired) (λ n. n) apart_number
@@ -140,7 +122,7 @@ fine_named u own l used fine =
 -- what the keys of a port's logins say
 pub logins_are : (u : Unit) (own : ℕ) (ls : List Login) {ks : List Key} {r : Bool} → ks ≡ map (login_key u own) ls
     → r ≡ keys_fine ks → r ≡ (all (login_fine u own) ls && pairs apart_login ls)
-unfolding login_key key_of key_fine apart_login
+unfolding login_key key_of apart_login
 logins_are u own ls k e =
     e ∙ ap keys_fine k
     ∙ keys_are (login_fine u own) is_free (λ l. l.address) apart_login (login_key u own) (λ n. n.id) apart_key (λ l. refl)

@@ -24,17 +24,17 @@ key_of fine free n name = record { id = number_of fine free n; name = cond fine 
 abbrev pub place_fine : {K : Type 0} → (K → ℕ) → (K → K → Bool) → K → List K → Bool
 place_fine number apart k rest = not (eqb (number k) 0) && (eqb (number k) 1 || all (apart k) rest)
 
+-- each place of a table is so
+abbrev pub places_fine : {K : Type 0} → (K → ℕ) → (K → K → Bool) → List K → Bool
+places_fine number apart ks = every (place_fine number apart) ks
+
 -- a number is another than the number m
 abbrev pub apart_number : ℕ → ℕ → Bool
 apart_number n m = not (eqb n m)
 
--- a number of a place that is fine, and free or apart from those that stand behind it
-unfoldable pub number_fine : ℕ → List ℕ → Bool
-number_fine n rest = place_fine (λ m. m) apart_number n rest
-
 -- each place of a table is fine by its number, and no two in use have the same
 abbrev pub numbers_fine : List ℕ → Bool
-numbers_fine ns = every number_fine ns
+numbers_fine ns = places_fine (λ n. n) apart_number ns
 
 -- a key has this name, and 0 is the number of none
 unfoldable pub key_named : ℕ → Key → Bool
@@ -44,12 +44,9 @@ key_named n k = not (eqb n 0) && eqb k.name n
 unfoldable pub apart_key : Key → Key → Bool
 apart_key k n = not (eqb k.id n.id) && not (eqb k.name n.name)
 
--- a key of a place that is fine, and free or apart from those that stand behind it
-unfoldable pub key_fine : Key → List Key → Bool
-key_fine k rest = place_fine (λ n. n.id) apart_key k rest
-
+-- each place of a table is fine by its key, and no two in use have the same number or the same name
 abbrev pub keys_fine : List Key → Bool
-keys_fine ks = every key_fine ks
+keys_fine ks = places_fine (λ k. k.id) apart_key ks
 
 -- an exchange is known by its OX_ID alone
 unfoldable pub exchange_number : Unit → ℕ → ℕ → Exchange → ℕ

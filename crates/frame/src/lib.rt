@@ -5,9 +5,10 @@ ghost use Rattle.std.specs.Prelude.{◌≡◌};
 ghost use Rattle.wire.specs.Bytes.{onto};
 ghost use Rattle.frame.specs.Head.{header_of, header_bytes};
 
-use wire::{be16, be24, be32, byte_at, bytes2, bytes3, bytes4, put_front};
+use wire::{BigEndian, be24, bytes3, part, put_front};
 
 // The fields of a header in their order. The three fields of 24 bits stand in 32; protocol is TYPE.
+// kept: r_ctl and protocol are numbers, since any byte may stand in a header; arrival's form_of makes an enum of those that pass
 #[derive(Clone, Copy)]
 pub struct Header {
     pub r_ctl: u8,
@@ -34,36 +35,41 @@ impl Header {
 }
 
 // The header of any frame; a frame of fewer than 24 bytes reads as if zeros followed it.
+// kept: a function and no From, since a frame may be shorter than its header
+#[tactic(auto, unfolding(crate::specs::Head::header_of))]
 pub fn read_header(frame: &[u8]) -> Header
     ensures { result ≡ header_of frame.now }
 {
+    let b = part::<24>(frame, 0);
     Header {
-        r_ctl: byte_at(frame, 0),
-        d_id: be24(frame, 1),
-        reserved: byte_at(frame, 4),
-        s_id: be24(frame, 5),
-        protocol: byte_at(frame, 8),
-        f_ctl: be24(frame, 9),
-        seq_id: byte_at(frame, 12),
-        df_ctl: byte_at(frame, 13),
-        seq_cnt: be16(frame, 14),
-        ox_id: be16(frame, 16),
-        rx_id: be16(frame, 18),
-        offset: be32(frame, 20),
+        r_ctl: b[0],
+        d_id: be24(&b, 1),
+        reserved: b[4],
+        s_id: be24(&b, 5),
+        protocol: b[8],
+        f_ctl: be24(&b, 9),
+        seq_id: b[12],
+        df_ctl: b[13],
+        seq_cnt: u16::read(&b, 14),
+        ox_id: u16::read(&b, 16),
+        rx_id: u16::read(&b, 18),
+        offset: u32::read(&b, 20),
     }
 }
 
 // The 24 bytes of a header; of a 24-bit field the low three bytes.
+// kept: its bytes listed one by one stand in the frame's order; twelve copies into ranges would say each field's place by numbers, and are no plainer.
+#[tactic(auto, unfolding(crate::specs::Head::header_bytes))]
 fn header_bytes(h: Header) -> [u8; 24]
     ensures { result ≡ header_bytes h }
 {
     let d = bytes3(h.d_id);
     let s = bytes3(h.s_id);
     let f = bytes3(h.f_ctl);
-    let n = bytes2(h.seq_cnt);
-    let o = bytes2(h.ox_id);
-    let r = bytes2(h.rx_id);
-    let p = bytes4(h.offset);
+    let n = h.seq_cnt.bytes();
+    let o = h.ox_id.bytes();
+    let r = h.rx_id.bytes();
+    let p = h.offset.bytes();
     [
         h.r_ctl, d[0], d[1], d[2], h.reserved, s[0], s[1], s[2], h.protocol, f[0], f[1], f[2],
         h.seq_id, h.df_ctl, n[0], n[1], o[0], o[1], r[0], r[1], p[0], p[1], p[2], p[3],

@@ -4,42 +4,20 @@
 
 use judging::{judge, line_for};
 use records::fill;
-use saying::{End, end_line};
+use saying::{End, say_end};
 use std::io::{Read, Write};
 
-// Judges the next record, and answers whether there may be another.
-fn judge_next(
-    input: &mut impl Read,
-    output: &mut impl Write,
-    errors: &mut impl Write,
-    number: u64,
-) -> bool {
+// Judges the next record. After one that the end of the input cuts the input is over.
+fn judge_next(input: &mut impl Read, output: &mut impl Write, number: u64) -> Result<(), End> {
     let mut login = [0u8; 116];
-    let f = fill(input, &mut login);
-    let n = f.len;
-    if f.failed {
-        return stop(errors, number, End::Unread);
-    }
+    let n = fill(input, &mut login)?;
     if n == 0 {
-        return false;
+        return Err(End::Over);
     }
-    let line = line_for(number, judge(&login[..n]));
-    let bytes = line.bytes;
-    let len = line.len;
-    if output.write_all(&bytes[..len]).is_ok() {
-        f.whole
-    } else {
-        stop(errors, number, End::Unwritten)
-    }
-}
-
-// Says why it ends, and that there is no other record.
-fn stop(errors: &mut impl Write, number: u64, end: End) -> bool {
-    let line = end_line(b"judges", number, end);
-    let bytes = line.bytes;
-    let len = line.len;
-    let _ = errors.write_all(&bytes[..len]);
-    false
+    output
+        .write_all(&line_for(number, judge(&login[..n])))
+        .map_err(|_| End::Unwritten)?;
+    if n < 116 { Err(End::Over) } else { Ok(()) }
 }
 
 // A proved loop has to end and the input need not, so the records are counted up to a number that no run reaches.
@@ -47,10 +25,9 @@ fn main(rt: HostRuntime) {
     let mut input = rt.stdin();
     let mut output = rt.stdout();
     let mut errors = rt.stderr();
-    let mut number: u64 = 0;
-    while number < u64::MAX {
-        number += 1;
-        if !judge_next(&mut input, &mut output, &mut errors, number) {
+    for number in 1..=u64::MAX {
+        if let Err(end) = judge_next(&mut input, &mut output, number) {
+            let _ = say_end(&mut errors, b"judges", number, end);
             return;
         }
     }

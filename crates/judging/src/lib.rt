@@ -1,17 +1,16 @@
 // What the program judges says of a login record: the judgement, and its line of text.
 #![tactic(auto)]
 
-ghost use Rattle.std.specs.Prelude.{◌≡◌, ◌≤◌, ◌<◌, length};
+ghost use Rattle.std.specs.Prelude.{◌≡◌, ◌≤◌, ◌<◌, [], length};
 ghost use Rattle.params.specs.Words.{reason_of};
-ghost use Rattle.wire.specs.Bytes.{Wrote};
-ghost use Rattle.saying.specs.Text.{LineIs};
 ghost use Rattle.judging.specs.Judgement.{judgement_of, line_of};
-ghost use Rattle.judging.specs.Text.{text_of, hex_digit, accept_text, reject_text, not_plogi_text, short_text};
+ghost use Rattle.judging.specs.Text.{text_of, hex_digit, reject_text, short_text};
 
-use params::{Fault, Params};
-use saying::{Line, put_decimal};
-use wire::{byte_at, put_front};
+use params::{Fault, Params, Reason};
+use saying::{Line, push_decimal, put};
+use wire::byte_at;
 
+// kept: an enum and no Result, since each of the four is a line that is said, and no function goes on by one of them alone
 #[derive(Clone, Copy)]
 pub enum Judgement {
     Accept,
@@ -29,64 +28,52 @@ pub fn judge(login: &[u8]) -> Judgement
     if n < 116 {
         return Judgement::Short(n);
     }
+    // kept: the code of PLOGI as document 01 writes it, since no other service is told apart here
     if byte_at(login, 0) != 0x03 {
         return Judgement::NotPlogi;
     }
-    let v = Params::read(login, 4).verdict();
-    match v {
+    match Params::read(login, 4).verdict() {
         Ok(()) => Judgement::Accept,
         Err(f) => Judgement::Reject(f),
     }
 }
 
 // The line for a record: its number, and what is said of it.
+#[tactic(auto, unfolding(crate::specs::Judgement::line_of))]
 pub fn line_for(number: u64, j: Judgement) -> Line
-    ensures { LineIs (line_of number j) result }
+    ensures { result.items ≡ line_of number j }
 {
-    let mut bytes = [0u8; 96];
-    let n = put_decimal(number, &mut bytes);
-    let m = put_text(j, &mut bytes[n..]);
-    Line {
-        bytes: bytes,
-        len: n + m,
-    }
+    let mut line = Line::new();
+    push_decimal(&mut line, number);
+    put(&mut line, &text_of(j));
+    line
 }
 
-// What is said of a judgement, at the front of out; answers how many bytes that is.
-fn put_text(j: Judgement, out: &mut [u8]) -> usize
-    requires { 28 ≤ length out.old }
-    ensures { Wrote (text_of j) out.old out.new result 28 }
+// What is said of a judgement.
+// kept: put together by hand and not by Display, for the reason at hex_digit
+fn text_of(j: Judgement) -> Line
+    ensures text { result.items ≡ text_of j }
+    ensures short { length result.items ≤ 28 }
 {
+    let mut text = Line::new();
     match j {
-        Judgement::Accept => put_accept(out),
-        Judgement::Reject(f) => put_reject(f, out),
-        Judgement::NotPlogi => put_not_plogi(out),
-        Judgement::Short(n) => put_short(n, out),
+        Judgement::Accept => put(&mut text, b" ACC\n"),
+        Judgement::Reject(f) => put(&mut text, &reject_text(f)),
+        Judgement::NotPlogi => put(&mut text, b" NOT PLOGI\n"),
+        Judgement::Short(n) => put_short(&mut text, n),
     }
+    text
 }
 
-fn put_accept(out: &mut [u8]) -> usize
-    ensures { Wrote accept_text out.old out.new result 28 }
-{
-    put_front(out, b" ACC\n");
-    5
-}
-
-fn put_not_plogi(out: &mut [u8]) -> usize
-    ensures { Wrote not_plogi_text out.old out.new result 28 }
-{
-    put_front(out, b" NOT PLOGI\n");
-    11
-}
-
+// " LS_RJT ", reason and explanation.
 #[tactic(auto, unfolding(crate::specs::Text::reject_text))]
-fn put_reject(f: Fault, out: &mut [u8]) -> usize
-    ensures { Wrote (reject_text (reason_of f).reason (reason_of f).explanation) out.old out.new result 28 }
+fn reject_text(f: Fault) -> [u8; 14]
+    ensures { result ≡ reject_text (reason_of f).reason (reason_of f).explanation }
 {
-    let w = f.why();
+    let w = Reason::from(f);
     let r = w.reason;
     let e = w.explanation;
-    let text = [
+    [
         b' ',
         b'L',
         b'S',
@@ -101,23 +88,23 @@ fn put_reject(f: Fault, out: &mut [u8]) -> usize
         hex_digit(e / 16),
         hex_digit(e % 16),
         b'\n',
-    ];
-    put_front(out, &text);
-    14
+    ]
 }
 
-fn put_short(n: usize, out: &mut [u8]) -> usize
-    requires { 28 ≤ length out.old }
-    ensures { Wrote (short_text n) out.old out.new result 28 }
+// How many bytes a cut end has.
+#[tactic(auto, unfolding(crate::specs::Text::short_text))]
+fn put_short(text: &mut Line, n: usize)
+    requires { text.old.items ≡ [] }
+    ensures short { text.new.items ≡ short_text n }
+    ensures len { length text.new.items ≤ 28 }
 {
-    put_front(out, b" SHORT ");
-    let k = put_decimal(n as u64, &mut out[7..]);
-    let m = 7 + k;
-    put_front(&mut out[m..], b"\n");
-    m + 1
+    put(text, b" SHORT ");
+    push_decimal(text, n as u64);
+    put(text, b"\n");
 }
 
 // A digit below 16 in upper case.
+// kept: `{:02X}` is by `write!`, which promises its text where it answers Ok alone, and a line can't fail
 #[tactic(auto, unfolding(crate::specs::Text::hex_digit))]
 fn hex_digit(d: u8) -> u8
     requires { d < 16 }

@@ -1,3 +1,4 @@
+pub mod Names
 pub mod Ways
 pub mod Turns
 pub mod Room

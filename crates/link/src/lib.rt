@@ -2,21 +2,25 @@
 #![tactic(auto, unfolding(crate::specs::Link::size_of, crate::specs::Link::new_login, crate::specs::Turn::outcome_in, crate::specs::Turn::logo_turn, crate::specs::Turn::aborted_login, crate::specs::Turn::abts_turn))]
 
 mod on_login;
+mod rejection;
 
 ghost use Rattle.std.specs.Prelude.{◌≡◌, ◌<◌};
+ghost use Rattle.params.specs.Services.{code_of};
 ghost use Rattle.link.specs.Link.{size_of, new_login, ends_for, outcome_reply};
 ghost use Rattle.link.specs.Turn.{outcome_in, plogi_turn, logo_turn, aborted_login, link_turn, abts_turn};
 
 use calls::{Decision, View, answer_only, change_logins, place_for, serve_at, store_login};
 use formed::Key;
 use frame::Header;
-use on_login::service;
-use params::{Fault, Params, Reason};
+use on_login::serve;
+use params::{Fault, Params, Reason, Service};
+use rejection::Rejection;
 use reply::{Accepted, Reply};
 use state::{Change, Login, empty_login, end_exchange, find_exchange};
 use wire::{be24, byte_at, name_number};
 
 // Why a login is rejected that no place is free for.
+// kept: a Reason and no Rejection, since what the parameters of a login are rejected for is a Reason too, and both are told alike
 const NO_ROOM: Reason = Reason {
     reason: 0x09,
     explanation: 0x29,
@@ -27,41 +31,31 @@ const NO_ROOM: Reason = Reason {
 pub fn link(v: View, h: Header, frame: &[u8]) -> Decision
     ensures { result ≡ link_turn v h frame.now }
 {
-    let code = byte_at(frame, 24);
-    let size = size_of(code);
-    let from = h.s_id;
-    if size == 0 {
-        return answer_only(Reply::Reject(0x0b, 0));
-    }
-    if frame.len() != 24 + size {
-        return answer_only(Reply::Reject(0x03, 0));
-    }
-    if code == 0x03 {
-        let keys = v.keys;
-        return plogi(keys, from, Params::read(frame, 28));
-    }
-    if code == 0x05 {
-        return logo(from, be24(frame, 29));
-    }
-    let seat = v.seat;
-    let Some(i) = seat else {
-        return answer_only(Reply::Logout);
+    let Ok(service) = Service::try_from(byte_at(frame, 24)) else {
+        return answer_only(Rejection::OtherCode.into());
     };
-    let l = v.login;
-    serve_at(i, service(code, l, from, frame))
+    if frame.len() != 24 + size_of(service) {
+        return answer_only(Rejection::WrongSize.into());
+    }
+    match service {
+        Service::Plogi => plogi(v.keys, h.s_id, Params::read(frame, 28)),
+        Service::Logo => logo(h.s_id, be24(frame, 29)),
+        _ => match v.seat {
+            Some(i) => serve_at(i, serve(service, v.login, h.s_id, frame)),
+            None => answer_only(Reply::Logout),
+        },
+    }
 }
 
 // ABTS of an exchange: without a login a drive LOGO; a named responder exchange is rejected; else the exchange ends, if there is one.
 pub fn abts(v: View, h: Header) -> Decision
     ensures { result ≡ abts_turn v h }
 {
-    let seat = v.seat;
-    let Some(i) = seat else {
+    let Some(i) = v.seat else {
         return answer_only(Reply::Logout);
     };
     if h.rx_id == 0xffff {
-        let l = v.login;
-        store_login(Reply::AbortAccept, i, end_named(l, h.ox_id))
+        store_login(Reply::AbortAccept, i, end_named(v.login, h.ox_id))
     } else {
         answer_only(Reply::AbortReject)
     }
@@ -71,37 +65,34 @@ pub fn abts(v: View, h: Header) -> Decision
 fn end_named(l: Login, ox_id: u16) -> Login
     ensures { result ≡ aborted_login l ox_id }
 {
-    let f = find_exchange(l, ox_id);
-    match f {
+    match find_exchange(l, ox_id) {
         Some(j) => end_exchange(l, j),
         None => l,
     }
 }
 
-// The payload size of a code, 0 for another code.
-fn size_of(code: u8) -> usize
-    ensures { (result ≡ size_of code) × (result < 2113) }
+// The payload size of a request.
+fn size_of(service: Service) -> usize
+    ensures { (result ≡ size_of (code_of service)) × (result < 2113) }
 {
-    match code {
-        0x03 => 116,
-        0x05 => 16,
-        0x12 => 44,
-        0x20 => 20,
-        0x21 => 20,
-        0x50 => 116,
-        0x52 => 28,
-        _ => 0,
+    match service {
+        Service::Plogi => 116,
+        Service::Logo => 16,
+        Service::Rrq => 44,
+        Service::Prli => 20,
+        Service::Prlo => 20,
+        Service::Pdisc => 116,
+        Service::Adisc => 28,
     }
 }
 
 // PLOGI: ends the sender's login first, accepted or not; the word tests in their order; where they pass the login of its port name ends, wherever it stands;
 // then the room test.
-#[tactic(auto, using(crate::proofs::Ways::plogi_rejected, crate::proofs::Ways::plogi_placed))]
+#[tactic(auto, unfolding(crate::specs::Turn::plogi_turn))]
 fn plogi(keys: [Key; 8], from: u32, q: Params) -> Decision
     ensures { result ≡ plogi_turn keys from q }
 {
-    let port = q.port_name;
-    let name = name_number(port);
+    let name = name_number(q.port_name);
     let v = q.verdict();
     let c = ends_for(v, from, name);
     let o = judged(v, keys, from, name);
@@ -109,16 +100,16 @@ fn plogi(keys: [Key; 8], from: u32, q: Params) -> Decision
     let Ok(j) = o else {
         return change_logins(r, c);
     };
-    let m = new_login(from, q);
     Decision {
         reply: r,
         change: c,
         at: Some(j),
-        login: m,
+        login: new_login(from, q),
     }
 }
 
 // The logins that end: a PLOGI that fails a word test ends the sender's own and no other.
+// kept: no From here or below, since the types are of other crates
 fn ends_for(v: Result<(), Fault>, from: u32, name: u64) -> Change
     ensures { result ≡ ends_for v from name }
 {
@@ -132,9 +123,7 @@ fn ends_for(v: Result<(), Fault>, from: u32, name: u64) -> Change
 fn judged(v: Result<(), Fault>, keys: [Key; 8], from: u32, name: u64) -> Result<usize, Reason>
     ensures { result ≡ outcome_in v keys from name }
 {
-    if let Err(t) = v {
-        return Err(t.why());
-    }
+    v?;
     place_for(keys, from, name).ok_or(NO_ROOM)
 }
 
@@ -150,28 +139,30 @@ fn outcome_reply(o: Result<usize, Reason>) -> Reply
 fn new_login(from: u32, q: Params) -> Login
     ensures { result ≡ new_login from q }
 {
-    let port = q.port_name;
-    let node = q.node_name;
-    let mut l = empty_login();
-    l.used = 1;
-    l.proven = 1;
-    l.attention = Login::RESET;
-    l.concurrent = q.concurrent;
-    l.sequences = q.sequences;
-    l.size = q.size;
-    l.address = from;
-    l.port_name = port;
-    l.node_name = node;
-    l
+    let port_name = q.port_name;
+    let node_name = q.node_name;
+    Login {
+        used: 1,
+        proven: 1,
+        attention: Login::RESET,
+        concurrent: q.concurrent,
+        sequences: q.sequences,
+        size: q.size,
+        address: from,
+        port_name,
+        node_name,
+        ..empty_login()
+    }
 }
 
 // LOGO: ends the login, if any, of a sender that names itself.
+// kept: two addresses side by side, which are compared and no more; so in rrq and adisc
 fn logo(from: u32, named: u32) -> Decision
     ensures { result ≡ logo_turn from named }
 {
     if named == from {
         change_logins(Reply::Accept(Accepted::Short), Change::EndLogin(from))
     } else {
-        answer_only(Reply::Reject(0x03, 0x1f))
+        answer_only(Rejection::NotSender.into())
     }
 }

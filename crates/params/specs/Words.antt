@@ -29,6 +29,10 @@ params_of s word1 =
 unfoldable pub size_fails : ℕ → Bool
 size_fails n = ltb n 256 || ltb 2112 n || not (eqb (n % 4) 0)
 
+-- the same of a size that is to be from a least to a most
+abbrev pub misfits : ℕ → ℕ → ℕ → Bool
+misfits n least most = ltb n least || ltb most n || not (eqb (n % 4) 0)
+
 -- "not zero", else it fails: every byte of the name is 0
 unfoldable pub zero_name : List ℕ → Bool
 zero_name name = all (λ b. eqb b 0) name

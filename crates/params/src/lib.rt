@@ -1,10 +1,48 @@
-// The word tests of a login's parameters: what PLOGI and PDISC carry, and the words of the login accept that a setup gives.
+// The codes of the link services, and the word tests of a login's parameters: what PLOGI and PDISC carry, and the words of the login accept that a setup gives.
 #![tactic(auto)]
 
-ghost use Rattle.std.specs.Prelude.{◌≡◌};
-ghost use Rattle.params.specs.Words.{params_of, size_fails, zero_name, verdict_of, setup_passes, reason_of};
+ghost use Rattle.std.specs.Prelude.{◌≡◌, cond, Ok, Err};
+ghost use Rattle.params.specs.Words.{params_of, misfits, size_fails, zero_name, verdict_of, setup_passes, reason_of};
+ghost use Rattle.params.specs.Services.{service_with};
 
-use wire::{be16, byte_at, name_at};
+use wire::{BigEndian, byte_at, part};
+
+// The link services.
+#[derive(Clone, Copy)]
+pub enum Service {
+    Plogi,
+    Logo,
+    Rrq,
+    Prli,
+    Prlo,
+    Pdisc,
+    Adisc,
+}
+
+// A code that no link service has.
+#[derive(Clone, Copy)]
+pub struct OtherCode;
+
+// The service that a request asks for, by its code.
+impl TryFrom<u8> for Service {
+    type Error = OtherCode;
+
+    ghost try_from_gives = { λ code r. r ≡ service_with code };
+
+    #[tactic(auto, unfolding(crate::specs::Services::service_with))]
+    fn try_from(code: u8) -> Result<Service, OtherCode> {
+        match code {
+            0x03 => Ok(Service::Plogi),
+            0x05 => Ok(Service::Logo),
+            0x12 => Ok(Service::Rrq),
+            0x20 => Ok(Service::Prli),
+            0x21 => Ok(Service::Prlo),
+            0x50 => Ok(Service::Pdisc),
+            0x52 => Ok(Service::Adisc),
+            _ => Err(OtherCode),
+        }
+    }
+}
 
 // What the word tests look at. W and B are word and byte of the payload.
 #[derive(Clone, Copy)]
@@ -38,6 +76,7 @@ pub enum Fault {
 }
 
 // Why a login is rejected, as LS_RJT has it.
+// kept: two bytes, as they are sent; the kinds of faults are `Fault`.
 #[derive(Clone, Copy)]
 pub struct Reason {
     pub reason: u8,
@@ -52,19 +91,20 @@ impl Params {
     pub const SETUP_SEQUENCES: u8 = 1;
 
     // The parameters of a slice in which word 1 starts at a place: 4 in a payload, 28 in a frame, 0 in a setup's words.
+    // kept: no From, since the bytes alone don't tell the place.
     #[tactic(auto, unfolding(crate::specs::Words::params_of))]
     pub fn read(s: &[u8], word1: u8) -> Params
         ensures { result ≡ params_of s.now word1 }
     {
         let w = word1 as u16;
-        let port = name_at(s, w + 16);
-        let node = name_at(s, w + 24);
+        let port = part::<8>(s, w + 16);
+        let node = part::<8>(s, w + 24);
         Params {
-            buffer: be16(s, w + 6) % 4096,
+            buffer: u16::read(s, w + 6) % 4096,
             port_name: port,
             node_name: node,
             class3: byte_at(s, (w + 64) as usize),
-            size: be16(s, w + 70) % 4096,
+            size: u16::read(s, w + 70) % 4096,
             concurrent: byte_at(s, (w + 73) as usize),
             sequences: byte_at(s, (w + 77) as usize),
         }
@@ -75,30 +115,13 @@ impl Params {
     pub fn verdict(self) -> Result<(), Fault>
         ensures { result ≡ verdict_of self }
     {
-        let port = self.port_name;
-        let node = self.node_name;
-        if size_fails(self.buffer) {
-            return Err(Fault::BufferSize);
-        }
-        if zero_name(port) {
-            return Err(Fault::PortName);
-        }
-        if zero_name(node) {
-            return Err(Fault::NodeName);
-        }
-        if self.class3 < 128 {
-            return Err(Fault::ClassThree);
-        }
-        if size_fails(self.size) {
-            return Err(Fault::DataSize);
-        }
-        if self.concurrent == 0 {
-            return Err(Fault::ConcurrentSequences);
-        }
-        if self.sequences == 0 {
-            return Err(Fault::OpenSequences);
-        }
-        Ok(())
+        fail_if(size_fails(self.buffer), Fault::BufferSize)?;
+        fail_if(zero_name(self.port_name), Fault::PortName)?;
+        fail_if(zero_name(self.node_name), Fault::NodeName)?;
+        fail_if(self.class3 < 128, Fault::ClassThree)?;
+        fail_if(size_fails(self.size), Fault::DataSize)?;
+        fail_if(self.concurrent == 0, Fault::ConcurrentSequences)?;
+        fail_if(self.sequences == 0, Fault::OpenSequences)
     }
 
     // Whether a setup may have these in its accept words: the same tests, and W20/B1 = 01h.
@@ -110,12 +133,12 @@ impl Params {
     }
 }
 
-impl Fault {
-    // The reason and explanation that a rejected login is answered with.
-    pub fn why(self) -> Reason
-        ensures { result ≡ reason_of self }
-    {
-        let explanation = match self {
+// The reason and explanation that a rejected login is answered with.
+impl From<Fault> for Reason {
+    ghost from_gives = { λ fault r. r ≡ reason_of fault };
+
+    fn from(fault: Fault) -> Reason {
+        let explanation = match fault {
             Fault::BufferSize => 0x0f,
             Fault::PortName => 0x0d,
             Fault::NodeName => 0x0e,
@@ -131,31 +154,36 @@ impl Fault {
     }
 }
 
+// A test in a row of tests: where it fails, the row ends with what it says.
+pub fn fail_if<E: Copy>(fails: bool, why: E) -> Result<(), E>
+    ensures { result ≡ cond fails (Err why) (Ok tt) }
+{
+    if fails { Err(why) } else { Ok(()) }
+}
+
 // Whether a receive size is not from 256 to 2,112 or no multiple of 4. One test for W2 and W18.
 #[tactic(auto, unfolding(crate::specs::Words::size_fails))]
 pub fn size_fails(n: u16) -> bool
     ensures { result ≡ size_fails n }
 {
-    if n < Params::LEAST_SIZE {
-        return true;
-    }
-    if Params::MOST_SIZE < n {
-        return true;
-    }
-    n % 4 != 0
+    misfits(
+        usize::from(n),
+        usize::from(Params::LEAST_SIZE),
+        usize::from(Params::MOST_SIZE),
+    )
+}
+
+// Whether a size is not from a least to a most or no multiple of 4. One test for receive sizes and the size of a frame.
+pub fn misfits(size: usize, least: usize, most: usize) -> bool
+    ensures { result ≡ misfits size least most }
+{
+    !(least..=most).contains(&size) || size % 4 != 0
 }
 
 // Whether a name is zero. One test for the port name and the node name.
-#[tactic(auto, unfolding(crate::specs::Words::zero_name))]
+#[tactic(auto, using(crate::proofs::Names::zeros))]
 pub fn zero_name(name: [u8; 8]) -> bool
     ensures { result ≡ zero_name name }
 {
-    let mut i: usize = 0;
-    while i < 8 {
-        if name[i] != 0 {
-            return false;
-        }
-        i += 1;
-    }
-    true
+    name == [0; 8]
 }

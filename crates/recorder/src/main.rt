@@ -12,11 +12,26 @@
 // Where it cannot go on it says so on standard error, with the record's number.
 #![tactic(auto)]
 
-ghost use Rattle.io.specs.Counts.{IsPrefixLen};
+use recording::{Session, rest_of, start, tell};
+use saying::{End, say_end};
+use std::io::{Read, Write};
 
-use recording::{Line, rest_of, start, tell};
-use saying::{End, end_line};
-use std::io::Write;
+// Answers the next record, and brings the session to after it.
+fn answer_next(input: &mut impl Read, output: &mut impl Write, s: &mut Session) -> Result<(), End> {
+    let mut buffer = [0u8; 70000];
+    let r = records::next(input, &mut buffer)?;
+    let from = rest_of(*s, r.letter, r.body);
+    let t = tell(*s, r.letter, r.body);
+    say(output, &t.line, &r.body[from..]).map_err(|_| End::Unwritten)?;
+    *s = t.session;
+    Ok(())
+}
+
+// Writes the answer and what follows it at once.
+fn say(output: &mut impl Write, answer: &[u8], rest: &[u8]) -> std::io::Result<()> {
+    output.write_all(answer)?;
+    output.write_all(rest)
+}
 
 // A proved loop has to end and the input need not, so the records are counted up to a number that no run reaches.
 fn main(rt: HostRuntime) {
@@ -24,44 +39,10 @@ fn main(rt: HostRuntime) {
     let mut output = rt.stdout();
     let mut errors = rt.stderr();
     let mut s = start();
-    let mut number: u64 = 0;
-    while number < u64::MAX {
-        number += 1;
-        let mut body = [0u8; 70000];
-        let r = records::next(&mut input, &mut body);
-        if r.over {
-            let e = r.end;
-            stop(&mut errors, number, e);
+    for number in 1..=u64::MAX {
+        if let Err(end) = answer_next(&mut input, &mut output, &mut s) {
+            let _ = say_end(&mut errors, b"recorder", number, end);
             return;
         }
-        let len = r.len;
-        let from = rest_of(s, r.letter, &body[..len]);
-        let t = tell(s, r.letter, &mut body[..len]);
-        if !say(&mut output, t.line, &body[from..len]) {
-            stop(&mut errors, number, End::Unwritten);
-            return;
-        }
-        s = t.session;
     }
-}
-
-// Writes the answer and what follows it at once, and answers whether they were taken.
-fn say(output: &mut impl Write, l: Line, rest: &[u8]) -> bool
-    requires { IsPrefixLen l.len l.bytes }
-{
-    let bytes = l.bytes;
-    let len = l.len;
-    if output.write_all(&bytes[..len]).is_ok() {
-        output.write_all(rest).is_ok()
-    } else {
-        false
-    }
-}
-
-// Says why it ends, unless its input is over.
-fn stop(errors: &mut impl Write, number: u64, end: End) {
-    let line = end_line(b"recorder", number, end);
-    let bytes = line.bytes;
-    let len = line.len;
-    let _ = errors.write_all(&bytes[..len]);
 }

@@ -16,7 +16,7 @@ use Rattle.wire.proofs.Parts.{rest_is, rest_back}
 use Rattle.drive.specs.Entry.{frame_in_window}
 use Rattle.recording.specs.declared.Session.{Session}
 use Rattle.recording.specs.declared.Told.{Told}
-use Rattle.recording.specs.Calls.{window_from, is_data_call, record_frame, record_window, handed, data_call, data_after, ToldIs}
+use Rattle.recording.specs.Calls.{window_from, is_data_call, record_frame, record_window, handed, data_call, data_after}
 
 -- the window begins in the body, and the room is none that is too large
 pub data_fits : (s : Session) (letter : ℕ) (b : List ℕ) → is_data_call s letter b ≡ true → (window_from b ≤ length b) × (num 2 b 0 ≤ 4096)
@@ -51,7 +51,7 @@ module _ (b z f : List ℕ) (n : ℕ) (e : n ≡ num 2 b 10) (h : window_from b 
 
   -- what is told of D
   pub data_told : (s : Session) {k start : ℕ} {r : Told} → k ≡ num 2 b 0 → start ≡ num 8 b 2
-      → ToldIs (handed s k (take n f) start (mid_of (12 + n) (length b - (12 + n)) b)) r → ToldIs (data_call s b) r
+      → r ≡ handed s k (take n f) start (mid_of (12 + n) (length b - (12 + n)) b) → r ≡ data_call s b
   unfolding data_call
   data_told s {k} {start} {r} p q t = rw (p, q, frame_back, window_is) at t
 

@@ -1,11 +1,9 @@
 -- The bytes of an answer.
-use Rattle.std.specs.Prelude.{ℕ, ◌≡◌, Bool, cond, List, [], ◌∷◌, ◌++◌, eqb, length, take, drop, replicate, Ok, Err, Result}
+use Rattle.std.specs.Prelude.{ℕ, Bool, cond, List, [], ◌∷◌, ◌++◌, eqb, length, take, drop, Ok, Err, Result}
 use Rattle.refusal.specs.declared.Refusal.{Refusal}
-use Rattle.io.specs.Counts.{IsPrefixLen}
 use Rattle.tables.specs.Lists.{all}
-use Rattle.wire.specs.Bytes.{bytes, onto}
+use Rattle.wire.specs.Bytes.{bytes}
 use Rattle.refusal.specs.Refusal.{number_of}
-use Rattle.recording.specs.declared.Line.{Line}
 
 -- "still holds the fill 5Ah it was lent with": every byte does
 unfoldable pub all_fill : List ℕ → Bool
@@ -22,12 +20,3 @@ answer number reply still = ((number ∷ bytes 2 (length reply)) ++ reply) ++ (f
 abbrev pub answer_of : Result ℕ Refusal → List ℕ → List ℕ
 answer_of (Ok n) l = answer 0 (take n l) (all_fill (drop n l))
 answer_of (Err x) l = answer (number_of x) [] (all_fill l)
-
--- an answer in a line's 4,100 bytes
-abbrev pub line_for : List ℕ → Line
-line_for text = record { bytes = onto text (replicate 4100 0); len = length text }
-
--- r is the line for this answer, and all of it stands there
-pub record LineIs (text : List ℕ) (r : Line) : Type 0 where
-  pub is : r ≡ line_for text
-  pub fits : IsPrefixLen r.len r.bytes

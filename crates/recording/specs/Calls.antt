@@ -1,7 +1,6 @@
 -- The calls: what a record of a letter and a body is answered, and the session after it.
-use Rattle.std.specs.Prelude.{ℕ, ◌+◌, ◌≡◌, Bool, true, false, cond, ◌&&◌, List, [], ◌++◌, eqb, leb, ltb, length, take, drop, get_or, replicate, Ok, Err, Result}
+use Rattle.std.specs.Prelude.{ℕ, ◌+◌, Bool, true, false, cond, ◌&&◌, List, [], ◌++◌, eqb, leb, ltb, length, take, drop, get_or, replicate, Ok, Err, Result}
 use Rattle.refusal.specs.declared.Refusal.{Refusal}
-use Rattle.io.specs.Counts.{IsPrefixLen}
 use Rattle.wire.specs.Bytes.{num}
 use Rattle.state.specs.declared.Setup.{Setup}
 use Rattle.drive.specs.declared.Drive.{Drive}
@@ -12,7 +11,7 @@ use Rattle.drive.specs.Drive.{no_drive, new_answer, event_answer}
 use Rattle.drive.specs.Entry.{frame_in, frame_in_buffer, frame_in_window, next_frame, next_frame_buffer}
 use Rattle.recording.specs.declared.Session.{Session}
 use Rattle.recording.specs.declared.Told.{Told}
-use Rattle.recording.specs.Answers.{answer, answer_of, line_for}
+use Rattle.recording.specs.Answers.{answer, answer_of}
 
 -- "no drive made yet"
 unfoldable pub unmade : Session
@@ -20,7 +19,7 @@ unmade = record { made = false; drive = no_drive }
 
 -- the answer's bytes, and the session after it
 abbrev pub told_as : Session → List ℕ → Told
-told_as s text = record { session = s; line = line_for text }
+told_as s text = record { session = s; line = record { items = text } }
 
 -- "255 stands for what is no call, with length 0 and last byte 1"
 unfoldable pub no_call : Session → Told
@@ -129,8 +128,3 @@ body_after s letter b = cond (is_data_call s letter b) (data_after s b) b
 -- "The usual answer, then all bytes of the window after the call": from where on the body follows the answer
 unfoldable pub rest_of : Session → ℕ → List ℕ → ℕ
 rest_of s letter b = cond (is_data_call s letter b) (window_from b) (length b)
-
--- r is what is told, and all of the answer stands in its line
-pub record ToldIs (t r : Told) : Type 0 where
-  pub is : r ≡ t
-  pub fits : IsPrefixLen r.line.len r.line.bytes

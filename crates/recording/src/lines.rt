@@ -1,62 +1,47 @@
 // The bytes of an answer.
-ghost use Rattle.std.specs.Prelude.{◌≡◌, ◌≤◌, length};
-ghost use Rattle.wire.specs.Bytes.{Wrote};
-ghost use Rattle.recording.specs.Answers.{all_fill, flag_of, answer, answer_of, LineIs};
+ghost use Rattle.std.specs.Prelude.{◌≡◌, ◌≤◌, ◌∷◌, length};
+ghost use Rattle.wire.specs.Bytes.{bytes};
+ghost use Rattle.recording.specs.Answers.{all_fill, answer, answer_of};
 
-use crate::Line;
+use crate::{FILL, Line};
 use refusal::Refusal;
-use wire::{least, put_front};
+use saying::put;
+use wire::BigEndian;
 
 // The answer's bytes, from what was said and the lent buffer after it.
 pub(crate) fn line_of(said: Result<usize, Refusal>, lent: &[u8]) -> Line
     requires { length lent.now ≤ 4096 }
-    ensures { LineIs (answer_of said lent.now) result }
+    ensures { result.items ≡ answer_of said lent.now }
 {
     match said {
         Ok(n) => {
-            let k = least(n, lent.len());
+            let k = n.min(lent.len());
             written(0, &lent[..k], untouched(&lent[k..]))
         }
-        Err(x) => {
-            let none = [0u8; 0];
-            written(x.number(), &none, untouched(lent))
-        }
+        Err(x) => written(x.number(), &[], untouched(lent)),
     }
 }
 
 // The number, the reply's length, the reply, and whether the rest was untouched.
+#[tactic(auto, unfolding(crate::specs::Answers::answer))]
 pub(crate) fn written(number: u8, reply: &[u8], still: bool) -> Line
     requires { length reply.now ≤ 4096 }
-    ensures { LineIs (answer number reply.now still) result }
+    ensures { result.items ≡ answer number reply.now still }
 {
-    let mut bytes = [0u8; 4100];
-    let n = put_answer(number, reply, still, &mut bytes);
-    Line {
-        bytes: bytes,
-        len: n,
-    }
+    let mut line = Line::new();
+    put(&mut line, &head(number, reply.len()));
+    put(&mut line, reply);
+    put(&mut line, &[u8::from(still)]);
+    line
 }
 
-// The same at the front of out; answers how many bytes they are.
-fn put_answer(number: u8, reply: &[u8], still: bool, out: &mut [u8]) -> usize
-    requires reply_len_bound { length reply.now ≤ 4096 }
-    requires out_len { length out.old ≡ 4100 }
-    ensures { Wrote (answer number reply.now still) out.old out.new result 4100 }
+// What stands before a reply of n bytes.
+fn head(number: u8, n: usize) -> [u8; 3]
+    requires { n ≤ 4096 }
+    ensures { result ≡ number ∷ bytes 2 n }
 {
-    let n = reply.len();
-    let head = [number, (n / 256 % 256) as u8, (n % 256) as u8];
-    let last = [flag(still)];
-    put_front(out, &head);
-    put_front(&mut out[3..], reply);
-    let m = 3 + n;
-    put_front(&mut out[m..], &last);
-    m + 1
-}
-
-fn flag(still: bool) -> u8
-    ensures { result ≡ flag_of still }
-{
-    if still { 1 } else { 0 }
+    let [high, low]: [u8; 2] = u16::bytes(n as u16);
+    [number, high, low]
 }
 
 // Whether every byte holds the fill.
@@ -64,12 +49,5 @@ fn flag(still: bool) -> u8
 fn untouched(lent: &[u8]) -> bool
     ensures { result ≡ all_fill lent.now }
 {
-    let mut i = 0;
-    while i < lent.len() {
-        if lent[i] != 0x5a {
-            return false;
-        }
-        i += 1;
-    }
-    true
+    lent.iter().all(|b| *b == FILL)
 }

@@ -1,170 +1,88 @@
 // Records from a reader, which the programs take to be standard input: a letter, a length of four bytes, big-endian, and a body of that length.
 #![tactic(auto)]
 
-ghost use Rattle.std.specs.Prelude.{◌≡◌, ◌+◌, ◌≤◌, eqb, length};
+ghost use Rattle.std.specs.Prelude.{◌≡◌, ◌≤◌, ◌<◌, length, take, IfOk, IfErr};
+ghost use Rattle.std.specs.Io.KnownBytes.{Consumes, IsAtEnd};
 ghost use Rattle.io.specs.Counts.{IsPrefixLen};
 
 use saying::End;
 use std::io::Read;
-use wire::{be32, byte_at, least};
 
-// What was read into a lent buffer: how many bytes, and whether they are all that it has. Where they are not, a read failed or the input has ended.
-#[derive(Clone, Copy)]
-pub struct Filled {
-    pub len: usize,
-    pub whole: bool,
-    pub failed: bool,
-}
-
-// A record: its letter, and how many bytes of the lent buffer are its body. Where there is none all is over, and end says why.
-#[derive(Clone, Copy)]
-pub struct Record {
-    pub over: bool,
-    pub end: End,
-    pub letter: u8,
-    pub len: usize,
-}
-
-// What one read gave.
+// A record: its letter, and its body, which stands at the front of the lent buffer.
 #[derive(Drop)]
-struct Got {
-    len: usize,
-    failed: bool,
+pub struct Record<'a> {
+    pub letter: u8,
+    pub body: &'a mut [u8],
 }
 
-// Fills the lent buffer from the input, as far as that goes.
-pub fn fill<R: Read>(input: &mut R, buf: &mut [u8]) -> Filled
-    ensures prefix_len { IsPrefixLen result.len buf.new }
-    ensures whole_value { result.whole ≡ eqb result.len (length buf.new) }
+// Fills the lent buffer from the input, as far as that goes; answers how many bytes came. A read that a signal interrupts has failed.
+#[tactic(auto, using(crate::proofs::Filled::read_more))]
+pub fn fill<R: Read>(input: &mut R, buf: &mut [u8]) -> Result<usize, End>
+    ensures prefix_len { IfOk result (λ n. IsPrefixLen n buf.new) }
+    ensures bytes { IfOk result (λ n. Consumes (R.remaining input.old) (R.remaining input.new) (take n buf.new)) }
+    ensures end { IfOk result (λ n. n < length buf.new → IsAtEnd (R.remaining input.new)) }
+    ensures unread { IfErr result (λ e. e ≡ End.Unread) }
 {
+    let room = buf.len();
     let mut done = 0;
-    while done < buf.len() {
-        let g = read_on(input, done, buf);
-        if g.len == 0 {
-            return Filled {
-                len: done,
-                whole: false,
-                failed: g.failed,
-            };
+    // kept: how far a read goes is the reader's to say; std's read_exact does not tell it, and tries an interrupted read again
+    while done < room {
+        let Ok(n) = input.read(&mut buf[done..]) else {
+            return Err(End::Unread);
+        };
+        if n == 0 {
+            return Ok(done);
         }
-        done += g.len;
+        done += n;
     }
-    Filled {
-        len: done,
-        whole: true,
-        failed: false,
-    }
+    Ok(done)
 }
 
-// One read into the buffer from a place on. A read that a signal interrupts has failed.
-fn read_on<R: Read>(input: &mut R, from: usize, buf: &mut [u8]) -> Got
-    requires { from ≤ length buf.old }
-    ensures { from + result.len ≤ length buf.new }
-{
-    let got = input.read(&mut buf[from..]);
-    let failed = got.is_err();
-    Got {
-        len: got.unwrap_or(0),
-        failed: failed,
+// Fills the whole of the lent buffer, which is a part of a record that was begun.
+fn fill_whole<R: Read>(input: &mut R, buf: &mut [u8]) -> Result<(), End> {
+    if fill(input, buf)? < buf.len() {
+        return Err(End::Cut);
     }
+    Ok(())
 }
 
 // Takes the next record, and puts its body at the front of the lent buffer. A body that is longer is passed over, and letter 0 stands for its record.
-pub fn next<R: Read>(input: &mut R, body: &mut [u8]) -> Record
-    ensures { IsPrefixLen result.len body.new }
+// Where there is none, the input is over or cut, or cannot be read.
+// kept: letter 0 for a record that is passed over, since the programs answer it as any letter that is no call
+pub fn next<'a, R: Read>(input: &mut R, body: &'a mut [u8]) -> Result<Record<'a>, End>
+    ensures { IfOk result (λ r. length r.body.now ≤ length body.old) }
 {
     let mut head = [0u8; 5];
-    let f = fill(input, &mut head);
-    if !f.whole {
-        return none(f.failed, f.len > 0);
+    match fill(input, &mut head)? {
+        0 => Err(End::Over),
+        5 => headed(input, head, body),
+        _ => Err(End::Cut),
     }
-    headed(input, &head, body)
 }
 
-fn headed<R: Read>(input: &mut R, head: &[u8], body: &mut [u8]) -> Record
-    ensures { IsPrefixLen result.len body.new }
+// The record of a head, its letter and the length of its body.
+fn headed<'a, R: Read>(input: &mut R, head: [u8; 5], body: &'a mut [u8]) -> Result<Record<'a>, End>
+    ensures { IfOk result (λ r. length r.body.now ≤ length body.old) }
 {
-    let size = be32(head, 1) as usize;
+    let [letter, a, b, c, d] = head;
+    let size = u32::from_be_bytes([a, b, c, d]) as usize;
     if size > body.len() {
-        return passed(input, size);
+        skip(input, size)?;
+        return Ok(Record {
+            letter: 0,
+            body: &mut body[..0],
+        });
     }
-    let f = read_body(input, size, body);
-    let n = f.len;
-    if !f.whole {
-        return none(f.failed, true);
-    }
-    Record {
-        over: false,
-        end: End::Over,
-        letter: byte_at(head, 0),
-        len: n,
-    }
-}
-
-// Passes over a body of this many bytes.
-fn passed<R: Read>(input: &mut R, size: usize) -> Record
-    ensures { result.len ≡ 0 }
-{
-    let f = skip(input, size);
-    if !f.whole {
-        return none(f.failed, true);
-    }
-    empty(false, End::Over)
-}
-
-// No record: a read failed, the one that was begun is cut, or the input is over.
-fn none(failed: bool, begun: bool) -> Record
-    ensures { result.len ≡ 0 }
-{
-    if failed {
-        empty(true, End::Unread)
-    } else if begun {
-        empty(true, End::Cut)
-    } else {
-        empty(true, End::Over)
-    }
-}
-
-// A record without a body.
-fn empty(over: bool, end: End) -> Record
-    ensures { result.len ≡ 0 }
-{
-    Record {
-        over: over,
-        end: end,
-        letter: 0,
-        len: 0,
-    }
-}
-
-// Reads this many bytes, or as many as the buffer has.
-fn read_body<R: Read>(input: &mut R, size: usize, body: &mut [u8]) -> Filled
-    ensures { IsPrefixLen result.len body.new }
-{
-    let n = least(size, body.len());
-    fill(input, &mut body[..n])
+    let body = &mut body[..size];
+    fill_whole(input, body)?;
+    Ok(Record { letter, body })
 }
 
 // Reads this many bytes and drops them.
-fn skip<R: Read>(input: &mut R, size: usize) -> Filled {
-    let mut left = size;
-    while left > 0 {
-        let n = least(left, 4096);
-        let f = read_away(input, n);
-        if !f.whole {
-            return f;
-        }
-        left -= n;
-    }
-    Filled {
-        len: size,
-        whole: true,
-        failed: false,
-    }
-}
-
-// Reads at most 4,096 bytes and drops them.
-fn read_away<R: Read>(input: &mut R, n: usize) -> Filled {
+fn skip<R: Read>(input: &mut R, size: usize) -> Result<(), End> {
     let mut bytes = io::buffer();
-    read_body(input, n, &mut bytes)
+    for _ in 0..size / 4096 {
+        fill_whole(input, &mut bytes)?;
+    }
+    fill_whole(input, &mut bytes[..size % 4096])
 }

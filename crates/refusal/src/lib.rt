@@ -4,38 +4,26 @@
 ghost use Rattle.std.specs.Prelude.{◌≡◌};
 ghost use Rattle.refusal.specs.Refusal.{number_of};
 
-// The refusals, in the order of their numbers.
+// The refusals, each with its number.
 #[derive(Clone, Copy)]
 pub enum Refusal {
-    ShortBuffer,
-    IllFormed,
-    BadSize,
-    NotOurs,
-    BadSource,
-    UnknownForm,
-    Unproven,
-    BadSetup,
-    NoExchange,
-    BadWindow,
-    NoWrite,
+    ShortBuffer = 1,
+    IllFormed = 2,
+    BadSize = 3,
+    NotOurs = 4,
+    BadSource = 5,
+    UnknownForm = 6,
+    Unproven = 7,
+    BadSetup = 8,
+    NoExchange = 9,
+    BadWindow = 10,
+    NoWrite = 11,
 }
 
 impl Refusal {
     pub fn number(self) -> u8
         ensures { result ≡ number_of self }
     {
-        match self {
-            Refusal::ShortBuffer => 1,
-            Refusal::IllFormed => 2,
-            Refusal::BadSize => 3,
-            Refusal::NotOurs => 4,
-            Refusal::BadSource => 5,
-            Refusal::UnknownForm => 6,
-            Refusal::Unproven => 7,
-            Refusal::BadSetup => 8,
-            Refusal::NoExchange => 9,
-            Refusal::BadWindow => 10,
-            Refusal::NoWrite => 11,
-        }
+        self as u8
     }
 }

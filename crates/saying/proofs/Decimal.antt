@@ -1,14 +1,17 @@
 -- The fewest digits of a number, as `io::decimal` gives them, are the number in decimal. Assumes nothing.
-use mathlib.Core.Path.{◌≡◌, refl, ◌∙◌}
-use mathlib.Core.List.{[], ◌∷◌}
+use mathlib.Core.Path.{◌≡◌, refl, sym, ap, ◌∙◌}
+use mathlib.Core.List.{List, [], ◌∷◌}
 use Prim.Native.Nat.{ℕ, zero, suc, ◌*◌, ◌-◌, ◌/◌, ◌%◌, ◌^◌, ◌≤◌, ◌<◌}
 use native.Mathlib.Nat.{pow-suc, div-lt_iff_lt-mul, le-div_iff_mul-le, mod-eq_of_lt, one-le-pow, pow-le-pow_right, le_trans}
 use native.Mathlib.Decide.{dec_le}
 use native.Mathlib.Numerals.{add-one}
 use native.Mathlib.Omega.{arith}
-use lib.ListN.{length, length-append}
+use lib.ListN.{length, take, drop, length-append}
+use lib.Seq.{take_at}
 use borrow.Author.Tests.{lt-ltb, le-ltb}
 use Rattle.io.specs.Digits.{hex_digit_ascii, last_digits, IsDigitCount}
+use Rattle.wire.specs.Bytes.{Wrote}
+use Rattle.wire.proofs.Fronts.{onto_fits}
 use Rattle.saying.specs.Text.{spell, decimal}
 
 pub length_digits : (k n : ℕ) → length (last_digits 10 k n) ≡ k
@@ -43,6 +46,17 @@ at_most_20 k n h f =
           absurd (omega arith))
     ]
 
-pub decimal_is : (k n : ℕ) → k ≤ 20 → IsDigitCount 10 1 n k → last_digits 10 k n ≡ decimal n
+pub decimal_is : (k n : ℕ) → n < 2 ^ 64 → IsDigitCount 10 1 n k → last_digits 10 k n ≡ decimal n
 unfolding decimal
-decimal_is k n h f = spelled k 20 n h f
+decimal_is k n h f = spelled k 20 n (at_most_20 k n h f) f
+
+-- what `put_decimal` wrote into twenty bytes, taken out again
+module _ (n : ℕ) {z d : List ℕ} {k : ℕ} (w : Wrote (decimal n) z d k 20) where
+  pub digits_few : length (decimal n) ≤ 20
+  digits_few = let l = w.long in let f = w.fits in omega (arith, l, f)
+
+  pub digits_taken : length z ≡ 20 → take k d ≡ decimal n
+  digits_taken long =
+      let few = digits_few in
+      let there : length (decimal n) ≤ length z = omega (arith, few, long) in
+      ap (take k) (w.is ∙ onto_fits (decimal n) z there) ∙ take_at (decimal n) (drop (length (decimal n)) z) k (sym w.long)

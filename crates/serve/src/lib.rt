@@ -5,7 +5,7 @@ ghost use Rattle.std.specs.Prelude.{◌≡◌, ◌-◌, ◌≤◌, length, drop}
 ghost use Rattle.state.specs.Kinds.{is_write};
 ghost use Rattle.reply.specs.Payload.{sense_bytes};
 ghost use Rattle.reply.specs.Reply.{sent_of, written_of};
-ghost use Rattle.formed.specs.Formed.{full_frame, next_bytes};
+ghost use Rattle.formed.specs.Formed.{full_frame, total, next_bytes};
 ghost use Rattle.serve.specs.Made.{inquiry_first, inquiry_bytes, capacity_bytes, sense_of, made_bytes};
 ghost use Rattle.serve.specs.Next.{has_more, reads_more, burst_of, ready_reply, place_of, window_place, frame_of, next_reply, next_exchange, source_of, asked_by};
 ghost use Rattle.serve.specs.Turn.{next_turn, next_turn_buffer};
@@ -21,18 +21,19 @@ use state::{
     Change, Exchange, Own, Unit, advance, ask_data, empty_exchange, exchange_at, find_exchange,
     put_exchange,
 };
-use wire::{bytes4, least, put_at, put_front};
+use wire::{BigEndian, put_at, put_front};
 
 // The next frame of the exchange of an address and an OX_ID, from a window of the unit's bytes that starts at a block; v is what a call of that address sees.
 // Refused by the first of 9, 7, 10 that fits. A buffer under 2,136 bytes is left alone, and whether the state is well formed is the caller's to tell.
+// Out of line, so that its stack and that of the test of the state are not there at once.
 #[tactic(auto, unfolding(crate::specs::Turn::next_turn, crate::specs::Turn::next_turn_buffer))]
+#[inline(never)]
 pub fn next(v: View, address: u32, ox_id: u16, start: u64, window: &[u8], reply: &mut [u8]) -> Turn
     ensures value { result ≡ next_turn v address ox_id start window.now (length reply.old) }
     ensures reply_after { reply.new ≡ next_turn_buffer v address ox_id start window.now reply.old }
 {
-    let seat = v.seat;
     let l = v.login;
-    let Some(i) = seat else {
+    let Some(i) = v.seat else {
         return refuse_turn(Refusal::NoExchange);
     };
     let Some(j) = find_exchange(l, ox_id) else {
@@ -45,8 +46,7 @@ pub fn next(v: View, address: u32, ox_id: u16, start: u64, window: &[u8], reply:
     let Some(k) = window_place(l.size, e, start, window.len()) else {
         return refuse_turn(Refusal::BadWindow);
     };
-    let o = v.own;
-    let h = asked_by(o.address, address, ox_id);
+    let h = asked_by(v.own.address, address, ox_id);
     let n = put_frame(v, h, e, k, window, reply);
     let f = next_exchange(l.size, e);
     let m = put_exchange(l, j, f);
@@ -58,14 +58,15 @@ pub fn next(v: View, address: u32, ox_id: u16, start: u64, window: &[u8], reply:
     }
 }
 
-// The same in a window of at most 65,536 bytes; in a longer one nowhere.
+// Where the frame's first byte stands, in a window of at most 65,536 bytes; in a longer one nowhere.
 fn window_place(size: u16, e: Exchange, start: u64, len: usize) -> Option<usize>
     ensures { result ≡ window_place (full_frame size) e start len }
 {
     if too_long(len) {
-        return None;
+        None
+    } else {
+        place_of(size, e, start, len)
     }
-    place_of(size, e, start, len)
 }
 
 // Where the frame's first byte stands: of READ data in the window, if that holds all of the frame's bytes; of made data among these.
@@ -73,19 +74,17 @@ fn place_of(size: u16, e: Exchange, start: u64, len: usize) -> Option<usize>
     ensures { result ≡ place_of (full_frame size) e start len }
 {
     if reads_more(e) {
-        return covered(e.start, e.sent, next_bytes(size, e), start, len);
+        covered(e.start, e.sent, next_bytes(size, e), start, len)
+    } else {
+        Some(e.sent as usize)
     }
-    Some(e.sent as usize)
 }
 
 // Whether the next frame carries READ data.
 fn reads_more(e: Exchange) -> bool
     ensures { result ≡ reads_more e }
 {
-    if e.kind != Exchange::BLOCKS {
-        return false;
-    }
-    if is_write(e) { false } else { has_more(e) }
+    e.kind == Exchange::BLOCKS && !is_write(e) && has_more(e)
 }
 
 // Whether the data of an exchange come from the host.
@@ -102,52 +101,38 @@ fn has_more(e: Exchange) -> bool
     e.sent < total_of(e)
 }
 
+// The bytes that are left to send.
+fn left_of(e: Exchange) -> u32
+    ensures { result ≡ total e - e.sent }
+{
+    total_of(e).saturating_sub(e.sent)
+}
+
 // The bytes of the next data frame.
 fn next_bytes(size: u16, e: Exchange) -> u32
     ensures { (result ≡ next_bytes (full_frame size) e) × (result ≤ 2048) }
 {
-    let full = full_frame(size);
-    let all = total_of(e);
-    if all <= e.sent {
-        return 0;
-    }
-    let left = all - e.sent;
-    if full < left { full } else { left }
+    full_frame(size).min(left_of(e))
 }
 
 // Writes the next frame of an exchange of the login that is seen, its data from place k of their source on.
+// kept: a kind is a number, here and below, as the stored state has it (C interface), and the source is picked by it, since the four are of other lengths
 fn put_frame(v: View, h: Header, e: Exchange, k: usize, window: &[u8], reply: &mut [u8]) -> usize
     ensures value { result ≡ sent_of v.own h (next_reply (full_frame v.login.size) e) (source_of v.unit e k window.now) (length reply.old) }
     ensures reply_after { reply.new ≡ written_of v.own h (next_reply (full_frame v.login.size) e) (source_of v.unit e k window.now) reply.old }
 {
-    let l = v.login;
     let o = v.own;
-    let r = next_reply(l.size, e);
-    if e.kind == Exchange::BLOCKS {
-        return put_from(o, h, r, window, k, reply);
+    let r = next_reply(v.login.size, e);
+    let kind = e.kind;
+    if kind == Exchange::BLOCKS {
+        put_from(o, h, r, window, k, reply)
+    } else if kind <= Exchange::INQUIRY_OTHER_UNIT {
+        put_from(o, h, r, &inquiry_bytes(v.unit.identity, kind), k, reply)
+    } else if kind == Exchange::READ_CAPACITY {
+        put_from(o, h, r, &capacity_bytes(v.unit), k, reply)
+    } else {
+        put_from(o, h, r, &sense_bytes(sense_of(kind)), k, reply)
     }
-    put_made(v, h, r, e.kind, k, reply)
-}
-
-// Writes a reply whose data are the made data of a kind from place k on.
-fn put_made(v: View, h: Header, r: Reply, kind: u16, k: usize, reply: &mut [u8]) -> usize
-    ensures value { result ≡ sent_of v.own h r (drop k (made_bytes v.unit kind)) (length reply.old) }
-    ensures reply_after { reply.new ≡ written_of v.own h r (drop k (made_bytes v.unit kind)) reply.old }
-{
-    let u = v.unit;
-    let o = v.own;
-    if kind <= Exchange::INQUIRY_OTHER_UNIT {
-        let identity = u.identity;
-        let b = inquiry_bytes(identity, kind);
-        return put_from(o, h, r, &b, k, reply);
-    }
-    if kind == Exchange::READ_CAPACITY {
-        let b = capacity_bytes(u);
-        return put_from(o, h, r, &b, k, reply);
-    }
-    let s = sense_of(kind);
-    let b = sense_bytes(s);
-    put_from(o, h, r, &b, k, reply)
 }
 
 // Writes a reply whose data are the source from place k on.
@@ -155,8 +140,7 @@ fn put_from(o: Own, h: Header, r: Reply, source: &[u8], k: usize, reply: &mut [u
     ensures value { result ≡ sent_of o h r (drop k source.now) (length reply.old) }
     ensures reply_after { reply.new ≡ written_of o h r (drop k source.now) reply.old }
 {
-    let a = least(k, source.len());
-    write(o, h, r, &source[a..], reply)
+    write(o, h, r, &source[k.min(source.len())..], reply)
 }
 
 // The header of a frame from an address to ours, to which the next frame is a reply.
@@ -184,39 +168,30 @@ fn ready_reply(e: Exchange) -> Reply
     ensures { result ≡ ready_reply e }
 {
     if e.awaited == 1 {
-        return Reply::Nothing;
+        Reply::Nothing
+    } else {
+        Reply::Ready(e.sent, burst_of(e))
     }
-    Reply::Ready(e.sent, burst_of(e))
 }
 
 // The bytes that are asked for at a time: those left, 65,536 at most.
 fn burst_of(e: Exchange) -> u32
     ensures { result ≡ burst_of e }
 {
-    let all = total_of(e);
-    if all <= e.sent {
-        return 0;
-    }
-    let left = all - e.sent;
-    if left < Exchange::MOST_BURST {
-        left
-    } else {
-        Exchange::MOST_BURST
-    }
+    left_of(e).min(Exchange::MOST_BURST)
 }
 
 // The next data frame, what asks for one, or FCP_RSP where all data are sent.
 fn next_reply(size: u16, e: Exchange) -> Reply
     ensures { result ≡ next_reply (full_frame size) e }
 {
-    if has_more(e) {
-        if is_write(e) {
-            return ready_reply(e);
-        }
-        return Reply::Data(frame_of(size, e));
+    if !has_more(e) {
+        Reply::Respond(Response::Status(0, residual_of(e.wanted, e.expected)))
+    } else if is_write(e) {
+        ready_reply(e)
+    } else {
+        Reply::Data(frame_of(size, e))
     }
-    let x = Response::Status(0, residual_of(e.wanted, e.expected));
-    Reply::Respond(x)
 }
 
 // The next data frame: where its bytes stand among those of the exchange, its number, how many they are, and whether they are the last.
@@ -236,16 +211,16 @@ fn frame_of(size: u16, e: Exchange) -> DataFrame
 fn next_exchange(size: u16, e: Exchange) -> Exchange
     ensures { result ≡ next_exchange (full_frame size) e }
 {
-    if has_more(e) {
-        if is_write(e) {
-            return ask_data(e);
-        }
-        return advance(e, next_bytes(size, e));
+    if !has_more(e) {
+        empty_exchange()
+    } else if is_write(e) {
+        ask_data(e)
+    } else {
+        advance(e, next_bytes(size, e))
     }
-    empty_exchange()
 }
 
-// INQUIRY data, of another unit than 0 with 7Fh first.
+// INQUIRY data, of another unit than 0 with 7Fh first. Made data are made out of line, so that a next frame takes no more stack than the header tells.
 fn inquiry_bytes(identity: [u8; 28], kind: u16) -> [u8; 36]
     ensures { result ≡ inquiry_bytes identity kind }
 {
@@ -269,10 +244,11 @@ fn inquiry_first(kind: u16) -> u8
 }
 
 // READ CAPACITY data: the last block's address, and the bytes of a block.
+// kept: byte by byte, in the order of the wire
 fn capacity_bytes(u: Unit) -> [u8; 8]
     ensures { result ≡ capacity_bytes u.capacity }
 {
-    let last = bytes4((last_block(u.capacity) % 4294967296) as u32);
+    let last = ((last_block(u.capacity) % 4294967296) as u32).bytes();
     [last[0], last[1], last[2], last[3], 0x00, 0x00, 0x02, 0x00]
 }
 
@@ -280,26 +256,23 @@ fn capacity_bytes(u: Unit) -> [u8; 8]
 fn last_block(capacity: u64) -> u64
     ensures { result ≡ capacity - 1 }
 {
-    if capacity < 1 { 0 } else { capacity - 1 }
+    capacity.saturating_sub(1)
 }
 
 // What REQUEST SENSE tells.
 fn sense_of(kind: u16) -> Sense
     ensures { result ≡ sense_of kind }
 {
-    if kind == Exchange::SENSE_RESET {
-        return sense_with(0x06, 0x29);
+    match kind {
+        Exchange::SENSE_RESET => sense_with(0x06, 0x29),
+        Exchange::SENSE_CLEARED => sense_with(0x06, 0x2f),
+        Exchange::SENSE_OTHER_UNIT => sense_with(0x05, 0x25),
+        _ => sense_with(0x00, 0x00),
     }
-    if kind == Exchange::SENSE_CLEARED {
-        return sense_with(0x06, 0x2f);
-    }
-    if kind == Exchange::SENSE_OTHER_UNIT {
-        return sense_with(0x05, 0x25);
-    }
-    sense_with(0x00, 0x00)
 }
 
 // The 18 bytes of a sense.
+// kept: written over zeros and not by From, by which a next frame takes 128 bytes of stack more, over the header's number
 #[tactic(auto, unfolding(reply::specs::Payload::sense_bytes, wire::specs::Bytes::onto))]
 fn sense_bytes(s: Sense) -> [u8; 18]
     ensures { result ≡ sense_bytes s }

@@ -1,5 +1,5 @@
 -- What the places of an open exchange tell of the tables, and what a change at these places leaves. Assumes nothing.
-use Rattle.std.proofs.Common.{◌≡◌, ℕ, ◌<◌, true, false, not, eqb, length, get_or, sym, refl, ap, ◌∙◌, arith, get_or-set_other, get_or-set_same, set-set, Option, Some, None}
+use Rattle.std.proofs.Common.{◌≡◌, ℕ, ◌<◌, true, false, not, eqb, length, get_or, sym, refl, ap, ◌∙◌, get_or-set_other, get_or-set_same, set-set, Option, Some, None}
 use borrow.Author.Tests.{not-true}
 use Rattle.tables.specs.Lists.{on_found}
 use Rattle.tables.proofs.Bools.{and_left}
@@ -13,13 +13,13 @@ use Rattle.state.specs.Tables.{has_id, find_login, find_exchange, login_in, logi
 
 inner_place : (k i j : ℕ) (g : Option ℕ) → on_found g (λ n. Open k n) (NoExchange k) ≡ Open i j → (k ≡ i) × (g ≡ Some j)
 inner_place k i j (Some n) e = ((cc), ap Some (cc))
-inner_place k i j None e = let z : ◌≡◌ {A = ℕ} 0 1 = cc in absurd (omega arith)
+inner_place k i j None e = absurd (cc)
 
 outer_place : (p : Port) (x i j : ℕ) (g : Option ℕ) → standing_in g (find_exchange (login_in p g) x) ≡ Open i j → (g ≡ Some i) × (find_exchange (login_at p i) x ≡ Some j)
 outer_place p x i j (Some k) e =
     let h = inner_place k i j (find_exchange (login_at p k) x) e in
     (ap Some h.0, ap (λ (m : ℕ). find_exchange (login_at p m) x) (sym h.0) ∙ h.1)
-outer_place p x i j None e = let z : ◌≡◌ {A = ℕ} 0 1 = cc in absurd (omega arith)
+outer_place p x i j None e = absurd (cc)
 
 -- the login that is found is used and has the address
 pub found_has : (p : Port) (a i : ℕ) → find_login p a ≡ Some i → has_address a (login_at p i) ≡ true

@@ -1,107 +1,48 @@
 // What each change makes of one login (document 01, the events of "Link services" and the task flags of "Commands").
-#![tactic(auto, unfolding(crate::specs::Changes::freed_of, crate::specs::Changes::ended_of, crate::specs::Changes::host_ended, crate::specs::Changes::unproven, crate::specs::Changes::verified, crate::specs::Changes::aborted_of, crate::specs::Changes::reset_of, crate::specs::Changes::loses_to, crate::specs::Changes::cleared_by))]
+#![tactic(auto, unfolding(crate::specs::Changes::freed_of, crate::specs::Changes::ended_of, crate::specs::Changes::host_ended, crate::specs::Changes::unproven, crate::specs::Changes::verified, crate::specs::Changes::aborted_of, crate::specs::Changes::reset_of, crate::specs::Changes::loses_to, crate::specs::Changes::cleared_by, crate::specs::Changes::changed_all))]
 
 ghost use Rattle.std.specs.Prelude.{◌≡◌};
-ghost use Rattle.state.specs.Changes.{freed_of, ended_of, host_ended, unproven, verified, aborted_of, reset_of, loses_to, cleared_by};
+ghost use Rattle.state.specs.Changes.{loses_to, changed_of, changed_all};
 
-use crate::Login;
 use crate::searches::{all_closed, has_address, is_host};
-use crate::stored::{empty_login, end_exchanges, set_attention};
+use crate::stored::{end_exchanges, set_attention};
+use crate::{Change, Login, Port};
 
-pub(crate) fn freed(l: Login) -> Login
-    ensures { result ≡ freed_of l }
+// What a change makes of one login. A free place stays free.
+pub fn changed(l: Login, c: Change) -> Login
+    ensures { result ≡ changed_of c l }
 {
-    if l.used == 1 { empty_login() } else { l }
-}
-
-pub(crate) fn ended(l: Login, address: u32) -> Login
-    ensures { result ≡ ended_of address l }
-{
-    if has_address(l, address) {
-        empty_login()
-    } else {
-        l
+    match c {
+        Change::Keep => l,
+        Change::EndAll if l.used == 1 => Login::EMPTY,
+        Change::EndLogin(address) if has_address(l, address) => Login::EMPTY,
+        Change::EndHost(address, name) if is_host(l, address, name) => Login::EMPTY,
+        Change::Unprove if l.used == 1 => Login { proven: 0, ..l },
+        Change::EndUnproven if l.used == 1 && l.proven != 1 => Login::EMPTY,
+        Change::EndExchangesOf(address) if has_address(l, address) => end_exchanges(l),
+        Change::Reset if l.used == 1 => set_attention(end_exchanges(l), Login::RESET),
+        Change::Clear(from) if l.used == 1 && loses_to(l, from) => {
+            set_attention(end_exchanges(l), Login::CLEARED)
+        },
+        Change::Clear(_) if l.used == 1 => end_exchanges(l),
+        _ => l,
     }
 }
 
-pub(crate) fn host_ended(l: Login, address: u32, name: u64) -> Login
-    ensures { result ≡ host_ended address name l }
+// The change at every login of the table.
+pub fn change_all(p: Port, c: Change) -> Port
+    ensures { result ≡ changed_all c p }
 {
-    if is_host(l, address, name) {
-        empty_login()
-    } else {
-        l
+    let mut q = p;
+    for l in &mut q.logins {
+        *l = changed(*l, c);
     }
-}
-
-pub(crate) fn unproved(l: Login) -> Login
-    ensures { result ≡ unproven l }
-{
-    if l.used == 1 {
-        let mut m = l;
-        m.proven = 0;
-        m
-    } else {
-        l
-    }
-}
-
-pub(crate) fn time_over(l: Login) -> Login
-    ensures { result ≡ verified l }
-{
-    if l.used == 1 {
-        if l.proven == 1 { l } else { empty_login() }
-    } else {
-        l
-    }
-}
-
-pub(crate) fn aborted(l: Login, address: u32) -> Login
-    ensures { result ≡ aborted_of address l }
-{
-    if has_address(l, address) {
-        end_exchanges(l)
-    } else {
-        l
-    }
-}
-
-pub(crate) fn reset(l: Login) -> Login
-    ensures { result ≡ reset_of l }
-{
-    if l.used == 1 {
-        let m = end_exchanges(l);
-        set_attention(m, Login::RESET)
-    } else {
-        l
-    }
-}
-
-pub(crate) fn cleared(l: Login, from: u32) -> Login
-    ensures { result ≡ cleared_by from l }
-{
-    if l.used == 1 {
-        let m = end_exchanges(l);
-        if loses_to(l, from) {
-            set_attention(m, Login::CLEARED)
-        } else {
-            m
-        }
-    } else {
-        l
-    }
+    q
 }
 
 // Whether a login is another than the sender's, has an exchange to lose, and no attention 29h that stands.
 fn loses_to(l: Login, from: u32) -> bool
     ensures { result ≡ loses_to from l }
 {
-    let t = l.places;
-    if l.address == from {
-        return false;
-    }
-    if all_closed(t) {
-        return false;
-    }
-    l.attention != Login::RESET
+    l.address != from && !all_closed(l.places) && l.attention != Login::RESET
 }

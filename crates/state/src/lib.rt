@@ -7,9 +7,9 @@ mod searches;
 mod stored;
 
 ghost use Rattle.std.specs.Prelude.{◌≡◌};
-ghost use Rattle.state.specs.Changes.{own_of, changed_of, changed_all};
+ghost use Rattle.state.specs.Changes.{own_of};
 
-use changes::{aborted, cleared, ended, freed, host_ended, reset, time_over, unproved};
+pub use changes::{change_all, changed};
 pub use searches::{all_closed, find_exchange, free_exchange, is_closed, is_free};
 pub use stored::{
     advance, ask_data, empty_exchange, empty_login, end_exchange, end_exchanges, exchange_at,
@@ -17,6 +17,7 @@ pub use stored::{
 };
 
 // A place for an open exchange of a login. What its data are is told by kind; a free place has kind 0.
+// kept: kind, direction and awaited are numbers, since the C interface fixes the layout, and any bytes are a state
 #[repr(C)]
 #[derive(Clone, Copy)]
 pub struct Exchange {
@@ -38,6 +39,21 @@ pub struct Exchange {
 }
 
 impl Exchange {
+    // a free place
+    pub const EMPTY: Exchange = Exchange {
+        start: 0,
+        blocks: 0,
+        wanted: 0,
+        expected: 0,
+        sent: 0,
+        ox_id: 0,
+        count: 0,
+        direction: 0,
+        awaited: 0,
+        kind: 0,
+    };
+
+    // kept: the kinds and directions as the C interface stores them
     pub const FREE: u16 = 0;
 
     pub const BLOCKS: u16 = 1;
@@ -67,6 +83,7 @@ impl Exchange {
 }
 
 // A place for a login. Flags are 0 or 1; attention is 0, 29h or 2Fh.
+// kept: flags and attention are numbers, and exchanges are known by their place, since the C interface fixes the layout
 #[repr(C)]
 #[derive(Clone, Copy)]
 pub struct Login {
@@ -85,6 +102,22 @@ pub struct Login {
 }
 
 impl Login {
+    // a free place, with no exchange
+    pub const EMPTY: Login = Login {
+        used: 0,
+        proven: 0,
+        paired: 0,
+        attention: 0,
+        concurrent: 0,
+        sequences: 0,
+        size: 0,
+        address: 0,
+        port_name: [0; 8],
+        node_name: [0; 8],
+        places: [Exchange::EMPTY; 8],
+    };
+
+    // kept: the attentions as the C interface stores them
     pub const NO_ATTENTION: u8 = 0;
 
     pub const RESET: u8 = 0x29;
@@ -95,6 +128,7 @@ impl Login {
 }
 
 // One loop's side of the drive: its address, words 1 to 28 of its login accept, and its logins.
+// kept: logins are known by their place in a table of eight, since the C interface fixes the layout
 #[repr(C)]
 #[derive(Clone, Copy)]
 pub struct Port {
@@ -115,6 +149,7 @@ pub struct Own {
 }
 
 // The logical unit: its capacity in blocks of 512 bytes, its 28 identity bytes, and whether hosts may write it, 0 or 1.
+// kept: writable is a number, since the C interface fixes the layout
 #[repr(C)]
 #[derive(Clone, Copy)]
 pub struct Unit {
@@ -124,6 +159,7 @@ pub struct Unit {
 }
 
 // What a drive is made from.
+// kept: writable is a number, since the C interface fixes the layout
 #[repr(C)]
 #[derive(Clone, Copy)]
 pub struct Setup {
@@ -164,47 +200,15 @@ pub enum Change {
 }
 
 // What a reply and the rules take from a port.
-#[tactic(auto, unfolding(crate::specs::Changes::own_of))]
-pub fn own_of(p: Port) -> Own
-    ensures { result ≡ own_of p }
-{
-    let accept = p.accept;
-    Own {
-        address: p.address,
-        accept: accept,
-    }
-}
+impl From<&Port> for Own {
+    ghost from_gives = { λ p o. o ≡ own_of p.now };
 
-// What a change makes of one login. A free place stays free.
-pub fn changed(l: Login, c: Change) -> Login
-    ensures { result ≡ changed_of c l }
-{
-    match c {
-        Change::Keep => l,
-        Change::EndAll => freed(l),
-        Change::EndLogin(address) => ended(l, address),
-        Change::EndHost(address, name) => host_ended(l, address, name),
-        Change::Unprove => unproved(l),
-        Change::EndUnproven => time_over(l),
-        Change::EndExchangesOf(address) => aborted(l, address),
-        Change::Reset => reset(l),
-        Change::Clear(from) => cleared(l, from),
+    #[tactic(auto, unfolding(crate::specs::Changes::own_of))]
+    fn from(p: &Port) -> Own {
+        let accept = p.accept;
+        Own {
+            address: p.address,
+            accept,
+        }
     }
-}
-
-// The change at every login of the table.
-pub fn change_all(p: Port, c: Change) -> Port
-    ensures { result ≡ changed_all c p }
-{
-    let mut t = p.logins;
-    let mut i: usize = 0;
-    while i < Port::LOGINS {
-        let l = t[i];
-        let m = changed(l, c);
-        t[i] = m;
-        i += 1;
-    }
-    let mut q = p;
-    q.logins = t;
-    q
 }

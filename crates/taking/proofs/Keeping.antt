@@ -1,4 +1,5 @@
 -- No data frame makes a state ill formed. Assumes nothing.
+use Rattle.std.specs.Prelude.{Ok, Err, Result}
 use Prim.Native.Nat.{ℕ, ◌+◌, ◌≤◌}
 use mathlib.Core.Path.{◌≡◌, refl, subst}
 use mathlib.Core.Bool.{true}
@@ -14,7 +15,9 @@ use Rattle.calls.specs.Turn.{Decided}
 use Rattle.calls.proofs.Decisions.{on_found_lem}
 use Rattle.calls.proofs.Keeping.{Keeps, stays, stored_kept}
 use Rattle.taking.specs.declared.Step.{Step}
-use Rattle.taking.specs.declared.Step.TheVariants.{NoWrite, Fault, Uncovered, Take}
+use Rattle.taking.specs.declared.Untaken.{Untaken}
+use Rattle.taking.specs.declared.Step.TheVariants.{Fault, Take}
+use Rattle.taking.specs.declared.Untaken.TheVariants.{NoWrite, Uncovered}
 use Rattle.taking.specs.Taking.{data_size, burst_end, step_in, taken_on, served_by, served_data, data_decided}
 use Rattle.taking.proofs.Steps.{found_open, Takes, Means, step_means}
 use Rattle.taking.proofs.Bursts.{taken_on_fine}
@@ -25,12 +28,12 @@ module _ (u : Unit) (own : ℕ) (l : Login) (x offset n start len : ℕ) where
   within : {j k : ℕ} → Takes l x offset n start len j k → (exchange_at l j).sent + n ≤ burst_end (exchange_at l j)
   within {j} t = subst (λ (s : ℕ). s + n ≤ burst_end (exchange_at l j)) t.next t.burst
 
-  step_keeps : (s : Step) → Means l x offset n start len s → Keeps u own l (served_by s l n).login
+  step_keeps : (s : Result Step Untaken) → Means l x offset n start len s → Keeps u own l (served_by s l n).login
   unfolding with_exchange
-  step_keeps NoWrite m = stays refl refl refl (λ h. h)
-  step_keeps (Fault j code) m = stays refl refl refl (λ h. end_used h j)
-  step_keeps Uncovered m = stays refl refl refl (λ h. h)
-  step_keeps (Take j k) m =
+  step_keeps (Err NoWrite) m = stays refl refl refl (λ h. h)
+  step_keeps (Ok (Fault j code)) m = stays refl refl refl (λ h. end_used h j)
+  step_keeps (Err Uncovered) m = stays refl refl refl (λ h. h)
+  step_keeps (Ok (Take j k)) m =
       let e = exchange_at l j in
       stays refl refl refl (λ h. change_used h j (taken_on e n) refl refl (taken_on_fine u (full_frame l.size) l.paired e n (found_open l x j m.found) m.write (within m)))
 

@@ -1,5 +1,5 @@
 -- A data frame changes exchanges of its sender's login alone. Assumes nothing.
-use Rattle.std.specs.Prelude.{Option, Some, None}
+use Rattle.std.specs.Prelude.{Option, Some, None, Ok, Err, Result}
 use Prim.Native.Nat.{ℕ, ◌<◌}
 use mathlib.Core.Path.{◌≡◌, refl, sym, ap, ◌∙◌}
 use mathlib.Core.Bool.{true}
@@ -30,7 +30,9 @@ use Rattle.calls.proofs.Views.{view_seat, view_login}
 use Rattle.calls.proofs.Decisions.{on_found_lem}
 use Rattle.calls.proofs.Others.{other_has, seat_another}
 use Rattle.taking.specs.declared.Step.{Step}
-use Rattle.taking.specs.declared.Step.TheVariants.{NoWrite, Fault, Uncovered, Take}
+use Rattle.taking.specs.declared.Untaken.{Untaken}
+use Rattle.taking.specs.declared.Step.TheVariants.{Fault, Take}
+use Rattle.taking.specs.declared.Untaken.TheVariants.{NoWrite, Uncovered}
 use Rattle.taking.specs.Taking.{data_size, step_in, on_step, served_by, served_data, data_decided, taking_turn}
 
 -- a login with other exchanges: nothing of its record changes
@@ -45,12 +47,12 @@ unfolding has_address
 exchanged_has (exchanged es) a = refl
 
 -- what a data frame makes of a login
-step_exchanges : (s : Step) (l : Login) (n : ℕ) → Exchanged l (served_by s l n).login
+step_exchanges : (s : Result Step Untaken) (l : Login) (n : ℕ) → Exchanged l (served_by s l n).login
 unfolding with_exchange
-step_exchanges NoWrite l n = itself l
-step_exchanges (Fault j code) l n = exchanged _
-step_exchanges Uncovered l n = itself l
-step_exchanges (Take j k) l n = exchanged _
+step_exchanges (Err NoWrite) l n = itself l
+step_exchanges (Ok (Fault j code)) l n = exchanged _
+step_exchanges (Err Uncovered) l n = itself l
+step_exchanges (Ok (Take j k)) l n = exchanged _
 
 pub served_exchanges : (l : Login) (h : Header) (size start len : ℕ) → Exchanged l (served_data l h size start len).login
 unfolding served_data
@@ -111,11 +113,11 @@ taking_cases : (P : Turn → Type 0) (v : View) (h : Header) (size start len roo
 unfolding taking_turn
 taking_cases P v h size start len room refuses serves = on_found_lem P v.seat _ _ (λ i at. by i at (step_in v.login h size start len)) (λ _. refuses refusal.NoWrite)
   where
-    by : (i : ℕ) → v.seat ≡ Some i → (s : Step) → P (on_step s refused_turn (sent_turn (sent_of v.own h (served_data v.login h size start len).reply [] room) (served_in i (served_data v.login h size start len))))
-    by i at NoWrite = refuses refusal.NoWrite
-    by i at (Fault j code) = serves i _ at
-    by i at Uncovered = refuses refusal.BadWindow
-    by i at (Take j k) = serves i _ at
+    by : (i : ℕ) → v.seat ≡ Some i → (s : Result Step Untaken) → P (on_step s refused_turn (sent_turn (sent_of v.own h (served_data v.login h size start len).reply [] room) (served_in i (served_data v.login h size start len))))
+    by i at (Err NoWrite) = refuses refusal.NoWrite
+    by i at (Ok (Fault j code)) = serves i _ at
+    by i at (Err Uncovered) = refuses refusal.BadWindow
+    by i at (Ok (Take j k)) = serves i _ at
 
 -- no change of every login
 pub taking_keeps : (v : View) (h : Header) (size start len room : ℕ) → (taking_turn v h size start len room).change ≡ Keep

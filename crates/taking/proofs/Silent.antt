@@ -1,5 +1,5 @@
 -- What a data frame is answered, and what becomes of its exchange and of every other: by what it comes to. Assumes nothing.
-use Rattle.std.specs.Prelude.{Option, Some, None}
+use Rattle.std.specs.Prelude.{Option, Some, None, Ok, Err, Result}
 use Prim.Native.Nat.{ℕ, ◌<◌}
 use mathlib.Core.Path.{◌≡◌, refl, sym, ap, ◌∙◌, subst}
 use mathlib.Core.Bool.{true, false, not, and-false}
@@ -30,23 +30,25 @@ use Rattle.calls.proofs.Decisions.{on_found_lem, stays_put}
 use Rattle.calls.proofs.Others.{other_has, stored_sees}
 use Rattle.calls.proofs.Standing.{stands_there}
 use Rattle.taking.specs.declared.Step.{Step}
-use Rattle.taking.specs.declared.Step.TheVariants.{NoWrite, Fault, Uncovered, Take}
+use Rattle.taking.specs.declared.Untaken.{Untaken}
+use Rattle.taking.specs.declared.Step.TheVariants.{Fault, Take}
+use Rattle.taking.specs.declared.Untaken.TheVariants.{NoWrite, Uncovered}
 use Rattle.taking.specs.Taking.{data_size, step_in, no_write, taken_on, served_by, served_data, data_decided}
 use Rattle.taking.proofs.Steps.{found_id, Faults, Takes, Means, step_means, step_faults, step_takes, empty_step}
 use Rattle.taking.proofs.Others.{Exchanged, exchanged, exchanged_has, served_exchanges, data_found, data_exchanges, data_own}
 
 -- nothing is sent, but for a fault
-abbrev pub reply_by : Step → Reply
-reply_by NoWrite = reply.Nothing
-reply_by (Fault j code) = reply.Respond (response.Code code)
-reply_by Uncovered = reply.Nothing
-reply_by (Take j k) = reply.Nothing
+abbrev pub reply_by : Result Step Untaken → Reply
+reply_by (Err NoWrite) = reply.Nothing
+reply_by (Ok (Fault j code)) = reply.Respond (response.Code code)
+reply_by (Err Uncovered) = reply.Nothing
+reply_by (Ok (Take j k)) = reply.Nothing
 
-served_reply : (s : Step) (l : Login) (n : ℕ) → (served_by s l n).reply ≡ reply_by s
-served_reply NoWrite l n = refl
-served_reply (Fault j code) l n = refl
-served_reply Uncovered l n = refl
-served_reply (Take j k) l n = refl
+served_reply : (s : Result Step Untaken) (l : Login) (n : ℕ) → (served_by s l n).reply ≡ reply_by s
+served_reply (Err NoWrite) l n = refl
+served_reply (Ok (Fault j code)) l n = refl
+served_reply (Err Uncovered) l n = refl
+served_reply (Ok (Take j k)) l n = refl
 
 -- an exchange has one OX_ID
 other_id : (x y : ℕ) (e : Exchange) → (x ≡ y → ⊥) → has_id x e ≡ true → has_id y e ≡ false
@@ -61,23 +63,23 @@ module _ (l : Login) (x offset n start len y : ℕ) (o : x ≡ y → ⊥) where
   not_its j at = other_id x y (exchange_at l j) o (found_id l x j at)
 
   -- it is found where it was
-  step_finds : (s : Step) → Means l x offset n start len s → find_exchange (served_by s l n).login y ≡ find_exchange l y
+  step_finds : (s : Result Step Untaken) → Means l x offset n start len s → find_exchange (served_by s l n).login y ≡ find_exchange l y
   unfolding find_exchange exchange_at with_exchange has_id
-  step_finds NoWrite m = refl
-  step_finds (Fault j code) m = same_found empty_exchange (has_id y) l.places j empty_exchange (sym (not_its j m.found))
-  step_finds Uncovered m = refl
-  step_finds (Take j k) m = same_found empty_exchange (has_id y) l.places j _ refl
+  step_finds (Err NoWrite) m = refl
+  step_finds (Ok (Fault j code)) m = same_found empty_exchange (has_id y) l.places j empty_exchange (sym (not_its j m.found))
+  step_finds (Err Uncovered) m = refl
+  step_finds (Ok (Take j k)) m = same_found empty_exchange (has_id y) l.places j _ refl
 
   -- and as it was
   module _ (i : ℕ) (at : find_exchange l y ≡ Some i) where
     away : (j : ℕ) → find_exchange l x ≡ Some j → i ≡ j → ⊥
     away j its q = apart (found_id l y i at) (ap (λ (m : ℕ). has_id y (exchange_at l m)) q ∙ not_its j its)
 
-    step_spares : (s : Step) → Means l x offset n start len s → exchange_at (served_by s l n).login i ≡ exchange_at l i
-    step_spares NoWrite m = refl
-    step_spares (Fault j code) m = exchange_other l j i empty_exchange (away j m.found)
-    step_spares Uncovered m = refl
-    step_spares (Take j k) m = exchange_other l j i (taken_on (exchange_at l j) n) (away j m.found)
+    step_spares : (s : Result Step Untaken) → Means l x offset n start len s → exchange_at (served_by s l n).login i ≡ exchange_at l i
+    step_spares (Err NoWrite) m = refl
+    step_spares (Ok (Fault j code)) m = exchange_other l j i empty_exchange (away j m.found)
+    step_spares (Err Uncovered) m = refl
+    step_spares (Ok (Take j k)) m = exchange_other l j i (taken_on (exchange_at l j) n) (away j m.found)
 
 -- the exchange of address a and OX_ID y stands in the port q where it stood in p, and is as it was, at a login of the same fields; our address is the same
 pub record Beside (p q : Port) (a y i j : ℕ) : Type 0 where
@@ -97,7 +99,7 @@ module _ (p : Port) (h : Header) (size start len : ℕ) where
   n = data_size h size
 
   -- what it comes to at its sender's login, and the port after it
-  abbrev step_of : Step
+  abbrev step_of : Result Step Untaken
   step_of = step_in (login_of p from) h size start len
 
   abbrev decided : Port
@@ -116,12 +118,12 @@ module _ (p : Port) (h : Header) (size start len : ℕ) where
       by None = rw (empty_step x h.offset n start len)
 
   -- a sender whose data frame is for an open WRITE has a login, at place i
-  record Seat (s : Step) : Type 0 where
+  record Seat (s : Result Step Untaken) : Type 0 where
     i : ℕ
     at : find_login p from ≡ Some i
     step : step_in (login_at p i) h size start len ≡ s
 
-  seated : (s : Step) → no_write s ≡ false → step_of ≡ s → Seat s
+  seated : (s : Result Step Untaken) → no_write s ≡ false → step_of ≡ s → Seat s
   unfolding login_of
   seated s some = by (find_login p from) refl
     where
@@ -130,26 +132,26 @@ module _ (p : Port) (h : Header) (size start len : ℕ) where
       by None at e = apart (ap no_write (sym e ∙ empty_step x h.offset n start len)) some
 
   -- at a seat the login is served
-  seat_is : {s : Step} (t : Seat s) → data_decided p h size start len ≡ served_at p t.i (served_by s (login_at p t.i) n)
+  seat_is : {s : Result Step Untaken} (t : Seat s) → data_decided p h size start len ≡ served_at p t.i (served_by s (login_at p t.i) n)
   unfolding data_decided served_data
   seat_is t = rw (t.at, t.step)
 
-  seat_stands : {s : Step} (t : Seat s) (j : ℕ) → find_exchange (login_at p t.i) x ≡ Some j → lookup_of p from x ≡ Open t.i j
+  seat_stands : {s : Result Step Untaken} (t : Seat s) (j : ℕ) → find_exchange (login_at p t.i) x ≡ Some j → lookup_of p from x ≡ Open t.i j
   unfolding lookup_of login_of
   seat_stands t j its = rw (t.at, its)
 
   -- for no open WRITE, or uncovered: nothing is sent and nothing changes
-  pub data_no_write : step_in (login_of p h.s_id) h size start len ≡ NoWrite → data_decided p h size start len ≡ decided_as reply.Nothing p
+  pub data_no_write : step_in (login_of p h.s_id) h size start len ≡ (Err NoWrite) → data_decided p h size start len ≡ decided_as reply.Nothing p
   unfolding data_decided served_data login_of
   data_no_write = by (find_login p from)
     where
-      by : (f : Option ℕ) → step_in (login_in p f) h size start len ≡ NoWrite
+      by : (f : Option ℕ) → step_in (login_in p f) h size start len ≡ (Err NoWrite)
           → on_found f (λ i. served_at p i (served_by (step_in (login_at p i) h size start len) (login_at p i) n)) (decided_as reply.Nothing p) ≡ decided_as reply.Nothing p
       by (Some i) e = rw (e, stays_put p i)
       by None e = refl
 
-  pub data_uncovered : step_in (login_of p h.s_id) h size start len ≡ Uncovered → data_decided p h size start len ≡ decided_as reply.Nothing p
-  data_uncovered e = let t = seated Uncovered refl e in seat_is t ∙ ap (decided_as reply.Nothing) (stays_put p t.i)
+  pub data_uncovered : step_in (login_of p h.s_id) h size start len ≡ (Err Uncovered) → data_decided p h size start len ≡ decided_as reply.Nothing p
+  data_uncovered e = let t = seated (Err Uncovered) refl e in seat_is t ∙ ap (decided_as reply.Nothing) (stays_put p t.i)
 
   -- a fault: the exchange stood at place j of its sender's login, which is at place i, and ends
   pub record FaultAt (j code : ℕ) : Type 0 where
@@ -158,9 +160,9 @@ module _ (p : Port) (h : Header) (size start len : ℕ) where
     pub faults : Faults (login_at p i) h.ox_id h.offset (data_size h size) j code
     pub is : data_decided p h size start len ≡ decided_as (reply.Respond (response.Code code)) (with_login p i (ended_at (login_at p i) j))
 
-  pub data_fault : (j code : ℕ) → step_in (login_of p h.s_id) h size start len ≡ Fault j code → FaultAt j code
+  pub data_fault : (j code : ℕ) → step_in (login_of p h.s_id) h size start len ≡ Ok (Fault j code) → FaultAt j code
   data_fault j code e =
-      let t = seated (Fault j code) refl e in
+      let t = seated (Ok (Fault j code)) refl e in
       let m = step_faults (login_at p t.i) x h.offset n start len j code t.step in
       record { i = t.i; stood = seat_stands t j m.found; faults = m; is = seat_is t }
 
@@ -173,10 +175,10 @@ module _ (p : Port) (h : Header) (size start len : ℕ) where
     pub stands : lookup_of (data_decided p h size start len).port h.s_id h.ox_id ≡ Open i j
     pub exchange : exchange_at (login_at (data_decided p h size start len).port i) j ≡ taken_on (exchange_at (login_at p i) j) (data_size h size)
 
-  pub data_take : (j k : ℕ) → step_in (login_of p h.s_id) h size start len ≡ Take j k → TakeAt j k
+  pub data_take : (j k : ℕ) → step_in (login_of p h.s_id) h size start len ≡ Ok (Take j k) → TakeAt j k
   unfolding has_id
   data_take j k e =
-      let t = seated (Take j k) refl e in
+      let t = seated (Ok (Take j k)) refl e in
       let l = login_at p t.i in
       let m = step_takes l x h.offset n start len j k t.step in
       let o = seat_stands t j m.found in

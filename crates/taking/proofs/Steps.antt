@@ -1,5 +1,5 @@
 -- What each of the four things means that a data frame comes to. Assumes nothing.
-use Rattle.std.specs.Prelude.{Option, Some, None}
+use Rattle.std.specs.Prelude.{Option, Some, None, Ok, Err, Result}
 use Prim.Native.Nat.{ℕ, ◌+◌, ◌-◌, ◌*◌, ◌≤◌, ◌<◌}
 use mathlib.Core.Path.{◌≡◌, refl, subst}
 use mathlib.Core.Bool.{Bool, true, false, cond, not}
@@ -17,9 +17,11 @@ use Rattle.state.specs.declared.Login.{Login}
 use Rattle.state.specs.Changes.{empty_exchange, empty_login, is_closed, exchange_at}
 use Rattle.state.specs.Kinds.{is_write}
 use Rattle.state.specs.Tables.{has_id, find_exchange}
-use Rattle.calls.proofs.Decisions.{by_cond, on_found_lem}
+use Rattle.calls.proofs.Decisions.{on_found_lem}
 use Rattle.taking.specs.declared.Step.{Step}
-use Rattle.taking.specs.declared.Step.TheVariants.{NoWrite, Fault, Uncovered, Take}
+use Rattle.taking.specs.declared.Untaken.{Untaken}
+use Rattle.taking.specs.declared.Step.TheVariants.{Fault, Take}
+use Rattle.taking.specs.declared.Untaken.TheVariants.{NoWrite, Uncovered}
 use Rattle.taking.specs.Taking.{burst_end, fault_of, find_write, covered_step, step_of}
 
 -- no place is found, or one is, and no variant is another
@@ -73,39 +75,35 @@ no_write l x = by (find_exchange l x) refl
     by (Some i) at e = inner i at (is_write (exchange_at l i)) refl e
     by None at e = none at
 
--- why n bytes at an offset are a fault, and its RSP_CODE; 00 is none
-pub data FaultBy (e : Exchange) (offset n : ℕ) : ℕ → Type 0 where
-  wrong_offset : (offset ≡ e.sent → ⊥) → FaultBy e offset n 0x03
-  past_burst : offset ≡ e.sent → burst_end e < offset + n → FaultBy e offset n 0x01
-  no_fault : offset ≡ e.sent → offset + n ≤ burst_end e → FaultBy e offset n 0x00
+-- why n bytes at an offset are a fault, and its RSP_CODE, or that they are none
+pub data FaultBy (e : Exchange) (offset n : ℕ) : Option ℕ → Type 0 where
+  wrong_offset : (offset ≡ e.sent → ⊥) → FaultBy e offset n (Some 0x03)
+  past_burst : offset ≡ e.sent → burst_end e < offset + n → FaultBy e offset n (Some 0x01)
+  no_fault : offset ≡ e.sent → offset + n ≤ burst_end e → FaultBy e offset n None
 
 pub fault_by : (e : Exchange) (offset n : ℕ) → FaultBy e offset n (fault_of e offset n)
 unfolding fault_of
 fault_by e offset n = by (eqb offset e.sent) (ltb (burst_end e) (offset + n)) refl refl
   where
-    by : (b c : Bool) → eqb offset e.sent ≡ b → ltb (burst_end e) (offset + n) ≡ c → FaultBy e offset n (cond (not b) 0x03 (cond c 0x01 0x00))
+    by : (b c : Bool) → eqb offset e.sent ≡ b → ltb (burst_end e) (offset + n) ≡ c → FaultBy e offset n (cond (not b) (Some 0x03) (cond c (Some 0x01) None))
     by true true h k = past_burst (eqb-true offset e.sent h) (ltb-true (burst_end e) (offset + n) k)
     by true false h k = no_fault (eqb-true offset e.sent h) (ltb-false (burst_end e) (offset + n) k)
     by false c h k = wrong_offset (eqb-false offset e.sent h)
 
 -- RSP_CODE is 03 or 01
-pub fault_codes : {e : Exchange} {offset n code : ℕ} → FaultBy e offset n code → (code ≡ 0 → ⊥) → (code ≡ 0x03) ⊎ (code ≡ 0x01)
-fault_codes (wrong_offset h) some = inl refl
-fault_codes (past_burst h k) some = inr refl
-fault_codes (no_fault h k) some = absurd (some refl)
+pub fault_codes : {e : Exchange} {offset n code : ℕ} → FaultBy e offset n (Some code) → (code ≡ 0x03) ⊎ (code ≡ 0x01)
+fault_codes (wrong_offset h) = inl refl
+fault_codes (past_burst h k) = inr refl
 
--- what 00 says
-pub fault_none : {e : Exchange} {offset n code : ℕ} → FaultBy e offset n code → code ≡ 0 → (offset ≡ e.sent) × (offset + n ≤ burst_end e)
-fault_none (wrong_offset h) z = absurd (omega arith)
-fault_none (past_burst h k) z = absurd (omega arith)
-fault_none (no_fault h k) z = (h, k)
+-- what no fault says
+pub fault_none : {e : Exchange} {offset n : ℕ} → FaultBy e offset n None → (offset ≡ e.sent) × (offset + n ≤ burst_end e)
+fault_none (no_fault h k) = (h, k)
 
 -- a fault: of a WRITE at place j
 pub record Faults (l : Login) (x offset n j code : ℕ) : Type 0 where
   pub found : find_exchange l x ≡ Some j
   pub write : is_write (exchange_at l j) ≡ true
-  pub some : code ≡ 0 → ⊥
-  pub why : FaultBy (exchange_at l j) offset n code
+  pub why : FaultBy (exchange_at l j) offset n (Some code)
 
 -- not covered: the next bytes of a WRITE, within its burst, and the window is too long or does not hold them
 pub record Uncovers (l : Login) (x offset n start len : ℕ) : Type 0 where
@@ -146,54 +144,56 @@ pub record Takes (l : Login) (x offset n start len j k : ℕ) : Type 0 where
   pub holds : Lent (position_of (exchange_at l j).start (exchange_at l j).sent) n start len k
 
 module _ (l : Login) (x offset n start len : ℕ) where
-  abbrev pub Means : Step → Type 0
-  Means NoWrite = NoWriteFor l x
-  Means (Fault j code) = Faults l x offset n j code
-  Means Uncovered = Uncovers l x offset n start len
-  Means (Take j k) = Takes l x offset n start len j k
+  abbrev pub Means : Result Step Untaken → Type 0
+  Means (Err NoWrite) = NoWriteFor l x
+  Means (Ok (Fault j code)) = Faults l x offset n j code
+  Means (Err Uncovered) = Uncovers l x offset n start len
+  Means (Ok (Take j k)) = Takes l x offset n start len j k
 
-  covered_means : (j : ℕ) → WriteAt l x j → fault_of (exchange_at l j) offset n ≡ 0 → Means (covered_step (exchange_at l j) j n start len)
+  covered_means : (j : ℕ) → WriteAt l x j → fault_of (exchange_at l j) offset n ≡ None → Means (covered_step (exchange_at l j) j n start len)
   unfolding covered_step
   covered_means j w z =
       let e = exchange_at l j in
-      let t = fault_none (fault_by e offset n) z in
+      let t = fault_none (subst (FaultBy e offset n) z (fault_by e offset n)) in
       on_found_lem Means (lent_place (position_of e.start e.sent) n start len) _ _
       (λ k at. record { found = w.found; write = w.write; next = t.0; burst = t.1; lent = at; holds = lent_at (position_of e.start e.sent) n start len k at })
       (λ not. record { j = j; found = w.found; write = w.write; next = t.0; burst = t.1; lent = not })
 
   -- of a WRITE that stands at place j: by whether there is a fault
   write_means : (j : ℕ) → WriteAt l x j
-      → Means (cond (eqb (fault_of (exchange_at l j) offset n) 0) (covered_step (exchange_at l j) j n start len) (Fault j (fault_of (exchange_at l j) offset n)))
+      → Means (on_found (fault_of (exchange_at l j) offset n) (λ code. Ok (Fault j code)) (covered_step (exchange_at l j) j n start len))
   write_means j w =
-      let c = fault_of (exchange_at l j) offset n in
-      by_cond Means (eqb c 0) (λ z. covered_means j w (eqb-true c 0 z)) (λ z. record { found = w.found; write = w.write; some = eqb-false c 0 z; why = fault_by (exchange_at l j) offset n })
+      let e = exchange_at l j in
+      on_found_lem Means (fault_of e offset n) _ _
+      (λ code at. record { found = w.found; write = w.write; why = subst (FaultBy e offset n) at (fault_by e offset n) })
+      (λ z. covered_means j w z)
 
   pub step_means : Means (step_of l x offset n start len)
   unfolding step_of
   step_means = by (find_write l x) refl
     where
       by : (f : Option ℕ) → find_write l x ≡ f
-          → Means (on_found f (λ j. cond (eqb (fault_of (exchange_at l j) offset n) 0) (covered_step (exchange_at l j) j n start len) (Fault j (fault_of (exchange_at l j) offset n))) NoWrite)
+          → Means (on_found f (λ j. on_found (fault_of (exchange_at l j) offset n) (λ code. Ok (Fault j code)) (covered_step (exchange_at l j) j n start len)) (Err NoWrite))
       by (Some j) at = write_means j (write_at l x j at)
       by None at = no_write l x at
 
   -- each by its name
-  pub step_means_as : (s : Step) → step_of l x offset n start len ≡ s → Means s
+  pub step_means_as : (s : Result Step Untaken) → step_of l x offset n start len ≡ s → Means s
   step_means_as s e = subst Means e step_means
 
-  pub step_takes : (j k : ℕ) → step_of l x offset n start len ≡ Take j k → Takes l x offset n start len j k
-  step_takes j k e = step_means_as (Take j k) e
+  pub step_takes : (j k : ℕ) → step_of l x offset n start len ≡ Ok (Take j k) → Takes l x offset n start len j k
+  step_takes j k e = step_means_as (Ok (Take j k)) e
 
-  pub step_faults : (j code : ℕ) → step_of l x offset n start len ≡ Fault j code → Faults l x offset n j code
-  step_faults j code e = step_means_as (Fault j code) e
+  pub step_faults : (j code : ℕ) → step_of l x offset n start len ≡ Ok (Fault j code) → Faults l x offset n j code
+  step_faults j code e = step_means_as (Ok (Fault j code)) e
 
-  pub step_no_write : step_of l x offset n start len ≡ NoWrite → NoWriteFor l x
-  step_no_write e = step_means_as NoWrite e
+  pub step_no_write : step_of l x offset n start len ≡ (Err NoWrite) → NoWriteFor l x
+  step_no_write e = step_means_as (Err NoWrite) e
 
-  pub step_uncovers : step_of l x offset n start len ≡ Uncovered → Uncovers l x offset n start len
-  step_uncovers e = step_means_as Uncovered e
+  pub step_uncovers : step_of l x offset n start len ≡ (Err Uncovered) → Uncovers l x offset n start len
+  step_uncovers e = step_means_as (Err Uncovered) e
 
 -- a place with no login has no WRITE
-pub empty_step : (x offset n start len : ℕ) → step_of empty_login x offset n start len ≡ NoWrite
+pub empty_step : (x offset n start len : ℕ) → step_of empty_login x offset n start len ≡ (Err NoWrite)
 unfolding step_of find_write find_exchange has_id
 empty_step x offset n start len = refl

@@ -1,5 +1,5 @@
 -- What a data frame comes to and does, told on what its sender sees, is what it comes to and makes of the whole port, where the port's logins are fine. Assumes nothing.
-use Rattle.std.specs.Prelude.{Option, Some, None}
+use Rattle.std.specs.Prelude.{Option, Some, None, Ok, Err, Result}
 use Prim.Native.Nat.{ℕ}
 use mathlib.Core.Path.{◌≡◌, refl, sym, ap, ◌∙◌}
 use mathlib.Core.Bool.{true}
@@ -25,18 +25,20 @@ use Rattle.calls.specs.Turn.{decided_as, served_at, served_in, refused_turn, sen
 use Rattle.calls.proofs.Views.{view_seat, view_is, view_login}
 use Rattle.calls.proofs.Decisions.{served_is}
 use Rattle.taking.specs.declared.Step.{Step}
-use Rattle.taking.specs.declared.Step.TheVariants.{NoWrite, Fault, Uncovered, Take}
+use Rattle.taking.specs.declared.Untaken.{Untaken}
+use Rattle.taking.specs.declared.Step.TheVariants.{Fault, Take}
+use Rattle.taking.specs.declared.Untaken.TheVariants.{NoWrite, Uncovered}
 use Rattle.taking.specs.Taking.{find_write, step_of, step_in, on_step, served_data, window_after, data_decided, taking_turn, taking_buffer, taking_window}
 
 -- what is asked of a choice by its step may be asked of what is chosen
-on_step_lem : {A B : Type 0} (on : A → B) (s : Step) (g : Refusal → A) (a : A) → on (on_step s g a) ≡ on_step s (λ x. on (g x)) (on a)
-on_step_lem on NoWrite g a = refl
-on_step_lem on (Fault j code) g a = refl
-on_step_lem on Uncovered g a = refl
-on_step_lem on (Take j k) g a = refl
+on_step_lem : {A B : Type 0} (on : A → B) (s : Result Step Untaken) (g : Refusal → A) (a : A) → on (on_step s g a) ≡ on_step s (λ x. on (g x)) (on a)
+on_step_lem on (Err NoWrite) g a = refl
+on_step_lem on (Ok (Fault j code)) g a = refl
+on_step_lem on (Err Uncovered) g a = refl
+on_step_lem on (Ok (Take j k)) g a = refl
 
 -- an empty login has no open WRITE
-empty_step : (h : Header) (size start len : ℕ) → step_in empty_login h size start len ≡ NoWrite
+empty_step : (h : Header) (size start len : ℕ) → step_in empty_login h size start len ≡ (Err NoWrite)
 unfolding step_of find_write find_exchange has_id
 empty_step h size start len = refl
 
@@ -47,7 +49,7 @@ module _ (u : Unit) (p : Port) (fine : all (login_fine u p.address) p.logins ≡
   abbrev v : View
   v = view_of u p from
 
-  no_step : (size len : ℕ) → find_login p from ≡ None → step_in v.login h size start len ≡ NoWrite
+  no_step : (size len : ℕ) → find_login p from ≡ None → step_in v.login h size start len ≡ (Err NoWrite)
   unfolding login_of
   no_step size len e = ap (λ (m : Login). step_in m h size start len) (view_is u p from fine ∙ ap (login_in p) e) ∙ empty_step h size start len
 
@@ -66,7 +68,7 @@ module _ (u : Unit) (p : Port) (fine : all (login_fine u p.address) p.logins ≡
   unfolding taking_turn
   taking_turn_lem {B} on g b size len room refuses serves = ap (λ (f : Option ℕ). on (turn f)) (view_seat u p from fine) ∙ by (find_login p from) refl
     where
-      step : Step
+      step : Result Step Untaken
       step = step_in v.login h size start len
 
       served : Served
@@ -77,14 +79,14 @@ module _ (u : Unit) (p : Port) (fine : all (login_fine u p.address) p.logins ≡
 
       by : (f : Option ℕ) → find_login p from ≡ f → on (turn f) ≡ on_step step g b
       by (Some i) e = on_step_lem on step refused_turn (sent_turn (sent_of v.own h served.reply [] room) (served_in i served)) ∙ (λ k. on_step step (λ x. refuses x k) (serves i e k))
-      by None e = refuses refusal.NoWrite ∙ sym (ap (λ (s : Step). on_step s g b) (no_step size len e))
+      by None e = refuses refusal.NoWrite ∙ sym (ap (λ (s : Result Step Untaken). on_step s g b) (no_step size len e))
 
   pub taking_buffer_lem : (size len : ℕ) (l b : List ℕ) → ((i : ℕ) → find_login p from ≡ Some i → written_of v.own h (served_data v.login h size start len).reply [] l ≡ b)
       → taking_buffer v h size start len l ≡ on_step (step_in v.login h size start len) (λ _. l) b
   unfolding taking_buffer
   taking_buffer_lem size len l b serves = ap buffer (view_seat u p from fine) ∙ by (find_login p from) refl
     where
-      step : Step
+      step : Result Step Untaken
       step = step_in v.login h size start len
 
       buffer : Option ℕ → List ℕ
@@ -92,7 +94,7 @@ module _ (u : Unit) (p : Port) (fine : all (login_fine u p.address) p.logins ≡
 
       by : (f : Option ℕ) → find_login p from ≡ f → buffer f ≡ on_step step (λ _. l) b
       by (Some i) e = ap (on_step step (λ _. l)) (serves i e)
-      by None e = sym (ap (λ (s : Step). on_step s (λ _. l) b) (no_step size len e))
+      by None e = sym (ap (λ (s : Result Step Untaken). on_step s (λ _. l) b) (no_step size len e))
 
   -- the window, by the login of the port
   pub taking_window_lem : (f W : List ℕ) → taking_window v h f start W ≡ window_after (login_of p from) h f start W

@@ -1,5 +1,5 @@
 -- What each way through a function of the crate answers, from what its calls gave. Assumes nothing.
-use Rattle.std.specs.Prelude.{Some, None}
+use Rattle.std.specs.Prelude.{Some, None, Ok, Err, Result}
 use Prim.Native.Nat.{ℕ, ◌+◌, ◌-◌, ◌*◌, ◌/◌, ◌%◌, ◌≤◌, ◌<◌, min}
 use mathlib.Core.Path.{◌≡◌, refl, sym, ◌∙◌}
 use mathlib.Core.Bool.{Bool, true, false, cond}
@@ -12,13 +12,10 @@ use borrow.Author.Tests.{eq-eqb, ne_eqb, lt-ltb, le-ltb}
 use Rattle.wire.specs.Bytes.{onto, over}
 use Rattle.wire.proofs.Fronts.{onto_nil}
 use Rattle.frame.specs.declared.Header.{Header}
-use Rattle.cover.specs.Cover.{position_of, lent_place}
 use Rattle.state.specs.declared.Exchange.{Exchange}
 use Rattle.state.specs.declared.Login.{Login}
 use Rattle.state.specs.declared.Own.{Own}
 use Rattle.state.specs.Changes.{exchange_at, with_exchange, ended_at, taken}
-use Rattle.state.specs.Kinds.{from_host}
-use Rattle.state.specs.Tables.{find_exchange}
 use Rattle.formed.specs.Formed.{total}
 use Rattle.reply.specs.declared.Reply.TheVariants as reply
 use Rattle.reply.specs.declared.Response.TheVariants as response
@@ -28,22 +25,10 @@ use Rattle.calls.specs.declared.View.{View}
 use Rattle.calls.specs.declared.Turn.{Turn}
 use Rattle.calls.specs.Turn.{stores, refused_turn, sent_turn}
 use Rattle.taking.specs.declared.Step.{Step}
-use Rattle.taking.specs.declared.Step.TheVariants.{NoWrite, Fault, Uncovered, Take}
-use Rattle.taking.specs.Taking.{data_size, data_in, burst_end, fault_of, find_write, covered_step, step_of, step_in, taken_on, served_data, window_after, taking_turn, taking_buffer, taking_window}
-
--- `find_write`: no exchange of the OX_ID, a WRITE, or another
-module _ (l : Login) (x : ℕ) where
-  pub write_none : find_exchange l x ≡ None → None ≡ find_write l x
-  unfolding find_write
-  write_none e = rw e
-
-  pub write_found : {j : ℕ} {e : Exchange} → find_exchange l x ≡ Some j → e ≡ exchange_at l j → e.direction ≡ from_host → Some j ≡ find_write l x
-  unfolding find_write
-  write_found at is d = rw (at, sym is, d)
-
-  pub write_other : {j : ℕ} {e : Exchange} → find_exchange l x ≡ Some j → e ≡ exchange_at l j → (e.direction ≡ from_host → ⊥) → None ≡ find_write l x
-  unfolding find_write
-  write_other at is d = rw (at, sym is, ne_eqb _ _ d)
+use Rattle.taking.specs.declared.Untaken.{Untaken}
+use Rattle.taking.specs.declared.Step.TheVariants.{Fault, Take}
+use Rattle.taking.specs.declared.Untaken.TheVariants.{NoWrite, Uncovered}
+use Rattle.taking.specs.Taking.{data_size, data_in, burst_end, step_in, taken_on, served_data, window_after, taking_turn, taking_buffer, taking_window}
 
 -- `burst_end`: the total before the burst's end, the burst's end, or what was sent
 module _ (e : Exchange) where
@@ -66,45 +51,6 @@ past_less end offset n h =
       | yes l ↦ rw (le-ltb (end - offset) n l, le-ltb end (offset + n) (omega arith))
       | no l ↦ rw (lt-ltb (end - offset) n (omega arith), lt-ltb end (offset + n) (omega arith))
     ]
-
--- `fault_of`: another offset, past the burst, or none
-module _ (e : Exchange) (offset n : ℕ) where
-  pub fault_offset : (offset ≡ e.sent → ⊥) → ◌≡◌ {A = ℕ} 3 (fault_of e offset n)
-  unfolding fault_of
-  fault_offset h = rw (ne_eqb _ _ h)
-
-  pub fault_past : {end : ℕ} → offset ≡ e.sent → end ≡ burst_end e → ltb end (offset + n) ≡ true → ◌≡◌ {A = ℕ} 1 (fault_of e offset n)
-  unfolding fault_of
-  fault_past h b p = rw (eq-eqb _ _ h, sym b, p)
-
-  pub fault_none : {end : ℕ} → offset ≡ e.sent → end ≡ burst_end e → ltb end (offset + n) ≡ false → ◌≡◌ {A = ℕ} 0 (fault_of e offset n)
-  unfolding fault_of
-  fault_none h b p = rw (eq-eqb _ _ h, sym b, p)
-
--- `covered_step`
-module _ (e : Exchange) (j n start len : ℕ) where
-  pub covered_not : lent_place (position_of e.start e.sent) n start len ≡ None → Uncovered ≡ covered_step e j n start len
-  unfolding covered_step
-  covered_not h = rw h
-
-  pub covered_at : {k : ℕ} → lent_place (position_of e.start e.sent) n start len ≡ Some k → Take j k ≡ covered_step e j n start len
-  unfolding covered_step
-  covered_at h = rw h
-
--- `step_in`: no WRITE; no fault, and by the window; a fault
-module _ (l : Login) (h : Header) (size start len : ℕ) where
-  pub step_none : find_write l h.ox_id ≡ None → NoWrite ≡ step_in l h size start len
-  unfolding step_of
-  step_none e = rw e
-
-  module _ {n j code : ℕ} {e : Exchange} (en : n ≡ data_size h size) (at : find_write l h.ox_id ≡ Some j) (ee : e ≡ exchange_at l j) (ec : code ≡ fault_of e h.offset n) where
-    pub step_covered : {s : Step} → code ≡ 0 → s ≡ covered_step e j n start len → s ≡ step_in l h size start len
-    unfolding step_of
-    step_covered z es = rw (at, sym en, sym ee, sym ec ∙ z) es
-
-    pub step_fault : (code ≡ 0 → ⊥) → Fault j code ≡ step_in l h size start len
-    unfolding step_of
-    step_fault z = rw (at, sym en, sym ee, sym ec, ne_eqb code 0 z)
 
 -- `taken_on` and `awaited_after`: past the burst's end, at it, short of it
 module _ (e : Exchange) (n : ℕ) where
@@ -157,21 +103,21 @@ module _ (v : View) (h : Header) (f : List ℕ) (start : ℕ) (W l : List ℕ) w
   says_none e et = rw e (et, (refl, refl))
 
   -- a login at place i, by what the frame comes to
-  module _ {i : ℕ} {s : Step} {t : Turn} (at : v.seat ≡ Some i) (es : s ≡ step_in v.login h (length f) start (length W)) where
-    pub says_no_write : s ≡ NoWrite → t ≡ refused_turn refusal.NoWrite → Says t l W
+  module _ {i : ℕ} {s : Result Step Untaken} {t : Turn} (at : v.seat ≡ Some i) (es : s ≡ step_in v.login h (length f) start (length W)) where
+    pub says_no_write : s ≡ (Err NoWrite) → t ≡ refused_turn refusal.NoWrite → Says t l W
     unfolding taking_turn taking_buffer taking_window window_after
     says_no_write e et = rw (at, sym es ∙ e) (et, (refl, refl))
 
-    pub says_uncovered : s ≡ Uncovered → t ≡ refused_turn refusal.BadWindow → Says t l W
+    pub says_uncovered : s ≡ (Err Uncovered) → t ≡ refused_turn refusal.BadWindow → Says t l W
     unfolding taking_turn taking_buffer taking_window window_after
     says_uncovered e et = rw (at, sym es ∙ e) (et, (refl, refl))
 
-    pub says_fault : {j code : ℕ} {m : Login} {l₁ : List ℕ} → s ≡ Fault j code → m ≡ ended_at v.login j
+    pub says_fault : {j code : ℕ} {m : Login} {l₁ : List ℕ} → s ≡ Ok (Fault j code) → m ≡ ended_at v.login j
         → t ≡ sent_turn (sent_of v.own h (reply.Respond (response.Code code)) [] (length l)) (stores (reply.Respond (response.Code code)) i m) → l₁ ≡ written_of v.own h (reply.Respond (response.Code code)) [] l → Says t l₁ W
     unfolding taking_turn taking_buffer taking_window window_after served_data
     says_fault e em et el = rw (at, sym es ∙ e) (et ∙ rw em, (el, refl))
 
-    pub says_taken : {j k n : ℕ} {W₁ : List ℕ} → s ≡ Take j k → n ≡ data_size h (length f) → W₁ ≡ over W k (data_in h f)
+    pub says_taken : {j k n : ℕ} {W₁ : List ℕ} → s ≡ Ok (Take j k) → n ≡ data_size h (length f) → W₁ ≡ over W k (data_in h f)
         → t ≡ sent_turn 0 (stores reply.Nothing i (with_exchange v.login j (taken_on (exchange_at v.login j) n))) → Says t l W₁
     unfolding taking_turn taking_buffer taking_window window_after served_data
     says_taken e en ew et = rw (at, sym es ∙ e) (et ∙ rw (en, nothing_sent_lem v.own h (length l)), (sym (nothing_written v.own h l), ew))

@@ -19,20 +19,26 @@ use reply::{Reply, Response, write};
 use state::{
     Exchange, Login, Own, end_exchange, exchange_at, find_exchange, put_exchange, take_data,
 };
-use wire::{least, less, put_at};
+use wire::put_at;
 
-// For no open WRITE; a fault, with the place of its exchange and the RSP_CODE; a window that is too long or does not hold the bytes;
+// What a data frame of an open WRITE comes to: a fault, with the place of its exchange and the RSP_CODE;
 // or taken, with the place of its exchange and where its bytes begin in the window.
 #[derive(Clone, Copy)]
 pub enum Step {
-    NoWrite,
     Fault(usize, u8),
-    Uncovered,
     Take(usize, usize),
+}
+
+// Why a data frame is refused: it is for no open WRITE, or the window is too long or does not hold the bytes.
+#[derive(Clone, Copy)]
+pub enum Untaken {
+    NoWrite,
+    Uncovered,
 }
 
 // What a data frame that arrived well comes to, seen by its sender, with a window that starts at a block: refused with 11 or 10, answered with a fault, or its bytes go there.
 // A port that is not logged in has no open WRITE.
+// kept: a match picks the step, since each arm hands on other values
 pub fn data_turn(
     v: View,
     h: Header,
@@ -45,18 +51,15 @@ pub fn data_turn(
     ensures reply_after { reply.new ≡ taking_buffer v h (length frame.now) start (length window.old) reply.old }
     ensures window_after { window.new ≡ taking_window v h frame.now start window.old }
 {
-    let seat = v.seat;
-    let o = v.own;
     let l = v.login;
-    let Some(i) = seat else {
+    let Some(i) = v.seat else {
         return refuse_turn(Refusal::NoWrite);
     };
-    let s = step_in(l, h, frame.len(), start, window.len());
-    match s {
-        Step::NoWrite => refuse_turn(Refusal::NoWrite),
-        Step::Fault(j, code) => fault_turn(o, h, i, end_exchange(l, j), code, reply),
-        Step::Uncovered => refuse_turn(Refusal::BadWindow),
-        Step::Take(j, k) => {
+    match step_in(l, h, frame.len(), start, window.len()) {
+        Err(Untaken::NoWrite) => refuse_turn(Refusal::NoWrite),
+        Err(Untaken::Uncovered) => refuse_turn(Refusal::BadWindow),
+        Ok(Step::Fault(j, code)) => fault_turn(v.own, h, i, end_exchange(l, j), code, reply),
+        Ok(Step::Take(j, k)) => {
             put_data(h, frame, k, window);
             take_turn(l, i, j, data_size(h, frame.len()))
         }
@@ -64,21 +67,18 @@ pub fn data_turn(
 }
 
 // What a frame of this size with header h comes to as a data frame of the login l, at a window of len bytes that starts at a block.
-#[tactic(auto, using(crate::proofs::Ways::step_none, crate::proofs::Ways::step_covered, crate::proofs::Ways::step_fault))]
-fn step_in(l: Login, h: Header, size: usize, start: u64, len: usize) -> Step
+// kept: a header beside a frame's size, here and below, since each function promises an answer for any two
+#[tactic(auto, unfolding(crate::specs::Taking::step_of))]
+fn step_in(l: Login, h: Header, size: usize, start: u64, len: usize) -> Result<Step, Untaken>
     ensures { result ≡ step_in l h size start len }
 {
     let n = data_size(h, size);
-    let Some(j) = find_write(l, h.ox_id) else {
-        return Step::NoWrite;
-    };
+    let j = find_write(l, h.ox_id).ok_or(Untaken::NoWrite)?;
     let e = exchange_at(l, j);
-    let code = fault_of(e, h.offset, n);
-    if code == 0 {
-        covered_step(e, j, n, start, len)
-    } else {
-        Step::Fault(j, code)
+    if let Some(code) = fault_of(e, h.offset, n) {
+        return Ok(Step::Fault(j, code));
     }
+    covered_step(e, j, n, start, len)
 }
 
 // A fault is answered with its RSP_CODE, and the login at place i is l after it.
@@ -86,16 +86,15 @@ fn fault_turn(o: Own, h: Header, i: usize, l: Login, code: u8, reply: &mut [u8])
     ensures value { result ≡ sent_turn (sent_of o h (Respond (Code code)) [] (length reply.old)) (stores (Respond (Code code)) i l) }
     ensures reply_after { reply.new ≡ written_of o h (Respond (Code code)) [] reply.old }
 {
-    let none = [0u8; 0];
-    let n = write(o, h, Reply::Respond(Response::Code(code)), &none, reply);
-    send_turn(n, store_login(Reply::Respond(Response::Code(code)), i, l))
+    let r = Reply::Respond(Response::Code(code));
+    send_turn(write(o, h, r, &[], reply), store_login(r, i, l))
 }
 
 // The bytes of a data frame go into the window, from a place on.
 fn put_data(h: Header, frame: &[u8], k: usize, window: &mut [u8])
     ensures { window.new ≡ over window.old k (data_in h frame.now) }
 {
-    let from = least(Header::LEAST_FRAME, frame.len());
+    let from = Header::LEAST_FRAME.min(frame.len());
     let to = from + data_size(h, frame.len());
     put_at(window, k, &frame[from..to]);
 }
@@ -113,37 +112,35 @@ fn data_size(h: Header, size: usize) -> usize
     ensures { result ≡ data_size h size }
 {
     let fill = (h.f_ctl % 4) as usize;
-    less(less(size, Header::LEAST_FRAME), fill)
+    let payload = size.saturating_sub(Header::LEAST_FRAME);
+    payload.saturating_sub(fill)
 }
 
 // The place of a login's open WRITE of this OX_ID.
-#[tactic(auto, using(crate::proofs::Ways::write_none, crate::proofs::Ways::write_found, crate::proofs::Ways::write_other))]
+#[tactic(auto, unfolding(crate::specs::Taking::find_write))]
 fn find_write(l: Login, ox_id: u16) -> Option<usize>
     ensures { result ≡ find_write l ox_id }
 {
-    let Some(j) = find_exchange(l, ox_id) else {
-        return None;
-    };
-    let e = exchange_at(l, j);
-    if e.direction == Exchange::FROM_HOST {
+    let j = find_exchange(l, ox_id)?;
+    if exchange_at(l, j).direction == Exchange::FROM_HOST {
         Some(j)
     } else {
         None
     }
 }
 
-// RSP_CODE for a data frame of n bytes at an offset; 0 is no fault.
-#[tactic(auto, using(crate::proofs::Ways::fault_offset, crate::proofs::Ways::fault_past, crate::proofs::Ways::fault_none))]
-fn fault_of(e: Exchange, offset: u32, n: usize) -> u8
+// RSP_CODE for a data frame of n bytes at an offset, if it is a fault.
+// kept: offset and number of bytes side by side, which are compared once each
+#[tactic(auto, unfolding(crate::specs::Taking::fault_of))]
+fn fault_of(e: Exchange, offset: u32, n: usize) -> Option<u8>
     ensures { result ≡ fault_of e offset n }
 {
     if offset != e.sent {
-        return 0x03;
-    }
-    if is_past(burst_end(e), offset, n) {
-        0x01
+        Some(0x03)
+    } else if is_past(burst_end(e), offset, n) {
+        Some(0x01)
     } else {
-        0x00
+        None
     }
 }
 
@@ -152,11 +149,7 @@ fn is_past(end: u64, offset: u32, n: usize) -> bool
     ensures { result ≡ ltb end (offset + n) }
 {
     let from = offset as u64;
-    if end < from {
-        true
-    } else {
-        end - from < n as u64
-    }
+    end < from || end - from < n as u64
 }
 
 // The end of the burst that was last asked for; where no data are awaited that of what was sent.
@@ -167,22 +160,19 @@ fn burst_end(e: Exchange) -> u64
     if e.awaited == 1 {
         let all = total_of(e) as u64;
         let burst = Exchange::MOST_BURST as u64;
-        let end = (e.sent as u64 / burst + 1) * burst;
-        if all < end { all } else { end }
+        all.min((e.sent as u64 / burst + 1) * burst)
     } else {
         e.sent as u64
     }
 }
 
 // Where the n bytes begin in the window, if it holds them.
-#[tactic(auto, using(crate::proofs::Ways::covered_not, crate::proofs::Ways::covered_at))]
-fn covered_step(e: Exchange, j: usize, n: usize, start: u64, len: usize) -> Step
+#[tactic(auto, unfolding(crate::specs::Taking::covered_step))]
+fn covered_step(e: Exchange, j: usize, n: usize, start: u64, len: usize) -> Result<Step, Untaken>
     ensures { result ≡ covered_step e j n start len }
 {
-    let Some(k) = lent_place(e.start, e.sent, n, start, len) else {
-        return Step::Uncovered;
-    };
-    Step::Take(j, k)
+    let k = lent_place(e.start, e.sent, n, start, len).ok_or(Untaken::Uncovered)?;
+    Ok(Step::Take(j, k))
 }
 
 // The exchange after n bytes more; data are awaited until the burst's end.
@@ -190,19 +180,20 @@ fn covered_step(e: Exchange, j: usize, n: usize, start: u64, len: usize) -> Step
 fn taken_on(e: Exchange, n: usize) -> Exchange
     ensures { result ≡ taken_on e n }
 {
-    let awaited = awaited_after(e, n);
-    take_data(e, (n % 4294967296) as u32, awaited)
+    take_data(e, (n % 4294967296) as u32, awaited_after(e, n))
 }
 
 // Whether data are awaited after n bytes more: 1 short of the burst's end.
+// kept: 0 or 1, the stored flag of the C interface that take_data stores
 #[tactic(auto, using(crate::proofs::Ways::awaited_past, crate::proofs::Ways::awaited_end, crate::proofs::Ways::awaited_short))]
 fn awaited_after(e: Exchange, n: usize) -> u8
     ensures { result ≡ cond (eqb (e.sent + n) (burst_end e)) 0 1 }
 {
     let end = burst_end(e);
     let sent = e.sent as u64;
-    if end < sent {
-        return 1;
+    if sent <= end && end - sent == n as u64 {
+        0
+    } else {
+        1
     }
-    if end - sent == n as u64 { 0 } else { 1 }
 }

@@ -11,6 +11,7 @@ use drive::{Answer, Drive};
 use frame::Header;
 use refusal::Refusal;
 
+// kept: two structs, one of bytes to read and one of bytes to write, and functions with plain parameters beside them, since document 01 names one struct and one thin function that hands slice and number on (docs/TRACE.md)
 #[derive(Clone, Copy)]
 pub struct Window<'a> {
     pub start: u64,
@@ -104,7 +105,7 @@ pub fn next_frame(
     }
     let u = d.unit;
     let p = d.port;
-    let v = look(u, p, address);
+    let v = look(u, &p, address);
     let t = next_turn(v, address, ox_id, start, bytes, reply);
     d.after(t)
 }

@@ -1,13 +1,16 @@
 -- A part of a slice that was lent from a place to the end: what it is, and what the whole is once it is back. Assumes nothing.
 use mathlib.Core.Path.{◌≡◌, refl, sym, ap, ◌∙◌}
-use mathlib.Core.List.{List, ◌++◌, append_assoc, append-nil}
+use mathlib.Core.List.{List, [], ◌∷◌, ◌++◌, append_assoc, append-nil}
 use Prim.Native.Nat.{ℕ, zero, suc, ◌+◌, ◌-◌, ◌≤◌}
 use native.Mathlib.Numerals.{add-one}
 use native.Mathlib.Omega.{arith}
-use lib.ListN.{length, take, drop, length-drop, drop_of_length-le, length-append}
-use lib.Seq.{take_all, take_at, drop_at, drop-cons, drop-drop, take-append-le, take-append-add, length-take-le}
+use lib.ListN.{length, take, drop, get_or, replicate, length-drop, drop_of_length-le, length-append}
+use Rattle.std.proofs.lemmas.List.{length-replicate, get_or_past}
+use lib.Seq.{drop-nil, take-nil, take_all, take_at, drop_at, drop-cons, drop-drop, take-append-le, take-append-add, length-take-le}
 use native.Mathlib.Decide.{dec_le}
 use borrow.Rule.Slice.PartMut.{mid_of, put_mid}
+use Rattle.std.proofs.Common.{Bor, Option, Some, None, unwrap_or, inl, inr, le_of_lt}
+use Rattle.std.specs.Slice.{IsGetRangeResult}
 use Rattle.wire.specs.Bytes.{part, onto, over, Wrote}
 use Rattle.wire.proofs.Fronts.{onto_fits, onto_covers, length_onto, over_past}
 
@@ -15,10 +18,35 @@ use Rattle.wire.proofs.Fronts.{onto_fits, onto_covers, length_onto, over_past}
 pub rest_is : (a : ℕ) (l : List ℕ) → mid_of a (length l - a) l ≡ drop a l
 rest_is a l = take_all (length l - a) (drop a l) (simp length-drop (omega arith))
 
--- k bytes that are all there, element by element
+-- what is taken from a place on, and nothing where the list ends before it
+pub rest_of : (s : List ℕ) (a : ℕ) (o : Option (Bor (List ℕ))) (d : Bor (List ℕ)) → d.now ≡ [] → IsGetRangeResult s a (length s) o → (unwrap_or o d).now ≡ drop a s
+rest_of s a None d e h = e ∙ sym (drop_of_length-le s (elim h.0 [ inl l ↦ le_of_lt l | inr l ↦ absurd (omega arith) ]))
+rest_of s a (Some x) d e h = h.0.2 ∙ rest_is a s
+
+-- what is there of k bytes, over k zeros
+pub part_onto : (k : ℕ) (s : List ℕ) (i : ℕ) → part k s i ≡ onto (drop i s) (replicate k 0)
+unfolding onto
+part_onto k s i = sym (rw (length-replicate {A = ℕ} k 0) (padded k s i))
+  where
+    padded : (k : ℕ) (s : List ℕ) (i : ℕ) → take k (drop i s) ++ drop (length (drop i s)) (replicate k 0) ≡ part k s i
+    padded zero s i = drop-nil (length (drop i s))
+    padded (suc k) s i =
+        elim (dec_le (i + 1) (length s)) [
+          | yes h ↦ (let e : drop i s ≡ get_or s i 0 ∷ drop (i + 1) s = rw add-one (drop-cons s i 0 (omega arith)) in
+              ap (λ (l : List ℕ). take (suc k) l ++ drop (length l) (0 ∷ replicate k 0)) e ∙ ap (λ (l : List ℕ). get_or s i 0 ∷ l) (padded k s (i + 1)))
+          | no h ↦ (let past : length s ≤ i = omega arith in
+              let next : length s ≤ i + 1 = omega arith in
+              rw (drop_of_length-le s past, get_or_past s i 0 past) (ap (λ (l : List ℕ). 0 ∷ l) (rw (drop_of_length-le s next, take-nil k) at (padded k s (i + 1)))))
+        ]
+
+-- k bytes that are all there
+pub part_whole : (k : ℕ) (s : List ℕ) (i : ℕ) → k ≤ length (drop i s) → take k (drop i s) ≡ part k s i
+part_whole k s i h =
+    let n : length (replicate {A = ℕ} k 0) ≡ k = length-replicate k 0 in
+    ap (λ (m : ℕ). take m (drop i s)) (sym n) ∙ sym (onto_covers (drop i s) (replicate k 0) (omega (arith, n))) ∙ sym (part_onto k s i)
+
 pub part_is : (k : ℕ) (s : List ℕ) (i : ℕ) → i + k ≤ length s → part k s i ≡ take k (drop i s)
-part_is zero s i h = refl
-part_is (suc k) s i h = rw (drop-cons s i 0 (omega arith), part_is k s (i + 1) (omega arith), add-one)
+part_is k s i h = sym (part_whole k s i (simp length-drop (omega arith)))
 
 -- the whole, once that part has come back as ys
 pub rest_back : (a : ℕ) (l ys : List ℕ) → put_mid a (length l - a) l ys ≡ take a l ++ ys

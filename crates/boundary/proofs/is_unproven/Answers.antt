@@ -1,15 +1,15 @@
--- `boundary::is_unproven` meets its contract: the flag is read at the seat, or at the first place. Assumes nothing.
-use Rattle.std.proofs.Common.{refl, ◌∙◌, ◌≡◌, ap, length, rules, arith}
-use Rattle.std.proofs.lemmas.List.{get_or_default}
-use Rattle.state.specs.declared.Login.{Login}
-use Rattle.state.specs.Changes.{no_login, empty_login}
-use Rattle.drive.specs.Turn.{unproven_at}
-use Rattle.boundary.proofs.Looking.{unproven_as}
+-- `boundary::is_unproven` meets its contract: the flag is read at the seat. Assumes nothing.
+use Rattle.std.proofs.Common.{◌≡◌, ◌<◌, length, rules, arith}
+use Rattle.boundary.proofs.Reached.{seat_below, seat_unproven, none_unproven}
 use Rattle.boundary.proofs.is_unproven.Goals as goal
 
-pub returns : goal.returns
-returns c =
+pub returns-in-Some : goal.returns-in-Some
+returns-in-Some c =
     let p = c.args.p.now in
     let long : length p.logins ≡ 8 = search rules in
-    let same = get_or_default p.logins c.place_or_first-at.result no_login empty_login (omega arith) in
-    (c.unproven_at.ensures ∙ ap (λ (l : Login). unproven_at c.args.seat l.proven) same ∙ unproven_as p c.args.seat c.place_or_first-at.ensures.0, refl)
+    let below = seat_below c.args.seat c.in-Some.is c.requires in
+    let inside : c.in-Some.i < length p.logins = omega (arith, long, below) in
+    seat_unproven p c.args.seat c.in-Some.is inside c.unproven_at.ensures
+
+pub returns-in-None : goal.returns-in-None
+returns-in-None c = none_unproven c.args.p.now c.args.seat c.in-None.is

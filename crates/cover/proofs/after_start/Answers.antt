@@ -1,13 +1,11 @@
--- `cover::after_start` meets its contract: the bytes are in the window, or it ends before them. Assumes nothing.
-use Rattle.std.proofs.Common.{arith}
-use Rattle.cover.proofs.Covers.{fits, fits_not}
+-- `cover::after_start` meets its contract: what is past the largest number is past the window. Assumes nothing.
+use Rattle.std.proofs.Common.{◌∙◌, arith}
+use Rattle.cover.proofs.Covers.{fits_not}
 use Rattle.cover.proofs.after_start.Goals as goal
 
-pub returns-then-most-blocks : goal.returns-then-most-blocks
-returns-then-most-blocks c = fits_not _ _ _ (omega arith)
+pub returns-in_err-checked_mul : goal.returns-in_err-checked_mul
+returns-in_err-checked_mul c = c.from_residual.ensures ∙ (let h = c.in_err-checked_mul.ensures in fits_not _ _ _ (omega (arith, h)))
 
-pub returns-then-most-at : goal.returns-then-most-at
-returns-then-most-at c = fits_not _ _ _ (omega arith)
-
-pub returns : goal.returns
-returns c = fits _ _ _ (omega arith)
+pub returns-in_err-at : goal.returns-in_err-at
+returns-in_err-at c =
+    c.from_residual-in_err-at.ensures ∙ (let h = c.in_err-at.ensures in let k = c.in_ok-checked_mul.ensures in fits_not _ _ _ (omega (arith, h, k)))

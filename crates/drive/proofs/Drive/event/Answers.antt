@@ -18,12 +18,12 @@ by_sight : (d : Drive) (e : Event) {s : Sight} {b : Bool} → s ≡ sight_of d.u
 unfolding event_answer
 by_sight d e is b = ap (λ (z : Bool). cond z (nothing_sent (after_event e d)) (refused IllFormed d)) (sym (fine_by_lem d.unit d.port) ∙ sym (ap (λ (s : Sight). s.fine) is) ∙ b)
 
-pub returns-then-s : goal.returns-then-s
+pub returns-then-sight_of : goal.returns-then-sight_of
 unfolding after_event
-returns-then-s c =
+returns-then-sight_of c =
     let d = c.args.self in
-    ap (λ (q : Port). nothing_sent (record { unit = d.unit; port = q })) (c.change_all-q.ensures ∙ ap (λ (x : Change). changed_all x d.port) c.change_of.ensures)
-    ∙ sym (by_sight d c.args.e c.sight_of-s.ensures c.if-s.true)
+    ap (λ (q : Port). nothing_sent (record { unit = d.unit; port = q })) (c.change_all.ensures ∙ ap (λ (x : Change). changed_all x d.port) c.change_of.ensures)
+    ∙ sym (by_sight d c.args.e c.sight_of.ensures c.if-sight_of.true)
 
-pub returns-else-s : goal.returns-else-s
-returns-else-s c = c.refuse.ensures ∙ sym (by_sight c.args.self c.args.e c.sight_of-s.ensures c.if-s.false)
+pub returns-else-sight_of : goal.returns-else-sight_of
+returns-else-sight_of c = c.refuse.ensures ∙ sym (by_sight c.args.self c.args.e c.sight_of.ensures c.if-sight_of.false)

@@ -1,7 +1,10 @@
--- `reply::commands::put_response` meets its contract: a writer for each response. Assumes nothing.
-use Rattle.std.proofs.Common.{sym, arith}
-use Rattle.wire.proofs.Parts.{wrote_within}
+-- `reply::commands::put_response` meets its contract: a status alone has 24 bytes. Assumes nothing.
+use Rattle.std.proofs.Common.{arith}
+use Rattle.reply.specs.Payload.{status_bytes}
 use Rattle.reply.proofs.commands.put_response.Goals as goal
 
 pub returns-in-Status : goal.returns-in-Status
-returns-in-Status c = rw (c.in-Status.is, sym c.flag_of.ensures.0, sym c.size_of.ensures) (wrote_within 2048 (omega arith) c.put_status.ensures)
+unfolding status_bytes
+returns-in-Status c =
+    let all = rw (c.status-in-Status.ensures, c.flag.ensures.0, c.size.ensures) at c.put_words.ensures in
+    rw c.in-Status.is (record { long = all.value; fits = omega arith; is = all.out_after })
