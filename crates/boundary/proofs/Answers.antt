@@ -1,10 +1,11 @@
 -- What a change reaches, by the keys of the logins, is the change of all where the drive is well formed: a login that is not reached is one that the change leaves as it is.
 -- So what each entry tells, and the lent drive after it, is its answer. Assumes nothing.
 use Rattle.std.specs.Prelude.{Option, Some, None, Ok, Err, Result}
-use Prim.Native.Nat.{ℕ}
+use Prim.Native.Nat.{ℕ, ◌+◌, ◌<◌, ◌^◌}
 use mathlib.Core.Path.{◌≡◌, refl, sym, ap, ◌∙◌, subst}
 use mathlib.Core.Bool.{Bool, true, false, cond}
 use mathlib.Core.List.{List, [], ◌∷◌, map}
+use native.Mathlib.Omega.{arith}
 use lib.Dec.{T}
 use lib.ListN.{length}
 use borrow.Author.Tests.{eq-eqb, ne_eqb}
@@ -15,6 +16,8 @@ use Rattle.frame.specs.declared.Header.{Header}
 use Rattle.frame.specs.Head.{header_of}
 use Rattle.refusal.specs.declared.Refusal.{Refusal}
 use Rattle.refusal.specs.declared.Refusal.TheVariants.{IllFormed, BadSize, NotOurs, BadSource, UnknownForm, Unproven}
+use Rattle.refusal.specs.Refusal.{number_of}
+use Rattle.refusal.proofs.Numbers.{numbers}
 use Rattle.state.specs.declared.Login.{Login}
 use Rattle.state.specs.declared.Port.{Port}
 use Rattle.state.specs.declared.Unit.{Unit}
@@ -47,7 +50,7 @@ use Rattle.drive.specs.Drive.{refused, nothing_sent, change_of, after_event, eve
 use Rattle.drive.specs.Entry.{frame_in, frame_in_buffer, frame_in_window, next_frame}
 use Rattle.drive.specs.Turn.{unproven_at, on_judged, arrived_in, passed_turn, passed_buffer, arrived_turn, arrived_buffer, arrived_window, next_out_turn, answer_to}
 use Rattle.drive.proofs.Turns.{frame_came, buffer_came, window_came, arrived_fine, frame_turn_lem, frame_turn_buffer, frame_turn_window, next_out_turn_lem, next_out_keeps}
-use Rattle.boundary.specs.Boundary.{Gives, is_data_form}
+use Rattle.boundary.specs.Boundary.{code_of, Tells, Gives, is_data_form}
 use Rattle.boundary.specs.Settled.{reaches, marks_of, reached_by, reached_of, settled_of, happened_said}
 use Rattle.boundary.proofs.Lent.{with_port, stored, settled, happened}
 use Rattle.boundary.proofs.Reached.{spared_last}
@@ -170,6 +173,10 @@ module _ (d : Drive) (f : List ℕ) (start : ℕ) (W : List ℕ) where
       by (Some i) = refl
       by None = refl
 
+  -- the number that a refusal is told in is one of 64 bits
+  pub number_fits : {x : Refusal} → judged ≡ Err x → 65536 + number_of x < 2 ^ 64
+  number_fits {x} e = let few = (numbers x).1 in omega (arith, few)
+
   module _ (l : List ℕ) (long : short_buffer (length l) ≡ false) where
     -- what it leaves: what is told and the drive, the reply buffer, and the window
     abbrev pub Leaves : Result ℕ Refusal → Drive → List ℕ → List ℕ → Type 0
@@ -180,6 +187,10 @@ module _ (d : Drive) (f : List ℕ) (start : ℕ) (W : List ℕ) where
     frame_refused e =
         let r = sym judged_seen ∙ e in
         (refusal_given (frame_came d f start W (length l) long ∙ rw r), sym (buffer_came d f start W l long ∙ rw r), sym (window_came d f start W (length l) long ∙ rw r))
+
+    -- and told in one number
+    pub frame_numbered : {x : Refusal} → judged ≡ Err x → Tells (frame_in d f start W (length l)) (65536 + number_of x) d × (l ≡ frame_in_buffer d f start W l) × (W ≡ frame_in_window d f start W (length l))
+    frame_numbered e = let r = frame_refused e in ((ap code_of r.0.0, r.0.1), r.1, r.2)
 
     -- one that arrived well comes to its turn: a data frame's, or another's
     module _ {k : Form} (e : judged ≡ Ok k) where

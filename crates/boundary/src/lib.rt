@@ -1,12 +1,13 @@
 // The C boundary: a call sees what it needs of the lent drive, decides on that, and what changes is stored where it stands; include/jhartupal.h declares it.
 #![tactic(auto)]
 
-ghost use Rattle.std.specs.Prelude.{◌≡◌, ◌&&◌, false, not, eqb, length};
+ghost use Rattle.std.specs.Prelude.{◌≡◌, ◌≤◌, ◌&&◌, false, not, eqb, length};
 ghost use Rattle.tables.specs.Lists.{on_found};
 ghost use Rattle.state.specs.declared.Change.TheVariants.{EndHost};
 ghost use Rattle.drive.specs.declared.Event.TheVariants.{LoopReset, TimeOver, PowerOn};
 ghost use Rattle.state.specs.Tables.{login_in};
 ghost use Rattle.calls.specs.Turn.{stored_at, AtBelow};
+ghost use Rattle.calls.specs.View.{sight_of};
 ghost use Rattle.drive.specs.Drive.{event_answer};
 ghost use Rattle.drive.specs.Turn.{unproven_at};
 ghost use Rattle.drive.specs.Entry.{frame_in, frame_in_buffer, frame_in_window, next_frame, next_frame_buffer};
@@ -20,7 +21,7 @@ use formed::{Key, key_named};
 use frame::{Header, read_header};
 use refusal::Refusal;
 use state::{Change, Login, Own, Port, Setup, changed};
-use window::{data_turn, next_turn};
+use window::{Window, data_turn, next_turn_from};
 
 // Makes a drive in the lent state, from a setup.
 // kept: a number for a result, and address and ox_id, block and window side by side, in each of these six, since include/jhartupal.h has them so (C interface)
@@ -149,10 +150,33 @@ fn next_frame(
         return Err(Refusal::ShortBuffer);
     }
     let s = sight_of(d.unit, &d.port);
+    let w = Window {
+        start,
+        bytes: window,
+    };
+    next_seen(d, s, address, ox_id, w, reply)
+}
+
+// What a call for the next frame comes to, once the logins were looked at and where the buffer has room.
+// Out of line, so that its stack and that of the look at the logins are not there at once, and a buffer too short costs no memory cleared for the rest.
+#[inline(never)]
+fn next_seen<'a>(
+    d: &mut Drive,
+    s: Sight,
+    address: u32,
+    ox_id: u16,
+    w: Window<'a>,
+    reply: &mut [u8],
+) -> Result<usize, Refusal>
+    requires room { 2136 ≤ length reply.old }
+    requires seen { s ≡ sight_of d.old.unit d.old.port }
+    ensures { Gives (next_frame d.old address ox_id w.entry.start w.entry.bytes.now (length reply.old)) result d.new
+        × (reply.new ≡ next_frame_buffer d.old address ox_id w.entry.start w.entry.bytes.now reply.old) }
+{
     let seat = seat_of(s.keys, address);
     let at = seat.unwrap_or(0);
     let v = see(d.unit, Own::from(&d.port), s, seat, d.port.logins[at]);
-    let t = next_turn(v, address, ox_id, start, window, reply);
+    let t = next_turn_from(v, address, ox_id, w, reply);
     store(&mut d.port, t)
 }
 

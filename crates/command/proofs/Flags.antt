@@ -8,7 +8,7 @@ use Rattle.tables.proofs.Bools.{or_left, or_right}
 use Rattle.tables.proofs.Below.{agree}
 use Rattle.std.specs.Prelude.{Err}
 use Rattle.command.specs.declared.CmndFault.TheVariants.{Fields}
-use Rattle.command.specs.Cmnd.{task_for}
+use Rattle.command.specs.Cmnd.{code_of, task_for}
 
 -- a flag of a byte, 1 where it is set, and how many are
 abbrev pub flag : ℕ → ℕ → ℕ
@@ -29,8 +29,8 @@ known_task t = eqb t 0x00 || eqb t 0x80 || eqb t 0x40 || eqb t 0x20 || eqb t 0x0
 pub tasks_are : (t : ℕ) → t < 256 → wrong_task t ≡ not (known_task t)
 tasks_are = agree wrong_task (λ t. not (known_task t)) 256 refl
 
--- and these are answered with 02, the `code_of` of this fault
-pub wrong_tasks : (t lun from : ℕ) → t < 256 → wrong_task t ≡ true → task_for t lun from ≡ Err Fields
+-- and these are answered with 02
+pub wrong_tasks : (t lun from : ℕ) → t < 256 → wrong_task t ≡ true → (task_for t lun from ≡ Err Fields) × (code_of Fields ≡ 0x02)
 unfolding task_for
 wrong_tasks t lun from h w =
     let none = eqb t 0x00 in
@@ -44,4 +44,4 @@ wrong_tasks t lun from h w =
     let n₃ = or_left (none || a || b || c) d n₄ in
     let n₂ = or_left (none || a || b) c n₃ in
     let n₁ = or_left (none || a) b n₂ in
-    rw (or_left none a n₁, or_right none a n₁, or_right (none || a) b n₂, or_right (none || a || b) c n₃, or_right (none || a || b || c) d n₄, or_right (none || a || b || c || d) e n₅)
+    (rw (or_left none a n₁, or_right none a n₁, or_right (none || a) b n₂, or_right (none || a || b) c n₃, or_right (none || a || b || c) d n₄, or_right (none || a || b || c || d) e n₅), refl)

@@ -1,3 +1,4 @@
+pub mod Ways
 pub mod Turns
 pub mod Flags
 pub mod Moves

@@ -11,13 +11,14 @@ use crate::{Check, Cmnd, Operation, Range};
 use state::{Exchange, Login, Unit};
 use wire::BigEndian;
 
-// Tests 2 to 7, the first that fails.
+// Tests 2 to 7, the first that fails. The CDB is decoded once, before them: what it asks for, and whether a field that must be zero is not.
 // kept: an attention is a number, here and in test 3, as the stored login has it (C interface)
 #[tactic(auto, unfolding(crate::specs::Tests::tested_by, crate::specs::Tests::asked_of))]
 pub(crate) fn tested(u: Unit, attention: u8, ox_id: u16, c: Cmnd) -> Result<Exchange, Check>
     ensures { result ≡ asked_of u attention ox_id c }
 {
     let o = Operation::from(c.cdb);
+    let wrong_field = o.has_wrong_field(c.cdb);
     if o.is_for_other_unit(c.lun) {
         return Err(Check::OtherUnit);
     }
@@ -30,7 +31,7 @@ pub(crate) fn tested(u: Unit, attention: u8, ox_id: u16, c: Cmnd) -> Result<Exch
     if o.is_protected(u) {
         return Err(Check::Protected);
     }
-    if o.has_wrong_field(c.cdb) {
+    if wrong_field {
         return Err(Check::WrongField);
     }
     if o.is_outside(u) {

@@ -35,7 +35,7 @@ one_reply {𝓤 = 𝓤} 𝓛 mem run =
       c_time_over = λ κs d. from_one 𝓤 _ _ (λ x. id⊢ 𝓤 _) (λ x y p q i. ((p.0 ∙ sym q.0) i, (p.1 ∙ sym q.1) i));
       c_power_on = λ κs d. from_one 𝓤 _ _ (λ x. id⊢ 𝓤 _) (λ x y p q i. ((p.0 ∙ sym q.0) i, (p.1 ∙ sym q.1) i));
       judges = λ κs login. from_one 𝓤 _ _ (λ x. id⊢ 𝓤 _) (λ x y p q. p ∙ sym q);
-      lines = λ number j. from_one 𝓤 _ _ (λ x. id⊢ 𝓤 _) (λ x y p q i. record { items = (p ∙ sym q) i });
+      lines = λ number j. from_one 𝓤 _ _ (λ x. id⊢ 𝓤 _) (λ x y p q. p ∙ sym q);
       tells = λ κs s letter body. from_one 𝓤 _ _ (λ x. both 𝓤 _ _) (λ x y p q i. ((p.0 ∙ sym q.0) i, (p.1 ∙ sym q.1) i));
-      ends = λ κs name number e. from_one 𝓤 _ _ (λ x. id⊢ 𝓤 _) (λ x y p q i. record { items = (p ∙ sym q) i });
+      ends = λ κs name number e. from_one 𝓤 _ _ (λ x. id⊢ 𝓤 _) (λ x y p q. p ∙ sym q);
     }

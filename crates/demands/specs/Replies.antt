@@ -23,7 +23,6 @@ use Rattle.boundary.specs.contracts.jhartupal_loop_reset as jhartupal_loop_reset
 use Rattle.boundary.specs.contracts.jhartupal_time_over as jhartupal_time_over
 use Rattle.boundary.specs.contracts.jhartupal_power_on as jhartupal_power_on
 use Rattle.judging.specs.declared.Judgement.{Judgement}
-use Rattle.arrayvec.specs.ArrayVec.{ArrayVec}
 use Rattle.saying.specs.declared.End.{End}
 use Rattle.saying.specs.contracts.end_line as end_line
 use Rattle.judging.specs.contracts.judge as judge
@@ -61,7 +60,7 @@ pub record OneReply {M : Type 1} {𝓤 : Ura M} (𝓛 : Logic 𝓤) (mem : Memor
   pub c_power_on : (κs : Lfts 1) (d : MutBor Drive) → One 𝓤 (λ (o : ℕ × Drive). (jhartupal_power_on.clauses 𝓛 mem run κs (d, tt)).ensures tt o.0 (with d o.1, tt))
   -- the programs: a judgement and its line, the answer to a record, and what is said at the end
   pub judges : (κs : Lfts 1) (login : Bor (List ℕ)) → One 𝓤 (λ (r : Judgement). (judge.clauses 𝓛 mem run κs (login, tt)).ensures tt r (login, tt))
-  pub lines : (number : ℕ) (j : Judgement) → One 𝓤 (λ (r : ArrayVec ℕ). (line_for.clauses 𝓛 mem run tt (number, (j, tt))).ensures tt r (number, (j, tt)))
+  pub lines : (number : ℕ) (j : Judgement) → One 𝓤 (λ (r : List ℕ). (line_for.clauses 𝓛 mem run tt (number, (j, tt))).ensures tt r (number, (j, tt)))
   pub tells : (κs : Lfts 1) (s : Session) (letter : ℕ) (body : MutBor (List ℕ))
       → One 𝓤 (λ (o : Told × List ℕ). (tell.clauses 𝓛 mem run κs (s, (letter, (body, tt)))).ensures tt o.0 (s, (letter, (with body o.1, tt))))
-  pub ends : (κs : Lfts 1) (name : Bor (List ℕ)) (number : ℕ) (e : End) → One 𝓤 (λ (r : ArrayVec ℕ). (end_line.clauses 𝓛 mem run κs (name, (number, (e, tt)))).ensures tt r (name, (number, (e, tt))))
+  pub ends : (κs : Lfts 1) (name : Bor (List ℕ)) (number : ℕ) (e : End) → One 𝓤 (λ (r : List ℕ). (end_line.clauses 𝓛 mem run κs (name, (number, (e, tt)))).ensures tt r (name, (number, (e, tt))))

@@ -3,7 +3,7 @@
 use mathlib.Core.Path.{◌≡◌, sym, ap, ◌∙◌}
 use mathlib.Core.Bool.{Bool, true, false, cond, ◌&&◌, ◌||◌, or-false}
 use Prim.Native.Nat.{ℕ, ◌+◌, ◌-◌, ◌*◌, ◌/◌, ◌%◌, min, ◌≤◌, ◌<◌}
-use native.Mathlib.Nat.{div-add-mod', mod-lt, mod-eq_of_lt, add-mul, one-mul}
+use native.Mathlib.Nat.{div-add-mod', mod-lt, mod-eq_of_lt, add-mul, one-mul, le-mul_of_pos_right}
 use native.Mathlib.Decide.{dec_le, ℕ_discrete}
 use native.Mathlib.Omega.{arith}
 use lib.Arith.{digits_div, digits_mod}
@@ -44,6 +44,22 @@ frames_ceil n full h =
       | no z ↦ (let e : n / full + 1 ≡ n / full + min 1 (n % full) = omega arith in
           ap (λ (s : ℕ). frames_of s full) (sym d) ∙ frames_more (n / full) full (n % full) (omega arith) (omega arith) ∙ e)
     ]
+
+-- where bytes are left past full frames, all being the bytes to send
+module _ (full : ℕ) (e : Exchange) {all : ℕ} (t : all ≡ total e) (pos : 0 < full) (within : e.sent ≤ all) (part : e.sent / full * full ≡ e.sent → ⊥) where
+  left_over : 0 < e.sent % full
+  left_over = elim (ℕ_discrete (e.sent % full) 0) [
+    | yes h ↦ absurd (part (let d = div-add-mod' e.sent full in omega arith))
+    | no h ↦ omega arith
+  ]
+
+  -- the frames, with the one that is not full, are no more than the bytes
+  pub frames_few : e.sent / full + 1 ≤ e.sent
+  frames_few =
+      let d = div-add-mod' e.sent full in
+      let q = le-mul_of_pos_right (e.sent / full) pos in
+      let l = left_over in
+      omega arith
 
 module _ (full : ℕ) (e : Exchange) (fits : sent_fits full e ≡ true) where
   -- the count is the number of the data frames sent, modulo 65,536

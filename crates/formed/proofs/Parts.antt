@@ -1,14 +1,25 @@
 -- The parts of the rule, each by its name: taken out of the whole, and put together again. Assumes nothing.
 use mathlib.Core.Path.{◌≡◌}
-use mathlib.Core.Bool.{true, ◌&&◌}
-use Prim.Native.Nat.{ℕ}
+use mathlib.Core.Bool.{true, false, ◌&&◌, and-false}
+use Prim.Native.Nat.{ℕ, ◌<◌}
+use lib.Dec.{leb}
+use borrow.Author.Tests.{lt-leb}
 use Rattle.tables.specs.Lists.{all, pairs}
 use Rattle.tables.proofs.Bools.{and_left, and_right}
+use Rattle.address.specs.Address.{valid_address}
+use Rattle.params.specs.Words.{params_of, setup_passes}
 use Rattle.state.specs.declared.Login.{Login}
 use Rattle.state.specs.declared.Port.{Port}
+use Rattle.state.specs.declared.Setup.{Setup}
 use Rattle.state.specs.declared.Unit.{Unit}
 use Rattle.state.specs.Changes.{is_used, own_of}
 use Rattle.formed.specs.Formed.{setup_rules, setup_of, full_frame, exchange_fine, apart_id, params_fine, flags_fine, address_fine, used_fine, login_fine, apart_login, well_formed}
+
+-- whether a unit may be written is 0 or 1
+pub setup_flag : (s : Setup) → 1 < s.writable → setup_rules s ≡ false
+unfolding setup_rules
+setup_flag s h =
+    rw (lt-leb s.writable 1 h) (and-false (leb 1 s.capacity && leb s.capacity 4294967295 && valid_address s.address && setup_passes (params_of s.accept 0)))
 
 -- what is asked of a login that is used
 pub record Used (u : Unit) (own : ℕ) (l : Login) : Type 0 where

@@ -4,7 +4,7 @@
 
 use judging::{judge, line_for};
 use records::fill;
-use saying::{End, say_end};
+use saying::{End, end_line};
 use std::io::{Read, Write};
 
 // Judges the next record. After one that the end of the input cuts the input is over.
@@ -15,7 +15,7 @@ fn judge_next(input: &mut impl Read, output: &mut impl Write, number: u64) -> Re
         return Err(End::Over);
     }
     output
-        .write_all(&line_for(number, judge(&login[..n])))
+        .write_all(line_for(number, judge(&login[..n])).as_bytes())
         .map_err(|_| End::Unwritten)?;
     if n < 116 { Err(End::Over) } else { Ok(()) }
 }
@@ -27,7 +27,7 @@ fn main(rt: HostRuntime) {
     let mut errors = rt.stderr();
     for number in 1..=u64::MAX {
         if let Err(end) = judge_next(&mut input, &mut output, number) {
-            let _ = say_end(&mut errors, b"judges", number, end);
+            let _ = errors.write_all(end_line(b"judges", number, end).as_bytes());
             return;
         }
     }

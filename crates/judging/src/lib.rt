@@ -41,19 +41,19 @@ pub fn judge(login: &[u8]) -> Judgement
 // The line for a record: its number, and what is said of it.
 #[tactic(auto, unfolding(crate::specs::Judgement::line_of))]
 pub fn line_for(number: u64, j: Judgement) -> Line
-    ensures { result.items ≡ line_of number j }
+    ensures { result ≡ line_of number j }
 {
     let mut line = Line::new();
     push_decimal(&mut line, number);
-    put(&mut line, &text_of(j));
+    put(&mut line, text_of(j).as_bytes());
     line
 }
 
 // What is said of a judgement.
 // kept: put together by hand and not by Display, for the reason at hex_digit
 fn text_of(j: Judgement) -> Line
-    ensures text { result.items ≡ text_of j }
-    ensures short { length result.items ≤ 28 }
+    ensures text { result ≡ text_of j }
+    ensures short { length result ≤ 28 }
 {
     let mut text = Line::new();
     match j {
@@ -94,9 +94,9 @@ fn reject_text(f: Fault) -> [u8; 14]
 // How many bytes a cut end has.
 #[tactic(auto, unfolding(crate::specs::Text::short_text))]
 fn put_short(text: &mut Line, n: usize)
-    requires { text.old.items ≡ [] }
-    ensures short { text.new.items ≡ short_text n }
-    ensures len { length text.new.items ≤ 28 }
+    requires { text.old ≡ [] }
+    ensures short { text.new ≡ short_text n }
+    ensures len { length text.new ≤ 28 }
 {
     put(text, b" SHORT ");
     push_decimal(text, n as u64);

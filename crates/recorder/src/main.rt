@@ -13,16 +13,21 @@
 #![tactic(auto)]
 
 use recording::{Session, rest_of, start, tell};
-use saying::{End, say_end};
+use saying::{End, end_line};
 use std::io::{Read, Write};
 
-// Answers the next record, and brings the session to after it.
-fn answer_next(input: &mut impl Read, output: &mut impl Write, s: &mut Session) -> Result<(), End> {
-    let mut buffer = [0u8; 70000];
-    let r = records::next(input, &mut buffer)?;
-    let from = rest_of(*s, r.letter, r.body);
-    let t = tell(*s, r.letter, r.body);
-    say(output, &t.line, &r.body[from..]).map_err(|_| End::Unwritten)?;
+// Answers the next record, and brings the session to after it. One buffer takes the body of each record in turn.
+fn answer_next(
+    input: &mut impl Read,
+    output: &mut impl Write,
+    s: &mut Session,
+    buffer: &mut [u8],
+) -> Result<(), End> {
+    let r = records::next(input, buffer)?;
+    let body = &mut buffer[..r.len];
+    let from = rest_of(*s, r.letter, body);
+    let t = tell(*s, r.letter, body);
+    say(output, t.line.as_bytes(), &body[from..]).map_err(|_| End::Unwritten)?;
     *s = t.session;
     Ok(())
 }
@@ -39,9 +44,10 @@ fn main(rt: HostRuntime) {
     let mut output = rt.stdout();
     let mut errors = rt.stderr();
     let mut s = start();
+    let mut buffer = [0u8; 70000];
     for number in 1..=u64::MAX {
-        if let Err(end) = answer_next(&mut input, &mut output, &mut s) {
-            let _ = say_end(&mut errors, b"recorder", number, end);
+        if let Err(end) = answer_next(&mut input, &mut output, &mut s, &mut buffer) {
+            let _ = errors.write_all(end_line(b"recorder", number, end).as_bytes());
             return;
         }
     }

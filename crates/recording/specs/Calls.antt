@@ -19,7 +19,7 @@ unmade = record { made = false; drive = no_drive }
 
 -- the answer's bytes, and the session after it
 abbrev pub told_as : Session → List ℕ → Told
-told_as s text = record { session = s; line = record { items = text } }
+told_as s text = record { session = s; line = text }
 
 -- "255 stands for what is no call, with length 0 and last byte 1"
 unfoldable pub no_call : Session → Told

@@ -9,9 +9,9 @@ ghost use Rattle.drive.specs.Entry.{frame_in_window};
 ghost use Rattle.wire.specs.Bytes.{num};
 ghost use Rattle.recording.specs.Calls.{unmade, setup_in, no_call, made_by, fill, told_answer, handed, asked, happened, setup_call, frame_call, next_call, event_call, read_by, window_from, is_data_call, data_call, data_after, told_by, body_after, rest_of};
 
-use arrayvec::ArrayVec;
 use drive::{Answer, Drive, Event, no_drive};
 use lines::{line_of, written};
+use saying::Text;
 use state::Setup;
 use window::next_frame;
 use wire::{BigEndian, byte_at, part, put_front};
@@ -25,13 +25,13 @@ pub struct Session {
 }
 
 // The bytes of an answer: at most 4,096 of a reply, and four around them.
-pub type Line = ArrayVec<u8, 4100>;
+pub type Line = Text<4100>;
 
 // The byte of which a buffer is full when it is lent.
 const FILL: u8 = 0x5a;
 
 // What a record is answered, and the session after it.
-#[derive(Drop)]
+#[derive(Clone, Copy)]
 pub struct Told {
     pub session: Session,
     pub line: Line,

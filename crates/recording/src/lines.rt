@@ -11,7 +11,7 @@ use wire::BigEndian;
 // The answer's bytes, from what was said and the lent buffer after it.
 pub(crate) fn line_of(said: Result<usize, Refusal>, lent: &[u8]) -> Line
     requires { length lent.now ≤ 4096 }
-    ensures { result.items ≡ answer_of said lent.now }
+    ensures { result ≡ answer_of said lent.now }
 {
     match said {
         Ok(n) => {
@@ -26,7 +26,7 @@ pub(crate) fn line_of(said: Result<usize, Refusal>, lent: &[u8]) -> Line
 #[tactic(auto, unfolding(crate::specs::Answers::answer))]
 pub(crate) fn written(number: u8, reply: &[u8], still: bool) -> Line
     requires { length reply.now ≤ 4096 }
-    ensures { result.items ≡ answer number reply.now still }
+    ensures { result ≡ answer number reply.now still }
 {
     let mut line = Line::new();
     put(&mut line, &head(number, reply.len()));

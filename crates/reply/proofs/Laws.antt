@@ -2,11 +2,12 @@
 use mathlib.Core.Path.{◌≡◌, refl, sym, ap, ◌∙◌}
 use mathlib.Core.Bool.{false}
 use mathlib.Core.List.{List, ◌++◌, append_assoc}
-use Prim.Native.Nat.{ℕ, ◌+◌, ◌-◌, ◌≤◌}
+use Prim.Native.Nat.{ℕ, ◌+◌, ◌-◌, ◌≤◌, min}
 use native.Mathlib.Omega.{arith}
 use lib.ListN.{length, take, drop, length-append, length-replicate}
 use lib.Seq.{drop_at, drop-drop, take-append-add, length-take-le}
 use borrow.Rule.Slice.PartMut.{mid_of, put_mid}
+use Rattle.std.proofs.lemmas.List.{take_min}
 use Rattle.wire.specs.Bytes.{onto, over, Wrote, fill_count, fill_of}
 use Rattle.wire.proofs.Parts.{over_part, onto_after, onto_over}
 use Rattle.frame.specs.declared.Header.{Header}
@@ -16,6 +17,10 @@ use Rattle.state.specs.declared.Own.{Own}
 use Rattle.reply.specs.declared.Reply.{Reply}
 use Rattle.reply.specs.Payload.{payload_of}
 use Rattle.reply.specs.Reply.{head_of, filled, silent, bytes_of}
+
+-- as many elements as there are
+pub take_least : (m : ℕ) (s : List ℕ) → take (min m (length s)) s ≡ take m s
+take_least m s = take_min m s
 
 -- p from a place on, and then q after it, are p ++ q from that place on
 pub over_over : (l p q : List ℕ) (a : ℕ) → a ≤ length l → over (over l a p) (a + length p) q ≡ over l a (p ++ q)

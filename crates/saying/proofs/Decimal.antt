@@ -46,9 +46,9 @@ at_most_20 k n h f =
           absurd (omega arith))
     ]
 
-pub decimal_is : (k n : ℕ) → n < 2 ^ 64 → IsDigitCount 10 1 n k → last_digits 10 k n ≡ decimal n
+pub decimal_is : (k n : ℕ) → k ≤ 20 → IsDigitCount 10 1 n k → last_digits 10 k n ≡ decimal n
 unfolding decimal
-decimal_is k n h f = spelled k 20 n (at_most_20 k n h f) f
+decimal_is k n h f = spelled k 20 n h f
 
 -- what `put_decimal` wrote into twenty bytes, taken out again
 module _ (n : ℕ) {z d : List ℕ} {k : ℕ} (w : Wrote (decimal n) z d k 20) where

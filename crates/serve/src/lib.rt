@@ -25,9 +25,7 @@ use wire::{BigEndian, put_at, put_front};
 
 // The next frame of the exchange of an address and an OX_ID, from a window of the unit's bytes that starts at a block; v is what a call of that address sees.
 // Refused by the first of 9, 7, 10 that fits. A buffer under 2,136 bytes is left alone, and whether the state is well formed is the caller's to tell.
-// Out of line, so that its stack and that of the test of the state are not there at once.
 #[tactic(auto, unfolding(crate::specs::Turn::next_turn, crate::specs::Turn::next_turn_buffer))]
-#[inline(never)]
 pub fn next(v: View, address: u32, ox_id: u16, start: u64, window: &[u8], reply: &mut [u8]) -> Turn
     ensures value { result ≡ next_turn v address ox_id start window.now (length reply.old) }
     ensures reply_after { reply.new ≡ next_turn_buffer v address ox_id start window.now reply.old }

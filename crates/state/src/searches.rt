@@ -64,6 +64,13 @@ pub fn all_closed(t: [Exchange; 8]) -> bool
 pub fn find_exchange(l: Login, ox_id: u16) -> Option<usize>
     ensures { Within (find_exchange l ox_id) 8 result }
 {
+    place_of(&l, ox_id)
+}
+
+// The search itself, of a lent login.
+fn place_of(l: &Login, ox_id: u16) -> Option<usize>
+    ensures { Within (find_exchange l.now ox_id) 8 result }
+{
     l.places.iter().position(|e| has_id(*e, ox_id))
 }
 

@@ -12,20 +12,24 @@
 mod shown;
 
 use recording::{Session, rest_of, start, tell};
-use saying::{End, say_end};
-use shown::{Answered, Head, Hex, Kept, Open, Whole};
+use saying::{End, end_line};
+use shown::{Answered, Head, Hex, Kept, Open, Whole, put};
 use state::{Login, Port, login_at};
 use std::io::{Read, Write};
 use wire::{BigEndian, byte_at, put_front};
 
-// Does what the next record says, and brings the session to after it.
-fn take_next(input: &mut impl Read, output: &mut impl Write, s: &mut Session) -> Result<(), End> {
-    let mut buffer = [0u8; 70000];
-    let r = records::next(input, &mut buffer)?;
-    taken(output, s, r.letter, r.body).map_err(|_| End::Unwritten)
+// Does what the next record says, and brings the session to after it. One buffer takes the body of each record in turn.
+fn take_next(
+    input: &mut impl Read,
+    output: &mut impl Write,
+    s: &mut Session,
+    buffer: &mut [u8],
+) -> Result<(), End> {
+    let r = records::next(input, buffer)?;
+    taken(output, s, r.letter, &mut buffer[..r.len]).map_err(|_| End::Unwritten)
 }
 
-// A name that is not written is told with its line: an output that takes no more does not take that either.
+// Whether the end of its line was written: where the output does not take a part of a line, that part is lost, and the line goes on.
 fn taken(
     output: &mut impl Write,
     s: &mut Session,
@@ -41,8 +45,15 @@ fn taken(
             pass(s, body);
             Ok(())
         }
-        b'l' => writeln!(output, "{}", Kept(named(s, body))),
-        b'e' => writeln!(output, "{}{}", Head(named(s, body)), Whole(named(s, body))),
+        b'l' => {
+            put(output, Kept(named(s, body)));
+            output.write_all(b"\n")
+        }
+        b'e' => {
+            put(output, Head(named(s, body)));
+            put(output, Whole(named(s, body)));
+            output.write_all(b"\n")
+        }
         _ => answer(output, s, letter, body),
     }
 }
@@ -71,9 +82,10 @@ fn answer(
     let from = rest_of(*s, letter, body);
     let t = tell(*s, letter, body);
     *s = t.session;
-    write!(output, "{}", Answered(&t.line))?;
+    put(output, Answered(t.line.as_bytes()));
     if from < body.len() {
-        write!(output, " {}", Hex(&body[from..]))?;
+        put(output, " ");
+        put(output, Hex(&body[from..]));
     }
     table(output, &s.drive.port)
 }
@@ -81,9 +93,11 @@ fn answer(
 // The eight places for logins, and the end of the line.
 fn table(output: &mut impl Write, p: &Port) -> std::io::Result<()> {
     for l in &p.logins {
-        write!(output, " {}{}", Head(*l), Open(*l))?;
+        put(output, " ");
+        put(output, Head(*l));
+        put(output, Open(*l));
     }
-    writeln!(output)
+    output.write_all(b"\n")
 }
 
 // A proved loop has to end and the input need not, so the records are counted up to a number that no run reaches.
@@ -94,9 +108,10 @@ fn main(rt: HostRuntime) {
     let mut errors = rt.stderr();
     let mut s = start();
     s.made = true;
+    let mut buffer = [0u8; 70000];
     for number in 1..=u64::MAX {
-        if let Err(end) = take_next(&mut input, &mut output, &mut s) {
-            let _ = say_end(&mut errors, b"vectors", number, end);
+        if let Err(end) = take_next(&mut input, &mut output, &mut s, &mut buffer) {
+            let _ = errors.write_all(end_line(b"vectors", number, end).as_bytes());
             return;
         }
     }

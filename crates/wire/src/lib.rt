@@ -98,13 +98,15 @@ pub fn name_number(name: [u8; 8]) -> u64
     u64::from_be_bytes(name)
 }
 
-// Copies src over the front of out, as much of it as fits. The one copy.
-#[tactic(auto, using(crate::proofs::Fronts::front_all))]
+// Copies src over the front of out, as much of it as fits. The one copy loop.
+// kept: byte by byte and not by std's copy_from_slice, which becomes a call of memmove, and the C library may need memcpy and memset alone (include/jhartupal.h)
 pub fn put_front(out: &mut [u8], src: &[u8])
     ensures { out.new ≡ onto src.now out.old }
 {
     let n = src.len().min(out.len());
-    out[..n].copy_from_slice(&src[..n]);
+    for i in 0..n {
+        out[i] = src[i];
+    }
 }
 
 // Copies src over out from a place on, as much of it as fits.

@@ -10,7 +10,7 @@ returns c =
     let n = c.args.n in
     let k = c.decimal-k.result in
     let small : k ≤ 20 = at_most_20 k n (search rules) c.decimal-k.ensures.len in
-    let e : last_digits 10 k n ≡ decimal n = decimal_is k n (search rules) c.decimal-k.ensures.len in
+    let e : last_digits 10 k n ≡ decimal n = decimal_is k n small c.decimal-k.ensures.len in
     record {
       long = sym (length_digits k n) ∙ ap length e;
       fits = small;
