@@ -20,14 +20,14 @@ impl<W: Write> fmt::Write for Taking<'_, W> {
     }
 }
 
-// Bytes in hexadecimal.
+// Bytes in hexadecimal, each digit a part of its own.
 #[derive(Clone, Copy)]
 pub(crate) struct Hex<'a>(pub &'a [u8]);
 
 impl fmt::Display for Hex<'_> {
     fn fmt<W: fmt::Write>(&self, f: &mut fmt::Formatter<W>) -> fmt::Result {
         for b in self.0 {
-            write!(f, "{b:02X}")?;
+            write!(f, "{:X}{:X}", b / 16, b % 16)?;
         }
         Ok(())
     }
@@ -58,9 +58,9 @@ impl fmt::Display for Head {
         if is_free(l) {
             return write!(f, ".");
         }
-        write!(f, "{:02X}{}", l.address % 256, standing(l))?;
+        write!(f, "{}{}", Hex(&[(l.address % 256) as u8]), standing(l))?;
         if l.attention != Login::NO_ATTENTION {
-            write!(f, "{:02X}", l.attention)?;
+            write!(f, "{}", Hex(&[l.attention]))?;
         }
         Ok(())
     }
@@ -84,7 +84,7 @@ impl fmt::Display for Open {
     fn fmt<W: fmt::Write>(&self, f: &mut fmt::Formatter<W>) -> fmt::Result {
         for e in &self.0.places {
             if !is_closed(*e) {
-                write!(f, ":{:04X}", e.ox_id)?;
+                write!(f, ":{}", Hex(&e.ox_id.to_be_bytes()))?;
             }
         }
         Ok(())
@@ -99,7 +99,8 @@ impl fmt::Display for Whole {
     fn fmt<W: fmt::Write>(&self, f: &mut fmt::Formatter<W>) -> fmt::Result {
         for e in &self.0.places {
             if is_closed(*e) {
-                write!(f, " .")?;
+                write!(f, " ")?;
+                write!(f, ".")?;
             } else {
                 write!(f, " {}", Opened(*e))?;
             }
@@ -116,7 +117,7 @@ struct Opened(Exchange);
 impl fmt::Display for Opened {
     fn fmt<W: fmt::Write>(&self, f: &mut fmt::Formatter<W>) -> fmt::Result {
         let e = self.0;
-        write!(f, "{:04X}={}", e.ox_id, Kind(e))?;
+        write!(f, "{}={}", Hex(&e.ox_id.to_be_bytes()), Kind(e))?;
         write!(f, ",{},{},{}", e.start, e.blocks, e.wanted)?;
         write!(f, ",{},{},{}", e.expected, e.sent, e.count)?;
         if e.direction != Exchange::TO_HOST {
@@ -142,7 +143,12 @@ impl fmt::Display for Kind {
             (Exchange::INQUIRY, _) => write!(f, "INQUIRY"),
             (Exchange::INQUIRY_OTHER_UNIT, _) => write!(f, "INQUIRY-7F"),
             (Exchange::READ_CAPACITY, _) => write!(f, "CAPACITY"),
-            (kind, _) => write!(f, "SENSE-{:04X}00", sense(kind)),
+            (kind, _) => write!(
+                f,
+                "SENSE-{}{}",
+                Hex(&sense(kind).to_be_bytes()),
+                Hex(&[0x00])
+            ),
         }
     }
 }
@@ -174,7 +180,14 @@ impl fmt::Display for Kept {
             l.concurrent,
             l.sequences,
         ];
-        write!(f, "{}{:04X}{:08X}", Hex(&flags), l.size, l.address)?;
+        let size = l.size.to_be_bytes();
+        write!(
+            f,
+            "{}{}{}",
+            Hex(&flags),
+            Hex(&size),
+            Hex(&l.address.to_be_bytes())
+        )?;
         write!(f, " {} {}", Hex(&l.port_name), Hex(&l.node_name))
     }
 }
