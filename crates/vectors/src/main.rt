@@ -13,7 +13,7 @@ mod shown;
 
 use recording::{Session, rest_of, start, tell};
 use saying::{End, end_line};
-use shown::{Answered, Head, Hex, Kept, Open, Whole, put};
+use shown::{Answered, Head, Hex, Kept, Open, Whole, show};
 use state::{Login, Port, login_at};
 use std::io::{Read, Write};
 use wire::{BigEndian, byte_at, put_front};
@@ -46,12 +46,12 @@ fn taken(
             Ok(())
         }
         b'l' => {
-            put(output, Kept(named(s, body)));
+            show(output, Kept(named(s, body)));
             output.write_all(b"\n")
         }
         b'e' => {
-            put(output, Head(named(s, body)));
-            put(output, Whole(named(s, body)));
+            show(output, Head(named(s, body)));
+            show(output, Whole(named(s, body)));
             output.write_all(b"\n")
         }
         _ => answer(output, s, letter, body),
@@ -82,10 +82,10 @@ fn answer(
     let from = rest_of(*s, letter, body);
     let t = tell(*s, letter, body);
     *s = t.session;
-    put(output, Answered(t.line.as_bytes()));
+    show(output, Answered(t.line.as_bytes()));
     if from < body.len() {
-        put(output, " ");
-        put(output, Hex(&body[from..]));
+        show(output, " ");
+        show(output, Hex(&body[from..]));
     }
     table(output, &s.drive.port)
 }
@@ -93,9 +93,9 @@ fn answer(
 // The eight places for logins, and the end of the line.
 fn table(output: &mut impl Write, p: &Port) -> std::io::Result<()> {
     for l in &p.logins {
-        put(output, " ");
-        put(output, Head(*l));
-        put(output, Open(*l));
+        show(output, " ");
+        show(output, Head(*l));
+        show(output, Open(*l));
     }
     output.write_all(b"\n")
 }

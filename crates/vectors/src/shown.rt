@@ -5,15 +5,15 @@ use std::fmt::Write as _;
 use std::io::Write;
 
 // Writes what is shown, as much of it as the output takes.
-pub(crate) fn put<W: Write, T: fmt::Display + Copy>(output: &mut W, shown: T) {
-    let _ = write!(Taking(output), "{shown}");
+pub(crate) fn show<W: Write, T: fmt::Display + Copy>(output: &mut W, shown: T) {
+    let _ = write!(Parts(output), "{shown}");
 }
 
 // An output as text that takes each part by itself: one that it does not take is lost, and the next is tried.
 #[derive(Drop)]
-struct Taking<'a, W>(&'a mut W);
+struct Parts<'a, W>(&'a mut W);
 
-impl<W: Write> fmt::Write for Taking<'_, W> {
+impl<W: Write> fmt::Write for Parts<'_, W> {
     fn write_str(&mut self, s: &str) -> fmt::Result {
         let _ = self.0.write_all(s.as_bytes());
         Ok(())
