@@ -9,6 +9,9 @@ ghost use Rattle.saying.specs.Ends.{name_text, why_text, end_text};
 use std::marker::Model;
 use wire::{put_at, put_front};
 
+#[cfg(test)]
+mod tests;
+
 // A text of at most N bytes: they stand at the front, zeros after them. A contract sees them, as a list.
 // kept: no ArrayVec of the library arrayvec, which is not Copy
 #[derive(Clone, Copy)]
@@ -45,15 +48,18 @@ impl<const N: usize> Text<N> {
         }
     }
 
-    pub fn len(&self) -> usize
-        ensures { result ≡ length self.now }
+    // How many bytes it has, at most as many as it has room for.
+    pub const fn len(&self) -> usize
+        ensures value { result ≡ length self.now }
+        ensures fits { result ≤ N }
     {
         self.len
     }
 
     // Its bytes, without the zeros after them.
     pub fn as_bytes(&self) -> &[u8]
-        ensures { result.now ≡ self.now }
+        ensures value { result.now ≡ self.now }
+        ensures fits { length result.now ≤ N }
     {
         &self.bytes[..self.len]
     }
